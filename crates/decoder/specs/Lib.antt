@@ -1,0 +1,7 @@
+pub mod Limits
+pub mod Opening
+pub mod Sound
+pub mod Run
+pub mod Turn
+pub mod Take
+pub mod Calls

@@ -1,0 +1,22 @@
+-- The limits that "belong to the decoder itself" (document 01, "One cycle, one bit" and "A taking call").
+-- Assumes nothing.
+use Prim.Native.Nat.{ℕ, _^_}
+
+-- "Cycles are numbered below 2^48."
+abbrev pub clockLimit : ℕ
+clockLimit = 2 ^ 48
+
+-- The store, document 01's term for the FIFO words, and the tray.
+abbrev pub storeLength : ℕ
+storeLength = 2048
+
+abbrev pub trayLength : ℕ
+trayLength = 8192
+
+-- The list unit: a record is two words.
+abbrev pub listUnit : ℕ
+listUnit = 2
+
+-- The longest input of a call, in bytes.
+abbrev pub inputLimit : ℕ
+inputLimit = 65536

@@ -1,0 +1,74 @@
+-- The tray keeps its length; a stored frame bit is read at its place, and no earlier bit and no bit of another byte changes.
+-- Assumes nothing.
+use mathlib.Core.Bool.{Bool, true, false, cond}
+use mathlib.Core.List.{List}
+use mathlib.Core.Logic.{⊎-elim}
+use mathlib.Core.Path.{_≡_, refl, sym, ap, _∙_}
+use Prim.Native.Nat.{ℕ, zero, suc, _+_, _*_, _-_, _/_, _%_, _^_, _<_}
+use native.Mathlib.Nat.{eq-or-lt-of-le, pow-suc, mod-lt}
+use native.Mathlib.Omega.{arith}
+use lib.Dec.{eqb, lit<}
+use lib.ListN.{length, getD, length-set}
+use lib.Pow.{shr-shr}
+use lib.Seq.{getD-set-same, getD-set-other}
+use borrow.Author.Tests.{ne-eqb}
+use Rattle.recogniser.specs.declared.Event.{Event}
+use Rattle.recogniser.specs.declared.Event.the-variants.{Nothing, Lv1, Fast, BadFast, SlowBegins, Slow, BadSlow, FrameBit, FrameEnd, FrameEndBit}
+use Rattle.frames.specs.Tray.{withBit, storedOf, trayOf}
+use Rattle.frames.proofs.Weights.{put}
+
+pub tray-length : (tray : List ℕ) (e : Event) → length (trayOf tray e) ≡ length tray
+unfolding trayOf
+tray-length tray Nothing = refl
+tray-length tray (Lv1 flip) = refl
+tray-length tray (Fast body) = refl
+tray-length tray (BadFast body) = refl
+tray-length tray SlowBegins = refl
+tray-length tray (Slow command address value) = refl
+tray-length tray (BadSlow command) = refl
+tray-length tray (FrameBit place bit) = simp length-set
+tray-length tray (FrameEnd command unsteady) = refl
+tray-length tray (FrameEndBit command unsteady place bit) = simp length-set
+
+-- The bit at a place of the tray, counted from the highest bit of byte 0.
+abbrev pub bitIn : List ℕ → ℕ → ℕ
+bitIn tray place = getD tray (place / 8) 0 / 2 ^ (7 - place % 8) % 2
+
+-- what the frame's bit adds to a byte
+scaled : (one : Bool) (weight : ℕ) → cond one weight 0 ≡ cond one 1 0 * weight
+scaled true weight = omega arith
+scaled false weight = omega arith
+
+small : (one : Bool) → cond one 1 0 < 2
+small true = lit< tt
+small false = lit< tt
+
+itself : (bit : ℕ) → bit < 2 → cond (eqb bit 1) 1 0 ≡ bit
+itself zero h = refl
+itself (suc zero) h = refl
+itself (suc (suc n)) h = absurd (omega arith)
+
+module _ (byte place bit : ℕ) (h : place < 8) where
+  read-with : withBit byte place bit / 2 ^ (7 - place) % 2 ≡ cond (eqb bit 1) 1 0
+  read-with = rw (scaled (eqb bit 1) (2 ^ (7 - place))) (put byte _ (small (eqb bit 1)) place h .read)
+
+  read-above : (q : ℕ) → q < place → withBit byte place bit / 2 ^ (7 - q) ≡ byte / 2 ^ (7 - q)
+  read-above q l =
+      let e : 7 - q ≡ suc (7 - place) + (place - suc q) = omega arith in
+      rw (e, ← shr-shr, ← shr-shr, pow-suc, scaled (eqb bit 1) (2 ^ (7 - place)), put byte _ (small (eqb bit 1)) place h .above)
+
+module _ (tray : List ℕ) (place bit : ℕ) where
+  pub stored-bit : place < 8 * length tray → bit < 2 → bitIn (storedOf tray place bit) place ≡ bit
+  stored-bit inside h =
+      rw (getD-set-same tray (place / 8) _ 0 (omega arith)) (read-with _ (place % 8) bit (omega arith) ∙ itself bit h)
+
+  pub stored-elsewhere : (q : ℕ) → (q / 8 ≡ place / 8 → ⊥) → bitIn (storedOf tray place bit) q ≡ bitIn tray q
+  stored-elsewhere q other = rw (getD-set-other tray (place / 8) (q / 8) _ 0 other)
+
+  pub stored-before : place < 8 * length tray → (q : ℕ) → q < place → bitIn (storedOf tray place bit) q ≡ bitIn tray q
+  stored-before inside q l =
+      ⊎-elim
+      (λ e. rw (e, ne-eqb (place % 8) 0 (λ z. omega arith), getD-set-same tray (place / 8) _ 0 (omega arith))
+          (rw (read-above _ (place % 8) bit (omega arith) (q % 8) (omega arith))))
+      (λ b. stored-elsewhere q (λ e. omega arith))
+      (eq-or-lt-of-le {n = q / 8} {m = place / 8} (omega arith))

@@ -1,0 +1,38 @@
+-- The tray, document 01's term for the buffer of frame bits ("What commands do").
+-- Assumes nothing.
+use mathlib.Core.Bool.{cond}
+use mathlib.Core.List.{List, []}
+use Prim.Native.Nat.{ℕ, _+_, _*_, _-_, _/_, _%_, _^_}
+use lib.Dec.{leb, eqb}
+use lib.ListN.{length, getD, set, take}
+use Rattle.recogniser.specs.declared.Event.{Event}
+use Rattle.recogniser.specs.declared.Event.the-variants.{Nothing, Lv1, Fast, BadFast, SlowBegins, Slow, BadSlow, FrameBit, FrameEnd, FrameEndBit}
+
+-- A byte in which the bit at a place, counted from the highest, is the frame's bit.
+abbrev pub withBit : ℕ → ℕ → ℕ → ℕ
+withBit byte place bit =
+    let weight = 2 ^ (7 - place) in
+    byte - byte / weight % 2 * weight + cond (eqb bit 1) weight 0
+
+-- "Frame bits fill the tray from byte 0, highest bit first; a byte is zeroed as its first bit arrives."
+abbrev pub storedOf : List ℕ → ℕ → ℕ → List ℕ
+storedOf tray place bit =
+    let byte = cond (eqb (place % 8) 0) 0 (getD tray (place / 8) 0) in
+    set tray (place / 8) (withBit byte (place % 8) bit)
+
+-- What an event does to the tray.
+unfoldable pub trayOf : List ℕ → Event → List ℕ
+trayOf tray Nothing = tray
+trayOf tray (Lv1 flip) = tray
+trayOf tray (Fast body) = tray
+trayOf tray (BadFast body) = tray
+trayOf tray SlowBegins = tray
+trayOf tray (Slow command address value) = tray
+trayOf tray (BadSlow command) = tray
+trayOf tray (FrameBit place bit) = storedOf tray place bit
+trayOf tray (FrameEnd command unsteady) = tray
+trayOf tray (FrameEndBit command unsteady place bit) = storedOf tray place bit
+
+-- "The frame is handed back as the part of the tray that it fills"; "a count beyond the tray's bits gives the empty part".
+abbrev pub partOf : List ℕ → ℕ → List ℕ
+partOf tray bits = cond (leb bits (8 * length tray)) (take ((bits + 7) / 8) tray) []

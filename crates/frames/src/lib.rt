@@ -1,0 +1,64 @@
+// Frame bits in the tray, and the part of the tray that a frame fills.
+ghost use mathlib.Core.Path.{_≡_};
+ghost use Prim.Native.Nat.{_<_};
+ghost use Rattle.frames.specs.Tray.{withBit, storedOf, trayOf, partOf};
+use recogniser::Event;
+
+// A byte with one bit of it set to the frame's bit; places count from the highest.
+fn with_bit(byte: u8, place: u32, bit: u8) -> u8
+    requires { ⌜ place < 8 ⌝ }
+    ensures { λ r. ⌜ r ≡ withBit byte place bit ⌝ }
+{
+    let weight = 1u8 << (7 - place);
+    let rest = byte - byte / weight % 2 * weight;
+    if bit == 1 {
+        return rest + weight;
+    }
+    rest
+}
+
+// The tray with the frame's bit at a place; a place past its end changes nothing.
+pub fn store_bit(tray: &mut [u8], place: u32, bit: u8)
+    ensures { λ _. ⌜ now (tray .exit) ≡ storedOf (now (tray .entry)) place bit ⌝ }
+{
+    let at = (place / 8) as usize;
+    if tray.len() <= at {
+        return;
+    }
+    let k = place % 8;
+    if k == 0 {
+        tray[at] = with_bit(0, k, bit);
+        return;
+    }
+    let byte = tray[at];
+    tray[at] = with_bit(byte, k, bit);
+}
+
+// What an event does to the tray.
+pub fn keep(tray: &mut [u8], event: Event)
+    ensures { λ _. ⌜ now (tray .exit) ≡ trayOf (now (tray .entry)) event ⌝ }
+{
+    match event {
+        Event::FrameBit { place, bit } => store_bit(tray, place, bit),
+        Event::FrameEndBit { command: _, unsteady: _, place, bit } => store_bit(tray, place, bit),
+        Event::Nothing => {}
+        Event::Lv1 { flip: _ } => {}
+        Event::Fast { body: _ } => {}
+        Event::BadFast { body: _ } => {}
+        Event::SlowBegins => {}
+        Event::Slow { command: _, address: _, value: _ } => {}
+        Event::BadSlow { command: _ } => {}
+        Event::FrameEnd { command: _, unsteady: _ } => {}
+    }
+}
+
+// The part of the tray that a frame of so many bits fills; empty where the tray has fewer.
+pub fn frame_part(tray: &[u8], bits: usize) -> &[u8]
+    ensures { λ r. ⌜ now r ≡ partOf (now (tray .entry)) bits ⌝ }
+{
+    let n = bits / 8 + (bits % 8 + 7) / 8;
+    if tray.len() < n {
+        return &tray[..0];
+    }
+    &tray[..n]
+}

@@ -1,0 +1,56 @@
+use borrow.Author.Needs.{needs}
+use Rattle.model.proofs.Model.fast.Statement.{statement}
+use Rattle.model.proofs.Model.fast.Tie as tie
+use Rattle.model.proofs.Model.fast.Reads as reads
+use Rattle.model.proofs.Model.fast.Lts as lts
+use Rattle.model.proofs.answer.Reads as answer-reads
+
+-- src/lib.rt:321:20
+add-kind : tie.Need-add-kind
+add-kind c = search needs
+
+-- src/lib.rt:323:13
+answer-requires : tie.Need-answer-requires
+answer-requires c κs = search needs
+
+-- src/lib.rt:323:13
+returns : tie.Need-returns
+returns c = ?
+
+-- src/lib.rt:328:13
+answer-requires-2 : tie.Need-answer-requires-2
+answer-requires-2 c κs = search needs
+
+-- src/lib.rt:328:13
+returns-2 : tie.Need-returns-2
+returns-2 c = ?
+
+-- src/lib.rt:335:13
+answer-requires-3 : tie.Need-answer-requires-3
+answer-requires-3 c κs = search needs
+
+-- src/lib.rt:335:13
+returns-3 : tie.Need-returns-3
+returns-3 c = ?
+
+-- src/lib.rt:337:9
+answer-requires-4 : tie.Need-answer-requires-4
+answer-requires-4 c κs = search needs
+
+-- src/lib.rt:317:5
+returns-4 : tie.Need-returns-4
+returns-4 c = ?
+
+pub fast-spec : {M : Type 1} → statement M
+fast-spec =
+    tie.close
+    (tie.spec
+    add-kind
+    answer-requires
+    returns
+    answer-requires-2
+    returns-2
+    answer-requires-3
+    returns-3
+    answer-requires-4
+    returns-4)

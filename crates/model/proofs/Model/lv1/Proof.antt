@@ -1,0 +1,94 @@
+use borrow.Author.Needs.{needs}
+use Rattle.model.proofs.Model.lv1.Statement.{statement}
+use Rattle.model.proofs.Model.lv1.Tie as tie
+use Rattle.model.proofs.Model.lv1.Reads as reads
+use Rattle.model.proofs.Model.lv1.Lts as lts
+use Rattle.model.proofs.Model.bunch.Reads as bunch-reads
+use Rattle.model.proofs.Model.register.Reads as register-reads
+use Rattle.model.proofs.answer.Reads as answer-reads
+use Rattle.model.proofs.flag.Reads as flag-reads
+
+-- src/lib.rt:306:13
+flag-requires : tie.Need-flag-requires
+flag-requires c κs = search needs
+
+-- src/lib.rt:308:13
+answer-requires : tie.Need-answer-requires
+answer-requires c κs = search needs
+
+-- src/lib.rt:308:13
+returns : tie.Need-returns
+returns c = ?
+
+-- src/lib.rt:310:13
+register-requires : tie.Need-register-requires
+register-requires c κs = search needs
+
+-- src/lib.rt:311:13
+flag-requires-2 : tie.Need-flag-requires-2
+flag-requires-2 c κs = search needs
+
+-- src/lib.rt:312:21
+cast-value : tie.Need-cast-value
+cast-value c = search needs
+
+-- src/lib.rt:312:21
+mul-value : tie.Need-mul-value
+mul-value c = search needs
+
+-- src/lib.rt:312:46
+bunch-requires : tie.Need-bunch-requires
+bunch-requires c κs = search needs
+
+-- src/lib.rt:312:21
+add-value : tie.Need-add-value
+add-value c = search needs
+
+-- src/lib.rt:313:20
+cast-m : tie.Need-cast-m
+cast-m c = search needs
+
+-- src/lib.rt:313:20
+add-m : tie.Need-add-m
+add-m c = search needs
+
+-- src/lib.rt:313:18
+cast-m-2 : tie.Need-cast-m-2
+cast-m-2 c = search needs
+
+-- src/lib.rt:314:35
+add-answer : tie.Need-add-answer
+add-answer c = ?
+
+-- src/lib.rt:314:35
+add-answer-2 : tie.Need-add-answer-2
+add-answer-2 c = ?
+
+-- src/lib.rt:314:9
+answer-requires-2 : tie.Need-answer-requires-2
+answer-requires-2 c κs = search needs
+
+-- src/lib.rt:300:5
+returns-2 : tie.Need-returns-2
+returns-2 c = ?
+
+pub lv1-spec : {M : Type 1} → statement M
+lv1-spec =
+    tie.close
+    (tie.spec
+    flag-requires
+    answer-requires
+    returns
+    register-requires
+    flag-requires-2
+    cast-value
+    mul-value
+    bunch-requires
+    add-value
+    cast-m
+    add-m
+    cast-m-2
+    add-answer
+    add-answer-2
+    answer-requires-2
+    returns-2)

@@ -1,0 +1,24 @@
+use borrow.Author.Needs.{needs}
+use Rattle.model.proofs.Model.register.Statement.{statement}
+use Rattle.model.proofs.Model.register.Tie as tie
+use Rattle.model.proofs.Model.register.Reads as reads
+use Rattle.model.proofs.Model.register.Lts as lts
+
+-- src/lib.rt:234:13
+returns : tie.Need-returns
+returns c = ?
+
+-- src/lib.rt:237:9
+mul-result : tie.Need-mul-result
+mul-result c = search needs
+
+-- src/lib.rt:237:9
+array-read-result : tie.Need-array-read-result
+array-read-result c = search needs
+
+-- src/lib.rt:230:5
+returns-2 : tie.Need-returns-2
+returns-2 c = search needs
+
+pub register-spec : {M : Type 1} → statement M
+register-spec = tie.close (tie.spec returns mul-result array-read-result returns-2)

@@ -1,0 +1,20 @@
+use borrow.Author.Needs.{needs}
+use Rattle.model.proofs.Plan.exists_at.Statement.{statement}
+use Rattle.model.proofs.Plan.exists_at.Tie as tie
+use Rattle.model.proofs.Plan.exists_at.Reads as reads
+use Rattle.model.proofs.Plan.exists_at.Lts as lts
+
+-- src/lib.rt:190:13
+returns : tie.Need-returns
+returns c = ?
+
+-- src/lib.rt:192:9
+shr-result : tie.Need-shr-result
+shr-result c = search needs
+
+-- src/lib.rt:186:5
+returns-2 : tie.Need-returns-2
+returns-2 c = ?
+
+pub exists-at-spec : {M : Type 1} → statement M
+exists-at-spec = tie.close (tie.spec returns shr-result returns-2)

@@ -1,0 +1,21 @@
+use borrow.Author.Needs.{needs}
+use Rattle.model.proofs.Plan.stored.Statement.{statement}
+use Rattle.model.proofs.Plan.stored.Tie as tie
+use Rattle.model.proofs.Plan.stored.Reads as reads
+use Rattle.model.proofs.Plan.stored.Lts as lts
+use Rattle.model.proofs.with_warnings.Reads as with-warnings-reads
+
+-- src/lib.rt:222:13
+with-warnings-requires : tie.Need-with-warnings-requires
+with-warnings-requires c κs = search needs
+
+-- src/lib.rt:222:13
+returns : tie.Need-returns
+returns c = ?
+
+-- src/lib.rt:218:5
+returns-2 : tie.Need-returns-2
+returns-2 c = ?
+
+pub stored-spec : {M : Type 1} → statement M
+stored-spec = tie.close (tie.spec with-warnings-requires returns returns-2)

@@ -1,0 +1,33 @@
+use borrow.Author.Needs.{needs}
+use Rattle.model.proofs.frame_value.Statement.{statement}
+use Rattle.model.proofs.frame_value.Tie as tie
+use Rattle.model.proofs.frame_value.Reads as reads
+use Rattle.model.proofs.frame_value.Lts as lts
+
+-- src/lib.rt:123:16
+mul-result : tie.Need-mul-result
+mul-result c = search needs
+
+-- src/lib.rt:123:9
+returns : tie.Need-returns
+returns c = ?
+
+-- src/lib.rt:125:5
+mul-result-2 : tie.Need-mul-result-2
+mul-result-2 c = search needs
+
+-- src/lib.rt:125:5
+mul-result-3 : tie.Need-mul-result-3
+mul-result-3 c = search needs
+
+-- src/lib.rt:125:5
+add-result : tie.Need-add-result
+add-result c = search needs
+
+-- src/lib.rt:118:1
+returns-2 : tie.Need-returns-2
+returns-2 c = ?
+
+pub frame-value-spec : {M : Type 1} → statement M
+frame-value-spec =
+    tie.close (tie.spec mul-result returns mul-result-2 mul-result-3 add-result returns-2)

@@ -1,0 +1,98 @@
+use Rattle.model.proofs.write_all.Statement.{statement}
+use Rattle.model.proofs.write_all.Tie as tie
+use Rattle.model.proofs.write_all.Reads as reads
+use Rattle.model.proofs.write_all.Lts as lts
+use Rattle.model.proofs.moved_on.Reads as moved-on-reads
+
+abbrev Inv-loop : tie.InvT-loop
+Inv-loop feen word store₀ p₀ n₀ store p n = ?
+
+abbrev μ-loop : tie.MeasureT-loop
+μ-loop feen word store₀ p₀ n₀ store p n = ?
+
+-- src/lib.rt:141:5
+loop-holds : tie.Need-loop-holds Inv-loop μ-loop
+loop-holds c = ?
+
+-- src/lib.rt:142:20
+cast-if1 : tie.Need-cast-if1 Inv-loop μ-loop
+cast-if1 c = ?
+
+-- src/lib.rt:142:12
+shr-if1 : tie.Need-shr-if1 Inv-loop μ-loop
+shr-if1 c = ?
+
+-- src/lib.rt:143:27
+array-read-pointer : tie.Need-array-read-pointer Inv-loop μ-loop
+array-read-pointer c = ?
+
+-- src/lib.rt:144:19
+mul-store : tie.Need-mul-store Inv-loop μ-loop
+mul-store c = ?
+
+-- src/lib.rt:144:29
+cast-store : tie.Need-cast-store Inv-loop μ-loop
+cast-store c = ?
+
+-- src/lib.rt:144:19
+add-store : tie.Need-add-store Inv-loop μ-loop
+add-store c = ?
+
+-- src/lib.rt:144:13
+mul-store-2 : tie.Need-mul-store-2 Inv-loop μ-loop
+mul-store-2 c = ?
+
+-- src/lib.rt:144:13
+slice-write-store : tie.Need-slice-write-store Inv-loop μ-loop
+slice-write-store c = ?
+
+-- src/lib.rt:145:20
+moved-on-requires : tie.Need-moved-on-requires Inv-loop μ-loop
+moved-on-requires c κs = ?
+
+-- src/lib.rt:145:13
+array-write-p : tie.Need-array-write-p Inv-loop μ-loop
+array-write-p c = ?
+
+-- src/lib.rt:147:13
+add-n : tie.Need-add-n Inv-loop μ-loop
+add-n c = ?
+
+-- src/lib.rt:141:5
+loop-less : tie.Need-loop-less Inv-loop μ-loop
+loop-less c = ?
+
+-- src/lib.rt:141:5
+loop-again : tie.Need-loop-again Inv-loop μ-loop
+loop-again c = ?
+
+-- src/lib.rt:135:1
+same-length : tie.Need-same-length Inv-loop μ-loop
+same-length c = ?
+
+-- src/lib.rt:135:1
+returns : tie.Need-returns Inv-loop μ-loop
+returns c = ?
+
+pub write-all-spec : {M : Type 1} → statement M
+write-all-spec =
+    tie.close
+    (tie.spec
+    Inv-loop
+    μ-loop
+    loop-holds
+    cast-if1
+    shr-if1
+    array-read-pointer
+    mul-store
+    cast-store
+    add-store
+    mul-store-2
+    slice-write-store
+    moved-on-requires
+    array-write-p
+    add-n
+    loop-less
+    loop-again
+    same-length
+    returns)

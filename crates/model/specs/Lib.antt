@@ -1,0 +1,6 @@
+pub mod Plan
+pub mod Registers
+pub mod Fifos
+pub mod Records
+pub mod Commands
+pub mod Sound

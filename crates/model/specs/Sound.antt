@@ -1,0 +1,39 @@
+-- What a sound state has of the model (document 01, "A taking call"), and what an event has whose record fits.
+-- Assumes nothing.
+use mathlib.Core.Bool.{Bool, true, _&&_, _||_}
+use mathlib.Core.List.{List}
+use Prim.Native.Nat.{ℕ, zero, suc, _+_}
+use lib.Dec.{ltb, eqb}
+use lib.ListN.{getD}
+use Rattle.recogniser.specs.declared.Event.{Event}
+use Rattle.recogniser.specs.declared.Event.the-variants as event
+use Rattle.model.specs.declared.Plan.{Plan}
+use Rattle.model.specs.declared.Model.{Model}
+use Rattle.model.specs.Plan.{existsAt}
+use Rattle.model.specs.Registers.{registerOf}
+
+-- A test of so many numbers from i on.
+unfoldable pub everyFrom : ℕ → ℕ → (ℕ → Bool) → Bool
+everyFrom zero i f = true
+everyFrom (suc n) i f = f i && everyFrom n (i + 1) f
+
+-- "pointers are below 128"
+unfoldable pub pointersFit : List ℕ → Bool
+pointersFit pointers = everyFrom 16 0 (λ i. ltb (getD pointers i 0) 128)
+
+-- "missing registers hold 0"
+unfoldable pub missingZero : Plan → Model → Bool
+missingZero plan m = everyFrom 16 0 (λ i. existsAt plan i || eqb (registerOf m i) 0)
+
+-- A body and Field 3 have four bits ("Hunting", "Slow commands"), so that a kind made of one stays below 256.
+abbrev pub eventFits : Event → Bool
+eventFits event.Nothing = true
+eventFits (event.Lv1 flip) = true
+eventFits (event.Fast body) = ltb body 16
+eventFits (event.BadFast body) = true
+eventFits event.SlowBegins = true
+eventFits (event.Slow command address value) = true
+eventFits (event.BadSlow command) = true
+eventFits (event.FrameBit place bit) = true
+eventFits (event.FrameEnd command unsteady) = ltb command 16
+eventFits (event.FrameEndBit command unsteady place bit) = ltb command 16

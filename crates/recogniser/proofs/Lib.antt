@@ -1,0 +1,4 @@
+pub mod Truth
+pub mod Shift
+pub mod Lengths
+pub mod Laws

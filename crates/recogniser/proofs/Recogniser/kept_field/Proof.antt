@@ -1,0 +1,35 @@
+-- `kept_field` is one cycle of the Field 5 of a command that carries no frame.
+-- Assumes nothing.
+use mathlib.Core.Path.{sym, _∙_}
+use Rattle.recogniser.proofs.Lengths.{count-fits}
+use borrow.Author.Needs.{needs}
+use Rattle.recogniser.proofs.Recogniser.kept_field.Statement.{statement}
+use Rattle.recogniser.proofs.Recogniser.kept_field.Tie as tie
+
+kept-requires : tie.Need-kept-requires
+kept-requires c κs = search needs
+
+ends-requires : tie.Need-ends-requires
+ends-requires c κs = search needs
+
+start-requires : tie.Need-start-requires
+start-requires c κs = search needs
+
+slow-requires : tie.Need-slow-requires
+slow-requires c κs = search needs
+
+returns : tie.Need-returns
+returns c = simp (← c .before .before .before .ends .ensures, c .before .before .if1 .taken, ← c .before .before .before .before .kept .ensures, c .before .start .ensures, c .slow .ensures)
+
+add-next : tie.Need-add-next
+add-next c = 
+    let s = c .before .before .before .before in
+    count-fits (s .args .self) (s .args .cnt) (s .fits .cnt .fits) (sym (c .before .before .ends .ensures) ∙ c .before .if1 .left)
+
+returns-2 : tie.Need-returns-2
+returns-2 c = simp (← c .before .before .ends .ensures, c .before .if1 .left, ← c .before .before .before .kept .ensures)
+
+pub kept-field-spec : {M : Type 1} → statement M
+kept-field-spec =
+    tie.close
+    (tie.spec kept-requires ends-requires start-requires slow-requires returns add-next returns-2)

@@ -1,0 +1,58 @@
+-- Frame bits and groups of eight cycles (document 01, "What commands do").
+-- Assumes nothing.
+use mathlib.Core.Bool.{Bool, true, false, cond, not, _||_}
+use Prim.Native.Nat.{ℕ, _+_, _/_, _%_}
+use lib.Dec.{eqb}
+use Rattle.recogniser.specs.declared.Event.{Event}
+use Rattle.recogniser.specs.declared.Event.the-variants.{Nothing, FrameBit, FrameEnd, FrameEndBit}
+use Rattle.recogniser.specs.declared.Group.{Group}
+use Rattle.recogniser.specs.declared.Recogniser.{Recogniser}
+use Rattle.recogniser.specs.declared.Heard.{Heard}
+use Rattle.recogniser.specs.Parts.{idle, heard}
+use Rattle.recogniser.specs.Fields.{endsOf}
+
+-- "WrFrontEnd and RdFrontEnd carry each bit for eight cycles." What is held of a group once a cycle's bit has arrived: its first bit.
+abbrev pub groupOf : Group → ℕ → ℕ → Group
+groupOf g count bit = cond (eqb (count % 8) 0) (record { first = eqb bit 1 }) g
+
+-- "The bit taken is the first of its eight, stored in that cycle." "WrReceiver carries one bit a cycle."
+abbrev pub storesOf : ℕ → ℕ → Bool
+storesOf command count = cond (eqb command 6) true (eqb (count % 8) 0)
+
+-- The place in its frame of the bit that a cycle belongs to.
+abbrev pub placeOf : ℕ → ℕ → ℕ
+placeOf command count = cond (eqb command 6) count (count / 8)
+
+abbrev pub differ : Bool → Bool → Bool
+differ true b = not b
+differ false b = b
+
+-- "A group whose eight differ is unsteady": a group so far was, or the present bit differs from its group's first.
+abbrev pub unsteadyOf : Recogniser → ℕ → Bool
+unsteadyOf r bit =
+    cond (eqb (r .command) 6) false
+    (cond (r .unsteady) true
+    (differ (eqb bit 1) (groupOf (r .group) (r .count) bit .first)))
+
+-- What a cycle of a frame asks for: its bit, its record, both or nothing.
+abbrev pub frameEventOf : Recogniser → ℕ → Bool → Event
+frameEventOf r bit ends =
+    cond (storesOf (r .command) (r .count))
+    (cond ends (FrameEndBit (r .command) (unsteadyOf r bit) (placeOf (r .command) (r .count)) bit)
+    (FrameBit (placeOf (r .command) (r .count)) bit))
+    (cond ends (FrameEnd (r .command) (unsteadyOf r bit)) Nothing)
+
+-- Field 5 of a frame.
+abbrev pub frameFieldOf : Recogniser → ℕ → ℕ → Heard
+frameFieldOf r bit cnt =
+    cond (endsOf r cnt) (heard idle (frameEventOf r bit true))
+    (heard (record {
+      phase = r .phase;
+      shift = r .shift;
+      count = r .count + 1;
+      command = r .command;
+      address = r .address;
+      held = r .held;
+      group = groupOf (r .group) (r .count) bit;
+      unsteady = unsteadyOf r bit;
+    }) (frameEventOf r bit false))

@@ -1,0 +1,6 @@
+pub mod Parts
+pub mod Hunting
+pub mod Fields
+pub mod Groups
+pub mod Step
+pub mod Fit

@@ -1,0 +1,47 @@
+-- What the phases share: shifting a bit in, starting a phase, one bit more of four.
+-- Assumes nothing.
+use mathlib.Core.Bool.{false}
+use Prim.Native.Nat.{ℕ, _+_, _*_, _%_, _^_}
+use Rattle.recogniser.specs.declared.Phase.{Phase}
+use Rattle.recogniser.specs.declared.Phase.the-variants.{Hunt}
+use Rattle.recogniser.specs.declared.Event.{Event}
+use Rattle.recogniser.specs.declared.Event.the-variants.{Nothing}
+use Rattle.recogniser.specs.declared.Recogniser.{Recogniser}
+use Rattle.recogniser.specs.declared.Heard.{Heard}
+
+-- "Hunting": a register of so many bits "takes each new bit at its low end and drops its oldest bit".
+abbrev pub shifted : ℕ → ℕ → ℕ → ℕ
+shifted width value bit = (value * 2 + bit) % 2 ^ width
+
+-- At the start of a phase, with what stands in the shift register, Field 3 and Field 4.
+abbrev pub startOf : Phase → ℕ → ℕ → ℕ → Recogniser
+startOf phase shift command address = record {
+  phase = phase;
+  shift = shift;
+  count = 0;
+  command = command;
+  address = address;
+  held = 0;
+  group = record { first = false };
+  unsteady = false;
+}
+
+-- "The window returns to 00000 after an LV1, a Fast, a bad Fast, and the end of a Slow or bad Slow command."
+abbrev pub idle : Recogniser
+idle = startOf Hunt 0 0 0
+
+abbrev pub heard : Recogniser → Event → Heard
+heard next event = record { next = next; event = event }
+
+-- One bit more of a body, Field 3 or Field 4 that is not whole yet.
+abbrev pub gatheredOf : Recogniser → ℕ → Heard
+gatheredOf r nibble = heard (record {
+  phase = r .phase;
+  shift = nibble;
+  count = r .count + 1;
+  command = r .command;
+  address = r .address;
+  held = r .held;
+  group = r .group;
+  unsteady = r .unsteady;
+}) Nothing

@@ -1,0 +1,474 @@
+// One clock cycle of the command line: what the bit completes, and where the recogniser stands after it.
+// It owns only what the chip triplicates; registers, counters and RunMode belong to the model.
+ghost use mathlib.Core.Path.{_≡_};
+ghost use Prim.Native.Nat.{_<_};
+ghost use Rattle.recogniser.specs.Parts.{shifted, startOf, gatheredOf};
+ghost use Rattle.recogniser.specs.Hunting.{meaningOf, isFast, huntOf, bodyOf};
+ghost use Rattle.recogniser.specs.Fields.{lengthOf, isSlow, isFrame, keptOf, endsOf, slowOf, field3Of, field4Of, keptFieldOf};
+ghost use Rattle.recogniser.specs.Groups.{groupOf, unsteadyOf, storesOf, placeOf, frameEventOf, frameFieldOf};
+ghost use Rattle.recogniser.specs.Step.{field5Of, stepOf};
+
+// Where the recogniser stands.
+pub enum Phase {
+    Hunt,
+    Body,
+    Field3,
+    Field4,
+    Field5,
+}
+
+// What a window means.
+pub enum Meaning {
+    Quiet,
+    Trigger { flip: bool },
+    Header,
+}
+
+// What is held of an unfinished front-end group: its first cycle's bit.
+pub struct Group {
+    pub first: bool,
+}
+
+// What one cycle asks for: a record with its effect, a frame bit at its place, both, leaving RunMode, or nothing.
+pub enum Event {
+    Nothing,
+    Lv1 {
+        flip: bool,
+    },
+    Fast {
+        body: u8,
+    },
+    BadFast {
+        body: u8,
+    },
+    SlowBegins,
+    Slow {
+        command: u8,
+        address: u8,
+        value: u32,
+    },
+    BadSlow {
+        command: u8,
+    },
+    FrameBit {
+        place: u32,
+        bit: u8,
+    },
+    FrameEnd {
+        command: u8,
+        unsteady: bool,
+    },
+    FrameEndBit {
+        command: u8,
+        unsteady: bool,
+        place: u32,
+        bit: u8,
+    },
+}
+
+pub struct Recogniser {
+    pub phase: Phase,
+    // The window; in a body, Field 3 or Field 4, the bits received of it.
+    pub shift: u8,
+    // The bits received of the present body or field.
+    pub count: u32,
+    // Field 3 and Field 4, once they are whole.
+    pub command: u8,
+    pub address: u8,
+    // The bits kept of Field 5 so far.
+    pub held: u32,
+    // Front-end frames: the present group, and whether one of this frame was unsteady.
+    pub group: Group,
+    pub unsteady: bool,
+}
+
+// One cycle's answer: the recogniser after it, and what it asks for.
+pub struct Heard {
+    pub next: Recogniser,
+    pub event: Event,
+}
+
+// The window with a new bit at its low end, and without its oldest.
+pub fn window_with(window: u8, bit: u8) -> u8
+    requires { ⌜ bit < 2 ⌝ }
+    ensures { λ r. ⌜ r ≡ shifted 5 window bit ⌝ }
+{
+    ((window << 1) | bit) & 31
+}
+
+pub fn nibble_with(nibble: u8, bit: u8) -> u8
+    requires { ⌜ bit < 2 ⌝ }
+    ensures { λ r. ⌜ r ≡ shifted 4 nibble bit ⌝ }
+{
+    ((nibble << 1) | bit) & 15
+}
+
+pub fn classify(window: u8) -> Meaning
+    ensures { λ r. ⌜ r ≡ meaningOf window ⌝ }
+{
+    match window {
+        0b11101 => Meaning::Trigger { flip: false },
+        0b11100 | 0b11111 | 0b11001 | 0b10101 | 0b01101 => Meaning::Trigger { flip: true },
+        0b10110 => Meaning::Header,
+        _ => Meaning::Quiet,
+    }
+}
+
+pub fn is_fast(body: u8) -> bool
+    ensures { λ r. ⌜ r ≡ isFast body ⌝ }
+{
+    match body {
+        0b0001 => true,
+        0b0010 => true,
+        0b0100 => true,
+        0b1000 => true,
+        _ => false,
+    }
+}
+
+// Whether Field 3 names a Slow command.
+pub fn is_slow(command: u8) -> bool
+    ensures { λ r. ⌜ r ≡ isSlow command ⌝ }
+{
+    if command <= 6 {
+        return true;
+    }
+    if 8 <= command {
+        return command <= 10;
+    }
+    false
+}
+
+// Whether the command carries frame bits: WrFrontEnd, RdFrontEnd, WrReceiver.
+pub fn is_frame(command: u8) -> bool
+    ensures { λ r. ⌜ r ≡ isFrame command ⌝ }
+{
+    if 4 <= command {
+        return command <= 6;
+    }
+    false
+}
+
+// The cycles of Field 5, by the command and the CNT register.
+pub fn length(command: u8, cnt: u16) -> u32
+    ensures { λ r. ⌜ r ≡ lengthOf command cnt ⌝ }
+{
+    let n = cnt as u32;
+    if command <= 1 {
+        return 16;
+    }
+    if command <= 3 {
+        return 27;
+    }
+    if command <= 5 {
+        return n / 8 * 8 + n % 8 * 8 * 8;
+    }
+    if command == 6 {
+        return n % 8192 * 8;
+    }
+    if command == 10 {
+        return 4;
+    }
+    0
+}
+
+// The bits kept of Field 5 with one bit more; a read keeps none.
+pub fn kept(command: u8, held: u32, bit: u8) -> u32
+    requires { ⌜ bit < 2 ⌝ }
+    ensures { λ r. ⌜ r ≡ keptOf command held bit ⌝ }
+{
+    if command == 1 {
+        return 0;
+    }
+    if command == 3 {
+        return 0;
+    }
+    held % 2147483648 * 2 + bit as u32
+}
+
+// The end of a Slow command that carries no frame.
+pub fn slow(command: u8, address: u8, value: u32) -> Event
+    ensures { λ r. ⌜ r ≡ slowOf command address value ⌝ }
+{
+    if is_slow(command) {
+        return Event::Slow {
+            command: command,
+            address: address,
+            value: value,
+        };
+    }
+    Event::BadSlow { command: command }
+}
+
+impl Group {
+    // What is held once the bit of the group's cycle, `count % 8`, has arrived.
+    pub fn with(self, count: u32, bit: u8) -> Group
+        ensures { λ r. ⌜ r ≡ groupOf self count bit ⌝ }
+    {
+        if count % 8 == 0 {
+            return Group { first: bit == 1 };
+        }
+        self
+    }
+}
+
+// Whether a frame bit is stored in this cycle of Field 5.
+pub fn stores(command: u8, count: u32) -> bool
+    ensures { λ r. ⌜ r ≡ storesOf command count ⌝ }
+{
+    if command == 6 {
+        return true;
+    }
+    count % 8 == 0
+}
+
+// The place in its frame of the bit that this cycle belongs to.
+pub fn place(command: u8, count: u32) -> u32
+    ensures { λ r. ⌜ r ≡ placeOf command count ⌝ }
+{
+    if command == 6 {
+        return count;
+    }
+    count / 8
+}
+
+impl Recogniser {
+    // At the start of a phase.
+    pub fn start(phase: Phase, shift: u8, command: u8, address: u8) -> Self
+        ensures { λ r. ⌜ r ≡ startOf phase shift command address ⌝ }
+    {
+        Recogniser {
+            phase: phase,
+            shift: shift,
+            count: 0,
+            command: command,
+            address: address,
+            held: 0,
+            group: Group { first: false },
+            unsteady: false,
+        }
+    }
+
+    // One bit more of a body or a field of four.
+    fn gather(mut self, nibble: u8) -> Heard
+        requires { ⌜ self .count < 3 ⌝ }
+        ensures { λ r. ⌜ r ≡ gatheredOf self nibble ⌝ }
+    {
+        self.shift = nibble;
+        self.count = self.count + 1;
+        Heard {
+            next: self,
+            event: Event::Nothing,
+        }
+    }
+
+    fn hunt(self, bit: u8) -> Heard
+        requires { ⌜ bit < 2 ⌝ }
+        ensures { λ r. ⌜ r ≡ huntOf self bit ⌝ }
+    {
+        let window = window_with(self.shift, bit);
+        let m = classify(window);
+        match m {
+            Meaning::Quiet => Heard {
+                next: Recogniser::start(Phase::Hunt, window, 0, 0),
+                event: Event::Nothing,
+            },
+            Meaning::Trigger { flip } => Heard {
+                next: Recogniser::start(Phase::Hunt, 0, 0, 0),
+                event: Event::Lv1 { flip: flip },
+            },
+            Meaning::Header => Heard {
+                next: Recogniser::start(Phase::Body, 0, 0, 0),
+                event: Event::Nothing,
+            },
+        }
+    }
+
+    fn body(self, bit: u8) -> Heard
+        requires { ⌜ bit < 2 ⌝ }
+        ensures { λ r. ⌜ r ≡ bodyOf self bit ⌝ }
+    {
+        let body = nibble_with(self.shift, bit);
+        if self.count < 3 {
+            return self.gather(body);
+        }
+        if is_fast(body) {
+            return Heard {
+                next: Recogniser::start(Phase::Hunt, 0, 0, 0),
+                event: Event::Fast { body: body },
+            };
+        }
+        if body == 0b1011 {
+            return Heard {
+                next: Recogniser::start(Phase::Field3, 0, 0, 0),
+                event: Event::SlowBegins,
+            };
+        }
+        Heard {
+            next: Recogniser::start(Phase::Hunt, 0, 0, 0),
+            event: Event::BadFast { body: body },
+        }
+    }
+
+    fn field3(self, bit: u8) -> Heard
+        requires { ⌜ bit < 2 ⌝ }
+        ensures { λ r. ⌜ r ≡ field3Of self bit ⌝ }
+    {
+        let command = nibble_with(self.shift, bit);
+        if self.count < 3 {
+            return self.gather(command);
+        }
+        Heard {
+            next: Recogniser::start(Phase::Field4, 0, command, 0),
+            event: Event::Nothing,
+        }
+    }
+
+    fn field4(self, bit: u8, cnt: u16) -> Heard
+        requires { ⌜ bit < 2 ⌝ }
+        ensures { λ r. ⌜ r ≡ field4Of self bit cnt ⌝ }
+    {
+        let address = nibble_with(self.shift, bit);
+        if self.count < 3 {
+            return self.gather(address);
+        }
+        let command = self.command;
+        if 0 < length(command, cnt) {
+            return Heard {
+                next: Recogniser::start(Phase::Field5, 0, command, address),
+                event: Event::Nothing,
+            };
+        }
+        if is_frame(command) {
+            return Heard {
+                next: Recogniser::start(Phase::Hunt, 0, 0, 0),
+                event: Event::FrameEnd {
+                    command: command,
+                    unsteady: false,
+                },
+            };
+        }
+        Heard {
+            next: Recogniser::start(Phase::Hunt, 0, 0, 0),
+            event: slow(command, address, 0),
+        }
+    }
+
+    // Whether the present bit is the last of Field 5.
+    fn ends(self, cnt: u16) -> bool
+        ensures { λ r. ⌜ r ≡ endsOf self cnt ⌝ }
+    {
+        length(self.command, cnt) as u64 <= self.count as u64 + 1
+    }
+
+    // Field 5 of a command that carries no frame.
+    fn kept_field(self, bit: u8, cnt: u16) -> Heard
+        requires { ⌜ bit < 2 ⌝ }
+        ensures { λ r. ⌜ r ≡ keptFieldOf self bit cnt ⌝ }
+    {
+        let value = kept(self.command, self.held, bit);
+        if self.ends(cnt) {
+            return Heard {
+                next: Recogniser::start(Phase::Hunt, 0, 0, 0),
+                event: slow(self.command, self.address, value),
+            };
+        }
+        let mut next = self;
+        next.held = value;
+        next.count = self.count + 1;
+        Heard {
+            next: next,
+            event: Event::Nothing,
+        }
+    }
+
+    // Whether a group of this frame was unsteady, the present bit included.
+    fn unsteady_with(self, bit: u8) -> bool
+        ensures { λ r. ⌜ r ≡ unsteadyOf self bit ⌝ }
+    {
+        if self.command == 6 {
+            return false;
+        }
+        if self.unsteady {
+            return true;
+        }
+        let group = self.group;
+        let now = group.with(self.count, bit);
+        (bit == 1) != now.first
+    }
+
+    fn frame_event(self, bit: u8, ends: bool) -> Event
+        ensures { λ r. ⌜ r ≡ frameEventOf self bit ends ⌝ }
+    {
+        let command = self.command;
+        let at = place(command, self.count);
+        if stores(command, self.count) {
+            if ends {
+                return Event::FrameEndBit {
+                    command: command,
+                    unsteady: self.unsteady_with(bit),
+                    place: at,
+                    bit: bit,
+                };
+            }
+            return Event::FrameBit {
+                place: at,
+                bit: bit,
+            };
+        }
+        if ends {
+            return Event::FrameEnd {
+                command: command,
+                unsteady: self.unsteady_with(bit),
+            };
+        }
+        Event::Nothing
+    }
+
+    // Field 5 of a frame.
+    fn frame_field(self, bit: u8, cnt: u16) -> Heard
+        ensures { λ r. ⌜ r ≡ frameFieldOf self bit cnt ⌝ }
+    {
+        if self.ends(cnt) {
+            return Heard {
+                next: Recogniser::start(Phase::Hunt, 0, 0, 0),
+                event: self.frame_event(bit, true),
+            };
+        }
+        let g = self.group;
+        let group = g.with(self.count, bit);
+        let mut next = self;
+        next.unsteady = self.unsteady_with(bit);
+        next.group = group;
+        next.count = self.count + 1;
+        Heard {
+            next: next,
+            event: self.frame_event(bit, false),
+        }
+    }
+
+    fn field5(self, bit: u8, cnt: u16) -> Heard
+        requires { ⌜ bit < 2 ⌝ }
+        ensures { λ r. ⌜ r ≡ field5Of self bit cnt ⌝ }
+    {
+        if is_frame(self.command) {
+            return self.frame_field(bit, cnt);
+        }
+        self.kept_field(bit, cnt)
+    }
+
+    // One cycle, by the present contents of the CNT register.
+    pub fn step(self, bit: u8, cnt: u16) -> Heard
+        requires { ⌜ bit < 2 ⌝ }
+        ensures { λ r. ⌜ r ≡ stepOf self bit cnt ⌝ }
+    {
+        let phase = self.phase;
+        match phase {
+            Phase::Hunt => self.hunt(bit),
+            Phase::Body => self.body(bit),
+            Phase::Field3 => self.field3(bit),
+            Phase::Field4 => self.field4(bit, cnt),
+            Phase::Field5 => self.field5(bit, cnt),
+        }
+    }
+}

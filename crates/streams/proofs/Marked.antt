@@ -1,0 +1,17 @@
+-- The marked streams: the taking call's definition gives every row of the table.
+-- Assumes nothing.
+use mathlib.Core.Path.{refl}
+use Rattle.recogniser.specs.Step.{stepOf}
+use Rattle.recogniser.specs.Fit.{fitOf}
+use Rattle.frames.specs.Tray.{trayOf}
+use Rattle.model.specs.Sound.{pointersFit, missingZero}
+use Rattle.model.specs.Fifos.{writeOf}
+use Rattle.model.specs.Commands.{actOf}
+use Rattle.decoder.specs.Sound.{soundOf}
+use Rattle.decoder.specs.Turn.{turnOf}
+use Rattle.decoder.specs.Take.{takenOf, takeOf}
+use Rattle.streams.specs.Marked.{MarkedStreams}
+
+pub marked : MarkedStreams
+unfolding stepOf fitOf trayOf pointersFit missingZero writeOf actOf soundOf turnOf takenOf takeOf
+marked = refl

@@ -1,0 +1,66 @@
+-- What it means that the taking call gives a row of the table (document 01, "Streams with their records").
+-- Assumes nothing.
+use mathlib.Core.Path.{_≡_}
+use mathlib.Core.Bool.{true, false}
+use mathlib.Core.List.{List, [], _∷_, _++_, map}
+use Prim.Native.Nat.{ℕ, zero, suc, _+_, _*_, _^_, _-_}
+use lib.ListN.{length, replicate, set, take, drop}
+use Rattle.bits.specs.Bits.{numberOf}
+use Rattle.model.specs.Plan.{defaultPlan}
+use Rattle.model.specs.Commands.{withRunning, withRegisters}
+use Rattle.decoder.specs.declared.Decoder.{Decoder}
+use Rattle.decoder.specs.Limits.{storeLength, trayLength}
+use Rattle.decoder.specs.Opening.{openedAt}
+use Rattle.decoder.specs.Take.{Call, Left, takeOf, endingNumber}
+use Rattle.decoder.specs.Calls.{wordsStanding}
+use Rattle.streams.specs.Table.{Rec, Row, table}
+
+-- Bits packed into bytes, highest bit first, the last byte filled up with zeros.
+abbrev pub packed : ℕ → List ℕ → List ℕ
+packed zero bits = []
+packed (suc n) bits = numberOf 0 (take 8 (bits ++ replicate 8 0)) ∷ packed n (drop 8 bits)
+
+-- "from cycle 0, RunMode, window 00000", with the row's CNT.
+abbrev pub running : ℕ → Decoder
+running cnt =
+    let d = openedAt defaultPlan 0 in
+    record {
+      plan = d .plan;
+      next = d .next;
+      recogniser = d .recogniser;
+      model = withRunning true (withRegisters (set (d .model .registers) (defaultPlan .cnt) cnt) (d .model));
+    }
+
+-- All the bits in one call, with empty buffers and room to spare.
+abbrev pub callFor : List ℕ → Call
+callFor bits = record {
+  input = packed 3 bits;
+  first = 0;
+  count = length bits;
+  store = replicate storeLength 0;
+  tray = replicate trayLength 0;
+  list = replicate 8 0;
+  free = 0;
+}
+
+-- What a call shows: whether it was turned away, the bits taken, the words that stand in its list.
+pub record Shown : Type 0 where
+  pub refusal : ℕ
+  pub bits : ℕ
+  pub words : List ℕ
+
+abbrev pub words : List Rec → List ℕ
+words [] = []
+words (r ∷ rs) = (r .time * 65536 + r .kind * 256 + r .flags) ∷ r .value ∷ words rs
+
+abbrev pub shown : Row → Shown
+shown r =
+    let told = takeOf (running (r .cnt)) (callFor (r .bits)) .taken .told in
+    record { refusal = endingNumber (told .ending); bits = told .bits; words = wordsStanding (running (r .cnt)) (callFor (r .bits)) }
+
+abbrev pub asMarked : Row → Shown
+asMarked r = record { refusal = 0; bits = length (r .bits); words = words (r .records) }
+
+-- Every row, together.
+abbrev pub MarkedStreams : Type 0
+MarkedStreams = map shown table ≡ map asMarked table

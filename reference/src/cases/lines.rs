@@ -1,0 +1,68 @@
+//! Fit and refused lines.
+
+use super::Case;
+
+/// Name and input; each but the first few ends at a refused line.
+const SHORT: [(&str, &[u8]); 26] = [
+    ("empty-input", b""),
+    ("empty-lines", b"\n\nB5C074\n\nE0B080\n\n"),
+    ("line-feeds-only", b"\n\n\n"),
+    ("no-last-line-feed", b"B5C074\nE0B080"),
+    ("all-digits", b"0123456789ABCDEF\n"),
+    ("lower-case", b"B5C074\ne0b080\n"),
+    ("lower-case-last-digit", b"B5C074\nE0B08a\n"),
+    ("after-f", b"B5C074\nE0B08G\n"),
+    ("carriage-return", b"B5C074\r\nE0B080\r\n"),
+    ("carriage-return-alone", b"B5C074\n\r\n"),
+    ("space-ahead", b"B5C074\n E0B080\n"),
+    ("space-inside", b"B5C074\nE0 B080\n"),
+    ("space-after", b"B5C074\nE0B080 \n"),
+    ("tabulator", b"B5C074\nE0\tB080\n"),
+    ("nul", b"B5C074\nE0B0\x0080\n"),
+    ("nul-alone", b"\x00"),
+    ("high-byte", b"B5C074\nE0B080\x80\n"),
+    ("high-bytes", b"B5C074\n\xFF\xFE\xC3\x84\n"),
+    ("odd", b"B5C074\nE0B08\n"),
+    ("odd-no-line-feed", b"B5C074\nE0B08"),
+    ("one-digit", b"B5C074\nE0B080\nE\n"),
+    ("odd-and-wrong", b"B5C074\nE0B0x\n"),
+    ("wrong-no-line-feed", b"B5C074\nE0B080x"),
+    ("two-refused", b"B5C074\nE0B08\nx\n"),
+    ("fault-on-line-1", b"B5C07\nE0B080\n"),
+    ("lines-after-a-refused-one", b"B5C074\nx\nE0B080\n"),
+];
+
+/// Digits and what follows them in the line.
+const LONG: [(usize, &str); 10] = [
+    (64, ""),
+    (65, ""),
+    (66, ""),
+    (64, "x"),
+    (65, "x"),
+    (66, "x"),
+    (128, ""),
+    (200_000, ""),
+    (200_000, "x"),
+    (200_001, ""),
+];
+
+pub fn cases() -> Vec<Case> {
+    let mut cases: Vec<Case> = SHORT
+        .iter()
+        .map(|(name, input)| Case::new(format!("line-{name}"), *input))
+        .collect();
+    for (digits, end) in LONG {
+        let wrong = if end.is_empty() { "" } else { "-and-wrong" };
+        // LV1 after LV1, so that a digit taken would show.
+        let line = "EF7BDEF7BD".repeat(digits / 10 + 1);
+        let input = format!("B5C074\n{}{end}\n", &line[..digits]);
+        cases.push(Case::new(format!("line-{digits}-digits{wrong}"), input));
+    }
+    for (name, end) in [("odd", "A\n"), ("wrong", "0x\n"), ("odd-no-line-feed", "A")] {
+        for ahead in [255, 65_535, 65_540] {
+            let input = format!("{}{end}", "\n".repeat(ahead));
+            cases.push(Case::new(format!("line-{}-{name}", ahead + 1), input));
+        }
+    }
+    cases
+}
