@@ -50,10 +50,10 @@ fn slow_command(stream: Stream, random: &mut Random, cnt: &mut u16) -> Stream {
             stream.wr_register(nibble, value)
         }
         3 | 4 => stream.rd_register(nibble),
-        5..=7 => stream.wr_fifo(random.next() as u32),
+        5..=7 => stream.wr_fifo(random.word() as u32),
         8 | 9 => stream.rd_fifo(nibble),
-        10 => stream.wr_register(plan.feen, random.next() as u16),
-        11 => stream.wr_register(plan.csr, random.next() as u16),
+        10 => stream.wr_register(plan.feen, random.word() as u16),
+        11 => stream.wr_register(plan.csr, random.word() as u16),
         12..=14 => {
             *cnt = small(random);
             stream.wr_register(plan.cnt, *cnt)
@@ -87,7 +87,7 @@ fn front_end(stream: Stream, field3: u8, random: &mut Random, cnt: u16) -> Strea
 
 /// Seldom a large number, as CNT makes frames of it.
 fn small(random: &mut Random) -> u16 {
-    let number = random.next() as u16;
+    let number = random.word() as u16;
     match random.below(16) {
         0 => number & 0x01FF,
         1 => number & 0xE007,

@@ -28,13 +28,13 @@ fn random_start(random: &mut Random) -> Reader {
     state.next_cycle = random.below(1 << 40);
     state.base_cycle = random.below(state.next_cycle + 1);
     state.l1id = random.below(256) as u32;
-    state.registers[2] = random.next() as u16;
+    state.registers[2] = random.word() as u16;
     state.registers[5] = random.below(64) as u16;
     for word in &mut reader.store {
-        *word = random.next() as u32;
+        *word = random.word() as u32;
     }
     for byte in &mut reader.tray {
-        *byte = random.next() as u8;
+        *byte = random.word() as u8;
     }
     reader
 }
@@ -120,7 +120,7 @@ fn one_cut_at_every_place() {
             ],
         )
         .front_end(5, &[false; 10])
-        .wr_receiver(&vec![true; 17 * 8])
+        .wr_receiver(&[true; 17 * 8])
         .reset_fe(9)
         .slow(12, 3)
         .en_data_take()

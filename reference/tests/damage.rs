@@ -33,10 +33,10 @@ impl Command {
     fn pattern(self) -> (u128, usize) {
         match self {
             Lv1 => (0b11101, 5),
-            Bcr => (0b10110_0001, 9),
-            Ecr => (0b10110_0010, 9),
-            Cal => (0b10110_0100, 9),
-            Sync => (0b10110_1000, 9),
+            Bcr => (0b1_0110_0001, 9),
+            Ecr => (0b1_0110_0010, 9),
+            Cal => (0b1_0110_0100, 9),
+            Sync => (0b1_0110_1000, 9),
         }
     }
 
@@ -326,7 +326,7 @@ fn follows(
             return false;
         };
         let may_differ = if command == Lv1 {
-            u32::from(l1id_free) * 0xFF00 | u32::from(bunch_free) * 0x00FF
+            (u32::from(l1id_free) * 0xFF00) | (u32::from(bunch_free) * 0x00FF)
         } else {
             0
         };
@@ -379,7 +379,7 @@ fn single_commands_and_pairs() {
         let mut bench = Bench::new(run_mode);
         every_series(&mut bench, 1, 0..=0, 0..=12, &after);
         every_series(&mut bench, 2, 0..=7, 0..=6, &after);
-        assert!(bench.inversions > 400_000);
+        assert_eq!(bench.inversions, 404_715);
     }
 }
 
@@ -387,14 +387,14 @@ fn single_commands_and_pairs() {
 fn triples() {
     let mut bench = Bench::new(true);
     every_series(&mut bench, 3, 0..=7, 0..=6, &[0, 1, 2, 6]);
-    assert!(bench.inversions > 9_000_000);
+    assert_eq!(bench.inversions, 8_541_120);
 }
 
 #[test]
 fn fours() {
     let mut bench = Bench::new(true);
     every_series(&mut bench, 4, 0..=2, 0..=2, &[0, 3]);
-    assert!(bench.inversions > 4_500_000);
+    assert_eq!(bench.inversions, 4_072_275);
 }
 
 #[test]

@@ -3,6 +3,7 @@
 mod common;
 
 use common::{rec, stream, Reader};
+use reference::cases::RECEIVED;
 use reference::compose::Stream;
 use reference::{Recogniser, Record};
 
@@ -332,7 +333,10 @@ fn tables_1_4_to_1_9() {
     let tables: [&[Row]; 6] = [
         &TABLE_1_4, &TABLE_1_5, &TABLE_1_6, &TABLE_1_7, &TABLE_1_8, &TABLE_1_9,
     ];
-    for (table, rows) in (4..).zip(tables) {
+    for ((table, rows), (same_table, received)) in (4..).zip(tables).zip(RECEIVED) {
+        // The cases for comparison have the same patterns.
+        assert_eq!(table, same_table);
+        assert!(rows.iter().map(|(pattern, _)| pattern).eq(received));
         for (received, seen) in rows {
             for run_mode in [true, false] {
                 let context = format!("table 1-{table}, {received}, RunMode {run_mode}");

@@ -61,8 +61,10 @@ const LISTING: &str = "\
     00000000001C 01 07 0000011C\n\
     000000000028 11 01 00000000\n";
 
-/// An EnDataTake and half of an LV1, as the first line of the listing.
-const FIRST: &str = "000000000010 28 01 00000000\n";
+/// What the listing's first input line prints.
+const FIRST: &str = "\
+    000000000010 28 01 00000000\n\
+    000000000015 01 05 00000015\n";
 
 /// Input, what the station prints.
 fn line_cases() -> Vec<(Vec<u8>, String)> {
@@ -223,7 +225,7 @@ fn line_numbers_are_hexadecimal() {
         input.push(b'A');
         let wanted = format!("!08 {:08X}\n", lines + 1);
         assert_eq!(run_station(&input), wanted);
-        input.extend(b"B\n00\n\n?\n");
+        input.extend(b"0\n00\n\n?\n");
         let wanted = format!("!07 {:08X}\n", lines + 4);
         assert_eq!(run_station(&input), wanted);
     }
@@ -299,8 +301,8 @@ fn all_is_written_and_flushed_before_the_next_read() {
             Deed::Flushed => flushed = true,
         }
     }
-    // Ahead of each read: nothing, nothing, the first line's record, all.
-    assert_eq!(reads, [0, 0, 28, 112]);
+    // Ahead of each read: nothing, nothing, the first line's records, all.
+    assert_eq!(reads, [0, 0, FIRST.len(), LISTING.len()]);
     assert!(flushed);
 }
 
@@ -394,11 +396,13 @@ fn a_live_pipe() {
     let mut output = BufReader::new(child.stdout.take().unwrap());
     let mut line = String::new();
     input.write_all(b"B5C074\n").unwrap();
-    output.read_line(&mut line).unwrap();
+    for _ in 0..2 {
+        output.read_line(&mut line).unwrap();
+    }
     assert_eq!(line, FIRST);
     input.write_all(b"E0B0").unwrap();
     input.write_all(b"80\n").unwrap();
-    for _ in 0..3 {
+    for _ in 0..2 {
         output.read_line(&mut line).unwrap();
     }
     assert_eq!(line, LISTING);

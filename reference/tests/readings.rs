@@ -358,7 +358,7 @@ fn frame_bits_fill_the_tray() {
         reader.state.registers[5] = cnt;
         reader.tray.fill(0xFF);
         let records = reader.read(&s().front_end(kind, &bits));
-        let value = u32::from(cnt & 7) * 8 << 16 | u32::from(cnt >> 3);
+        let value = (u32::from(cnt & 7) * 8) << 16 | u32::from(cnt >> 3);
         assert_eq!(records, [rec(16 + 80, 0x20 + kind, 0x01, value)]);
         assert_eq!(reader.frames, [vec![0b1011_0010, 0b1100_0000]]);
         assert_eq!(reader.tray[2], 0xFF);

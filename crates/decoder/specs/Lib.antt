@@ -1,6 +1,7 @@
 pub mod Limits
 pub mod Opening
 pub mod Sound
+pub mod Entries
 pub mod Run
 pub mod Turn
 pub mod Take

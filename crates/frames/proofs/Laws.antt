@@ -3,9 +3,9 @@
 use mathlib.Core.Bool.{Bool, true, false, cond}
 use mathlib.Core.List.{List}
 use mathlib.Core.Logic.{⊎-elim}
-use mathlib.Core.Path.{_≡_, refl, sym, ap, _∙_}
+use mathlib.Core.Path.{_≡_, refl, _∙_}
 use Prim.Native.Nat.{ℕ, zero, suc, _+_, _*_, _-_, _/_, _%_, _^_, _<_}
-use native.Mathlib.Nat.{eq-or-lt-of-le, pow-suc, mod-lt}
+use native.Mathlib.Nat.{eq-or-lt-of-le, pow-suc}
 use native.Mathlib.Omega.{arith}
 use lib.Dec.{eqb, lit<}
 use lib.ListN.{length, getD, length-set}
@@ -55,7 +55,7 @@ module _ (byte place bit : ℕ) (h : place < 8) where
   read-above : (q : ℕ) → q < place → withBit byte place bit / 2 ^ (7 - q) ≡ byte / 2 ^ (7 - q)
   read-above q l =
       let e : 7 - q ≡ suc (7 - place) + (place - suc q) = omega arith in
-      rw (e, ← shr-shr, ← shr-shr, pow-suc, scaled (eqb bit 1) (2 ^ (7 - place)), put byte _ (small (eqb bit 1)) place h .above)
+      rw (e, ← shr-shr (withBit byte place bit) _ _, ← shr-shr byte _ _, pow-suc, scaled (eqb bit 1) (2 ^ (7 - place)), put byte _ (small (eqb bit 1)) place h .above)
 
 module _ (tray : List ℕ) (place bit : ℕ) where
   pub stored-bit : place < 8 * length tray → bit < 2 → bitIn (storedOf tray place bit) place ≡ bit
@@ -68,7 +68,6 @@ module _ (tray : List ℕ) (place bit : ℕ) where
   pub stored-before : place < 8 * length tray → (q : ℕ) → q < place → bitIn (storedOf tray place bit) q ≡ bitIn tray q
   stored-before inside q l =
       ⊎-elim
-      (λ e. rw (e, ne-eqb (place % 8) 0 (λ z. omega arith), getD-set-same tray (place / 8) _ 0 (omega arith))
-          (rw (read-above _ (place % 8) bit (omega arith) (q % 8) (omega arith))))
+      (λ e. rw (e, ne-eqb (place % 8) 0 (λ z. omega arith), getD-set-same tray (place / 8) _ 0 (omega arith), read-above _ (place % 8) bit (omega arith) (q % 8) (omega arith)))
       (λ b. stored-elsewhere q (λ e. omega arith))
       (eq-or-lt-of-le {n = q / 8} {m = place / 8} (omega arith))

@@ -40,15 +40,27 @@ pub fn keep(tray: &mut [u8], event: Event)
 {
     match event {
         Event::FrameBit { place, bit } => store_bit(tray, place, bit),
-        Event::FrameEndBit { command: _, unsteady: _, place, bit } => store_bit(tray, place, bit),
+        Event::FrameEndBit {
+            command: _,
+            unsteady: _,
+            place,
+            bit,
+        } => store_bit(tray, place, bit),
         Event::Nothing => {}
         Event::Lv1 { flip: _ } => {}
         Event::Fast { body: _ } => {}
         Event::BadFast { body: _ } => {}
         Event::SlowBegins => {}
-        Event::Slow { command: _, address: _, value: _ } => {}
+        Event::Slow {
+            command: _,
+            address: _,
+            value: _,
+        } => {}
         Event::BadSlow { command: _ } => {}
-        Event::FrameEnd { command: _, unsteady: _ } => {}
+        Event::FrameEnd {
+            command: _,
+            unsteady: _,
+        } => {}
     }
 }
 
@@ -56,9 +68,9 @@ pub fn keep(tray: &mut [u8], event: Event)
 pub fn frame_part(tray: &[u8], bits: usize) -> &[u8]
     ensures { λ r. ⌜ now r ≡ partOf (now (tray .entry)) bits ⌝ }
 {
-    let n = bits / 8 + (bits % 8 + 7) / 8;
+    let mut n = bits / 8 + (bits % 8 + 7) / 8;
     if tray.len() < n {
-        return &tray[..0];
+        n = 0;
     }
     &tray[..n]
 }

@@ -10,7 +10,6 @@ use Rattle.recogniser.specs.declared.Event.the-variants as event
 use Rattle.model.specs.declared.Plan.{Plan}
 use Rattle.model.specs.declared.Model.{Model}
 use Rattle.model.specs.Plan.{existsAt}
-use Rattle.model.specs.Registers.{registerOf}
 
 -- A test of so many numbers from i on.
 unfoldable pub everyFrom : ℕ → ℕ → (ℕ → Bool) → Bool
@@ -18,12 +17,18 @@ everyFrom zero i f = true
 everyFrom (suc n) i f = f i && everyFrom n (i + 1) f
 
 -- "pointers are below 128"
+abbrev pub fitsAt : List ℕ → ℕ → Bool
+fitsAt pointers i = ltb (getD pointers i 0) 128
+
 unfoldable pub pointersFit : List ℕ → Bool
-pointersFit pointers = everyFrom 16 0 (λ i. ltb (getD pointers i 0) 128)
+pointersFit pointers = everyFrom 16 0 (fitsAt pointers)
 
 -- "missing registers hold 0"
+abbrev pub zeroAt : Plan → List ℕ → ℕ → Bool
+zeroAt plan registers i = existsAt plan i || eqb (getD registers i 0) 0
+
 unfoldable pub missingZero : Plan → Model → Bool
-missingZero plan m = everyFrom 16 0 (λ i. existsAt plan i || eqb (registerOf m i) 0)
+missingZero plan m = everyFrom 16 0 (zeroAt plan (m .registers))
 
 -- A body and Field 3 have four bits ("Hunting", "Slow commands"), so that a kind made of one stays below 256.
 abbrev pub eventFits : Event → Bool

@@ -53,26 +53,41 @@ const WORD: u32 = 134217728;
 
 // The values of Field 3 that the model tells apart.
 const WR_REGISTER: u8 = 0;
+
 const RD_REGISTER: u8 = 1;
+
 const WR_FIFO: u8 = 2;
+
 const RD_FIFO: u8 = 3;
+
 const WR_RECEIVER: u8 = 6;
+
 const EN_DATA_TAKE: u8 = 8;
+
 const GLOBAL_RESET_MCC: u8 = 9;
+
 const GLOBAL_RESET_FE: u8 = 10;
 
 // The kinds of a record; a Fast and a Slow add their body and Field 3.
 const KIND_LV1: u8 = 0x01;
+
 const KIND_FAST: u8 = 0x10;
+
 const KIND_BAD_FAST: u8 = 0x1F;
+
 const KIND_SLOW: u8 = 0x20;
+
 const KIND_BAD_SLOW: u8 = 0x2F;
 
 // The flags of a record, which are added.
 const FLAG_ACTED: u8 = 0x01;
+
 const FLAG_FLIP: u8 = 0x02;
+
 const FLAG_SENT: u8 = 0x04;
+
 const FLAG_MISSING: u8 = 0x08;
+
 const FLAG_UNSTEADY: u8 = 0x10;
 
 fn flag(on: bool, bit: u8) -> u8
@@ -308,7 +323,7 @@ impl Model {
             return answer(m, time, KIND_LV1, flipped, 0);
         }
         let csr = self.register(plan.csr);
-        let sent = flag(csr >> 6 & 1 == 0, FLAG_SENT);
+        let sent = flag(csr / 64 % 2 == 0, FLAG_SENT);
         let value = self.l1id as u64 * 256 + self.bunch(time);
         m.l1id = ((self.l1id as u16 + 1) % 256) as u8;
         answer(m, time, KIND_LV1, FLAG_ACTED + flipped + sent, value)
@@ -381,7 +396,13 @@ impl Model {
             return answer(self, time, KIND_SLOW + RD_REGISTER, FLAG_MISSING, asked);
         }
         let value = self.read(plan, address);
-        answer(self, time, KIND_SLOW + RD_REGISTER, FLAG_ACTED, asked + value as u64)
+        answer(
+            self,
+            time,
+            KIND_SLOW + RD_REGISTER,
+            FLAG_ACTED,
+            asked + value as u64,
+        )
     }
 
     fn write_fifo(self, plan: Plan, value: u32, time: u64, store: &mut [u32]) -> Acted
@@ -390,10 +411,10 @@ impl Model {
     {
         let word = value % WORD;
         let feen = self.register(plan.feen);
-        let before = self.writes;
-        let after = write_all(before, feen, word, store);
+        let pointers = self.writes;
+        let moved = write_all(pointers, feen, word, store);
         let mut m = self;
-        m.writes = after;
+        m.writes = moved;
         answer(m, time, KIND_SLOW + WR_FIFO, FLAG_ACTED, word as u64)
     }
 

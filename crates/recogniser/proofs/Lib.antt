@@ -1,4 +1,5 @@
 pub mod Truth
 pub mod Shift
 pub mod Lengths
+pub mod Fits
 pub mod Laws

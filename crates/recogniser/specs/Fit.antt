@@ -1,6 +1,6 @@
 -- The recogniser's part of a sound state (document 01, "A taking call").
 -- Assumes nothing.
-use mathlib.Core.Bool.{Bool, true, false, cond, _&&_, _||_}
+use mathlib.Core.Bool.{Bool, true, cond, _&&_, _||_}
 use Prim.Native.Nat.{ℕ, _^_}
 use lib.Dec.{ltb, leb, eqb}
 use Rattle.recogniser.specs.declared.Phase.{Phase}
@@ -20,6 +20,9 @@ keeps command = eqb command 0 || (eqb command 2 || eqb command 10)
 abbrev pub nibbleFits : Recogniser → Bool
 nibbleFits r = ltb (r .count) 4 && ltb (r .shift) (2 ^ r .count)
 
+abbrev pub field4Fits : Recogniser → Bool
+field4Fits r = nibbleFits r && ltb (r .command) 16
+
 abbrev pub heldFits : Recogniser → Bool
 heldFits r = cond (keeps (r .command)) (ltb (r .held) (2 ^ r .count)) true
 
@@ -32,7 +35,7 @@ abbrev pub fitBy : Phase → Recogniser → ℕ → Bool
 fitBy Hunt r cnt = ltb (r .shift) 32
 fitBy Body r cnt = nibbleFits r
 fitBy Field3 r cnt = nibbleFits r
-fitBy Field4 r cnt = nibbleFits r && ltb (r .command) 16
+fitBy Field4 r cnt = field4Fits r
 fitBy Field5 r cnt = field5Fits r cnt
 
 -- A recogniser that a sound state may hold, by CNT as it stands.

@@ -1,12 +1,14 @@
 // One clock cycle of the command line: what the bit completes, and where the recogniser stands after it.
 // It owns only what the chip triplicates; registers, counters and RunMode belong to the model.
 ghost use mathlib.Core.Path.{_≡_};
-ghost use Prim.Native.Nat.{_<_};
-ghost use Rattle.recogniser.specs.Parts.{shifted, startOf, gatheredOf};
+ghost use Prim.Native.Nat.{_<_, _^_};
+ghost use Rattle.recogniser.specs.Parts.{shifted, startOf, heard, gatheredOf};
+ghost use Rattle.recogniser.specs.declared.Phase.the-variants.{Hunt};
 ghost use Rattle.recogniser.specs.Hunting.{meaningOf, isFast, huntOf, bodyOf};
 ghost use Rattle.recogniser.specs.Fields.{lengthOf, isSlow, isFrame, keptOf, endsOf, slowOf, field3Of, field4Of, keptFieldOf};
 ghost use Rattle.recogniser.specs.Groups.{groupOf, unsteadyOf, storesOf, placeOf, frameEventOf, frameFieldOf};
 ghost use Rattle.recogniser.specs.Step.{field5Of, stepOf};
+ghost use Rattle.recogniser.specs.Fit.{hasField5, keeps, nibbleFits, field4Fits, field5Fits, fitOf};
 
 // Where the recogniser stands.
 pub enum Phase {
@@ -232,6 +234,18 @@ pub fn place(command: u8, count: u32) -> u32
     count / 8
 }
 
+impl Heard {
+    // What was heard, and hunting on with this window.
+    fn hunting(window: u8, event: Event) -> Self
+        ensures { λ r. ⌜ r ≡ heard (startOf Hunt window 0 0) event ⌝ }
+    {
+        Heard {
+            next: Recogniser::start(Phase::Hunt, window, 0, 0),
+            event: event,
+        }
+    }
+}
+
 impl Recogniser {
     // At the start of a phase.
     pub fn start(phase: Phase, shift: u8, command: u8, address: u8) -> Self
@@ -269,14 +283,8 @@ impl Recogniser {
         let window = window_with(self.shift, bit);
         let m = classify(window);
         match m {
-            Meaning::Quiet => Heard {
-                next: Recogniser::start(Phase::Hunt, window, 0, 0),
-                event: Event::Nothing,
-            },
-            Meaning::Trigger { flip } => Heard {
-                next: Recogniser::start(Phase::Hunt, 0, 0, 0),
-                event: Event::Lv1 { flip: flip },
-            },
+            Meaning::Quiet => Heard::hunting(window, Event::Nothing),
+            Meaning::Trigger { flip } => Heard::hunting(0, Event::Lv1 { flip: flip }),
             Meaning::Header => Heard {
                 next: Recogniser::start(Phase::Body, 0, 0, 0),
                 event: Event::Nothing,
@@ -293,10 +301,7 @@ impl Recogniser {
             return self.gather(body);
         }
         if is_fast(body) {
-            return Heard {
-                next: Recogniser::start(Phase::Hunt, 0, 0, 0),
-                event: Event::Fast { body: body },
-            };
+            return Heard::hunting(0, Event::Fast { body: body });
         }
         if body == 0b1011 {
             return Heard {
@@ -304,10 +309,7 @@ impl Recogniser {
                 event: Event::SlowBegins,
             };
         }
-        Heard {
-            next: Recogniser::start(Phase::Hunt, 0, 0, 0),
-            event: Event::BadFast { body: body },
-        }
+        Heard::hunting(0, Event::BadFast { body: body })
     }
 
     fn field3(self, bit: u8) -> Heard
@@ -340,21 +342,18 @@ impl Recogniser {
             };
         }
         if is_frame(command) {
-            return Heard {
-                next: Recogniser::start(Phase::Hunt, 0, 0, 0),
-                event: Event::FrameEnd {
+            return Heard::hunting(
+                0,
+                Event::FrameEnd {
                     command: command,
                     unsteady: false,
                 },
-            };
+            );
         }
-        Heard {
-            next: Recogniser::start(Phase::Hunt, 0, 0, 0),
-            event: slow(command, address, 0),
-        }
+        Heard::hunting(0, slow(command, address, 0))
     }
 
-    // Whether the present bit is the last of Field 5.
+    // Whether the present bit is the last of Field 5; in 64 bits, so that the sum fits.
     fn ends(self, cnt: u16) -> bool
         ensures { λ r. ⌜ r ≡ endsOf self cnt ⌝ }
     {
@@ -368,10 +367,7 @@ impl Recogniser {
     {
         let value = kept(self.command, self.held, bit);
         if self.ends(cnt) {
-            return Heard {
-                next: Recogniser::start(Phase::Hunt, 0, 0, 0),
-                event: slow(self.command, self.address, value),
-            };
+            return Heard::hunting(0, slow(self.command, self.address, value));
         }
         let mut next = self;
         next.held = value;
@@ -430,10 +426,7 @@ impl Recogniser {
         ensures { λ r. ⌜ r ≡ frameFieldOf self bit cnt ⌝ }
     {
         if self.ends(cnt) {
-            return Heard {
-                next: Recogniser::start(Phase::Hunt, 0, 0, 0),
-                event: self.frame_event(bit, true),
-            };
+            return Heard::hunting(0, self.frame_event(bit, true));
         }
         let g = self.group;
         let group = g.with(self.count, bit);
@@ -470,5 +463,87 @@ impl Recogniser {
             Phase::Field4 => self.field4(bit, cnt),
             Phase::Field5 => self.field5(bit, cnt),
         }
+    }
+
+    // Whether the bits of a body, Field 3 or Field 4 are fewer than four and fit their width.
+    fn nibble_fits(self) -> bool
+        ensures { λ r. ⌜ r ≡ nibbleFits self ⌝ }
+    {
+        if self.count < 4 {
+            return (self.shift as u32) < power(self.count);
+        }
+        false
+    }
+
+    fn field4_fits(self) -> bool
+        ensures { λ r. ⌜ r ≡ field4Fits self ⌝ }
+    {
+        if self.nibble_fits() {
+            return self.command < 16;
+        }
+        false
+    }
+
+    fn field5_fits(self, cnt: u16) -> bool
+        ensures { λ r. ⌜ r ≡ field5Fits self cnt ⌝ }
+    {
+        let command = self.command;
+        if !has_field5(command) {
+            return false;
+        }
+        if 16 <= self.address {
+            return false;
+        }
+        if length(command, cnt) <= self.count {
+            return false;
+        }
+        if keeps_bits(command) {
+            return self.held < power(self.count);
+        }
+        true
+    }
+}
+
+// Two to the power of a count of bits.
+fn power(count: u32) -> u32
+    requires { ⌜ count < 32 ⌝ }
+    ensures { λ r. ⌜ r ≡ 2 ^ count ⌝ }
+{
+    1 << count
+}
+
+// Whether the command has a Field 5.
+fn has_field5(command: u8) -> bool
+    ensures { λ r. ⌜ r ≡ hasField5 command ⌝ }
+{
+    if command <= 6 {
+        return true;
+    }
+    command == 10
+}
+
+// Whether the command keeps the bits of its Field 5.
+fn keeps_bits(command: u8) -> bool
+    ensures { λ r. ⌜ r ≡ keeps command ⌝ }
+{
+    match command {
+        0 => true,
+        2 => true,
+        10 => true,
+        _ => false,
+    }
+}
+
+// Whether a sound state may hold this recogniser, by the present contents of the CNT register.
+pub fn fit(r: Recogniser, cnt: u16) -> bool
+    ensures { λ o. ⌜ o ≡ fitOf r cnt ⌝ }
+{
+    let phase = r.phase;
+    match phase {
+        Phase::Hunt => r.shift < 32,
+        Phase::Body => r.nibble_fits(),
+        Phase::Field3 => r.nibble_fits(),
+        Phase::Field4 => r.field4_fits(),
+        Phase::Field5 => r.field5_fits(cnt),
     }
 }

@@ -1,19 +1,20 @@
 -- What it means that the taking call gives a row of the table (document 01, "Streams with their records").
 -- Assumes nothing.
 use mathlib.Core.Path.{_≡_}
-use mathlib.Core.Bool.{true, false}
+use mathlib.Core.Bool.{true}
 use mathlib.Core.List.{List, [], _∷_, _++_, map}
-use Prim.Native.Nat.{ℕ, zero, suc, _+_, _*_, _^_, _-_}
+use Prim.Native.Nat.{ℕ, zero, suc}
 use lib.ListN.{length, replicate, set, take, drop}
 use Rattle.bits.specs.Bits.{numberOf}
 use Rattle.model.specs.Plan.{defaultPlan}
 use Rattle.model.specs.Commands.{withRunning, withRegisters}
 use Rattle.decoder.specs.declared.Decoder.{Decoder}
 use Rattle.decoder.specs.Limits.{storeLength, trayLength}
+use Rattle.decoder.specs.Entries.{entryWords}
 use Rattle.decoder.specs.Opening.{openedAt}
-use Rattle.decoder.specs.Take.{Call, Left, takeOf, endingNumber}
+use Rattle.decoder.specs.Take.{Call, takeOf, endingNumber}
 use Rattle.decoder.specs.Calls.{wordsStanding}
-use Rattle.streams.specs.Table.{Rec, Row, table}
+use Rattle.streams.specs.Table.{Row, table}
 
 -- Bits packed into bytes, highest bit first, the last byte filled up with zeros.
 abbrev pub packed : ℕ → List ℕ → List ℕ
@@ -49,17 +50,13 @@ pub record Shown : Type 0 where
   pub bits : ℕ
   pub words : List ℕ
 
-abbrev pub words : List Rec → List ℕ
-words [] = []
-words (r ∷ rs) = (r .time * 65536 + r .kind * 256 + r .flags) ∷ r .value ∷ words rs
-
 abbrev pub shown : Row → Shown
 shown r =
     let told = takeOf (running (r .cnt)) (callFor (r .bits)) .taken .told in
     record { refusal = endingNumber (told .ending); bits = told .bits; words = wordsStanding (running (r .cnt)) (callFor (r .bits)) }
 
 abbrev pub asMarked : Row → Shown
-asMarked r = record { refusal = 0; bits = length (r .bits); words = words (r .records) }
+asMarked r = record { refusal = 0; bits = length (r .bits); words = entryWords (r .records) }
 
 -- Every row, together.
 abbrev pub MarkedStreams : Type 0

@@ -7,6 +7,7 @@ mod lines;
 mod paper;
 
 pub use generated::generated;
+pub use paper::RECEIVED;
 
 use crate::compose::Stream;
 

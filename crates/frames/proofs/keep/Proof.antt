@@ -4,9 +4,6 @@ use Rattle.frames.specs.Tray.{trayOf}
 use borrow.Author.Needs.{needs}
 use Rattle.frames.proofs.keep.Statement.{statement}
 use Rattle.frames.proofs.keep.Tie as tie
-use Rattle.frames.proofs.keep.Reads as reads
-use Rattle.frames.proofs.keep.Lts as lts
-use Rattle.frames.proofs.store_bit.Reads as store-bit-reads
 
 enum-known-event : tie.Need-enum-known-event
 enum-known-event c = search needs

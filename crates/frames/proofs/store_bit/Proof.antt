@@ -6,9 +6,6 @@ use borrow.Author.Tests.{eq-eqb, ne-eqb}
 use borrow.Author.Needs.{needs}
 use Rattle.frames.proofs.store_bit.Statement.{statement}
 use Rattle.frames.proofs.store_bit.Tie as tie
-use Rattle.frames.proofs.store_bit.Reads as reads
-use Rattle.frames.proofs.store_bit.Lts as lts
-use Rattle.frames.proofs.with_bit.Reads as with-bit-reads
 
 cast-at : tie.Need-cast-at
 cast-at c = search needs

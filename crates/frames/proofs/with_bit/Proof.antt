@@ -9,8 +9,6 @@ use borrow.Author.Tests.{eq-eqb, ne-eqb}
 use Rattle.frames.proofs.Weights.{Put, put}
 use Rattle.frames.proofs.with_bit.Statement.{statement}
 use Rattle.frames.proofs.with_bit.Tie as tie
-use Rattle.frames.proofs.with_bit.Reads as reads
-use Rattle.frames.proofs.with_bit.Lts as lts
 
 known : (c : tie.Start) → Put (c .args .byte) 1 (2 ^ (7 - c .args .place))
 known c = put (c .args .byte) 1 (lit< tt) (c .args .place) (c .pre)

@@ -1,3 +1,4 @@
+use borrow.Author.Tests.{lt-ltb, le-ltb, le-leb, lt-leb, eq-eqb, ne-eqb}
 use borrow.Author.Needs.{needs}
 use Rattle.model.proofs.frame_value.Statement.{statement}
 use Rattle.model.proofs.frame_value.Tie as tie
@@ -10,7 +11,7 @@ mul-result c = search needs
 
 -- src/lib.rt:123:9
 returns : tie.Need-returns
-returns c = ?
+returns c = simp (eq-eqb _ _ (c .if1 .taken))
 
 -- src/lib.rt:125:5
 mul-result-2 : tie.Need-mul-result-2
@@ -26,7 +27,7 @@ add-result c = search needs
 
 -- src/lib.rt:118:1
 returns-2 : tie.Need-returns-2
-returns-2 c = ?
+returns-2 c = simp (ne-eqb _ _ (c .if1 .left))
 
 pub frame-value-spec : {M : Type 1} → statement M
 frame-value-spec =

@@ -1,3 +1,9 @@
+use Rattle.model.proofs.Writes.{Going, begun, kept, put, again, over}
+use lib.ListN.{length-set}
+use mathlib.Core.Logic.{⊎-elim}
+use mathlib.Core.Path.{refl}
+use Prim.Native.Nat.{_-_}
+use borrow.Author.Needs.{needs}
 use Rattle.model.proofs.write_all.Statement.{statement}
 use Rattle.model.proofs.write_all.Tie as tie
 use Rattle.model.proofs.write_all.Reads as reads
@@ -5,74 +11,81 @@ use Rattle.model.proofs.write_all.Lts as lts
 use Rattle.model.proofs.moved_on.Reads as moved-on-reads
 
 abbrev Inv-loop : tie.InvT-loop
-Inv-loop feen word store₀ p₀ n₀ store p n = ?
+Inv-loop feen word store₀ p₀ n₀ store p n = Going feen word store₀ p₀ store p n
 
 abbrev μ-loop : tie.MeasureT-loop
-μ-loop feen word store₀ p₀ n₀ store p n = ?
+μ-loop feen word store₀ p₀ n₀ store p n = 16 - n
 
 -- src/lib.rt:141:5
 loop-holds : tie.Need-loop-holds Inv-loop μ-loop
-loop-holds c = ?
+loop-holds c = begun _ _ _ _ (search needs) (search needs)
 
 -- src/lib.rt:142:20
 cast-if1 : tie.Need-cast-if1 Inv-loop μ-loop
-cast-if1 c = ?
+cast-if1 c = search needs
 
 -- src/lib.rt:142:12
 shr-if1 : tie.Need-shr-if1 Inv-loop μ-loop
-shr-if1 c = ?
+shr-if1 c = search needs
 
 -- src/lib.rt:143:27
 array-read-pointer : tie.Need-array-read-pointer Inv-loop μ-loop
-array-read-pointer c = ?
+array-read-pointer c = search needs
 
 -- src/lib.rt:144:19
 mul-store : tie.Need-mul-store Inv-loop μ-loop
-mul-store c = ?
+mul-store c = search needs
 
 -- src/lib.rt:144:29
 cast-store : tie.Need-cast-store Inv-loop μ-loop
-cast-store c = ?
+cast-store c = search needs
 
 -- src/lib.rt:144:19
 add-store : tie.Need-add-store Inv-loop μ-loop
-add-store c = ?
+add-store c = search needs
 
 -- src/lib.rt:144:13
 mul-store-2 : tie.Need-mul-store-2 Inv-loop μ-loop
-mul-store-2 c = ?
+mul-store-2 c = search needs
 
 -- src/lib.rt:144:13
 slice-write-store : tie.Need-slice-write-store Inv-loop μ-loop
-slice-write-store c = ?
+slice-write-store c = search needs
 
 -- src/lib.rt:145:20
 moved-on-requires : tie.Need-moved-on-requires Inv-loop μ-loop
-moved-on-requires c κs = ?
+moved-on-requires c κs = search needs
 
 -- src/lib.rt:145:13
 array-write-p : tie.Need-array-write-p Inv-loop μ-loop
-array-write-p c = ?
+array-write-p c = search needs
 
 -- src/lib.rt:147:13
 add-n : tie.Need-add-n Inv-loop μ-loop
-add-n c = ?
+add-n c = search needs
 
 -- src/lib.rt:141:5
 loop-less : tie.Need-loop-less Inv-loop μ-loop
-loop-less c = ?
+loop-less c = search needs
 
 -- src/lib.rt:141:5
 loop-again : tie.Need-loop-again Inv-loop μ-loop
-loop-again c = ?
+loop-again c =
+    let a = c .before .before .before .before .args in
+    let l = c .before .before .loop in
+    let more = c .before .loop-test .taken in
+    ⊎-elim
+    (λ w. rw (w .2, w .3, w .1 .ensures) (again (l .inv) more _ _ (length-set (l .store) _ _) (length-set (l .p) _ _) (put (a .feen) (a .word) (l .store) (l .p) (l .n) (w .0 .taken))))
+    (λ w. rw (w .1, w .2) (again (l .inv) more _ _ refl refl (kept (a .feen) (a .word) (l .store) (l .p) (l .n) (w .0 .left))))
+    (c .if1 .came)
 
 -- src/lib.rt:135:1
 same-length : tie.Need-same-length Inv-loop μ-loop
-same-length c = ?
+same-length c = c .before .loop .inv .same
 
 -- src/lib.rt:135:1
 returns : tie.Need-returns Inv-loop μ-loop
-returns c = ?
+returns c = over (c .before .loop .inv) (c .loop-test .left)
 
 pub write-all-spec : {M : Type 1} → statement M
 write-all-spec =

@@ -15,9 +15,18 @@ returns-3 : tie.Need-returns-3
 returns-3 c = rw (c .match .keys3)
 
 returns-4 : tie.Need-returns-4
-returns-4 c = 
+returns-4 c =
     let n = c .match .rest in
-    simp (ne-eqb _ _ (n .0 .0 .1), ne-eqb _ _ (λ e. n .0 .1 (inl e)), ne-eqb _ _ (λ e. n .0 .1 (inr (inl e))), ne-eqb _ _ (λ e. n .0 .1 (inr (inr (inl e)))), ne-eqb _ _ (λ e. n .0 .1 (inr (inr (inr (inl e))))), ne-eqb _ _ (λ e. n .0 .1 (inr (inr (inr (inr e))))), ne-eqb _ _ (n .1))
+    let m = n .0 .1 in
+    simp (
+      ne-eqb _ _ (n .0 .0 .1),
+      ne-eqb _ _ (λ e. m (inl e)),
+      ne-eqb _ _ (λ e. m (inr (inl e))),
+      ne-eqb _ _ (λ e. m (inr (inr (inl e)))),
+      ne-eqb _ _ (λ e. m (inr (inr (inr (inl e))))),
+      ne-eqb _ _ (λ e. m (inr (inr (inr (inr e))))),
+      ne-eqb _ _ (n .1),
+    )
 
 pub classify-spec : {M : Type 1} → statement M
 classify-spec = tie.close (tie.spec returns returns-2 returns-3 returns-4)

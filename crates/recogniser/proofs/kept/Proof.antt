@@ -19,7 +19,7 @@ add-result : tie.Need-add-result
 add-result c = search needs
 
 returns-3 : tie.Need-returns-3
-returns-3 c = 
+returns-3 c =
     let s = c .before .before in
     simp (ne-eqb _ _ (c .before .if1 .left), ne-eqb _ _ (c .if2 .left), doubled (s .args .held) (s .args .bit) (s .pre))
 

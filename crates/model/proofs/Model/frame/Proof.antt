@@ -1,3 +1,5 @@
+use Rattle.model.proofs.Facts.{cond-le}
+use native.Mathlib.Omega.{arith}
 use borrow.Author.Needs.{needs}
 use Rattle.model.proofs.Model.frame.Statement.{statement}
 use Rattle.model.proofs.Model.frame.Tie as tie
@@ -22,7 +24,7 @@ flag-requires c κs = search needs
 
 -- src/lib.rt:466:21
 add-flags : tie.Need-add-flags
-add-flags c = ?
+add-flags c = omega (arith, c .flag .ensures, cond-le (c .before .before .before .args .unsteady) 16)
 
 -- src/lib.rt:467:28
 add-answer : tie.Need-add-answer
@@ -34,7 +36,7 @@ answer-requires c κs = search needs
 
 -- src/lib.rt:461:5
 returns : tie.Need-returns
-returns c = ?
+returns c = simp (c .answer .ensures, c .before .flag .ensures, c .before .before .frame-value .ensures, c .before .before .before .cnt .ensures)
 
 pub frame-spec : {M : Type 1} → statement M
 frame-spec =

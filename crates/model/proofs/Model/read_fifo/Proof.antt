@@ -53,7 +53,7 @@ answer-requires c κs = search needs
 
 -- src/lib.rt:400:5
 returns : tie.Need-returns
-returns c = ?
+returns c = simp (c .answer .ensures, c .before .moved-on .ensures, c .before .before .read-word .ensures)
 
 pub read-fifo-spec : {M : Type 1} → statement M
 read-fifo-spec =

@@ -1,3 +1,4 @@
+use borrow.Author.Tests.{lt-ltb, le-ltb, le-leb, lt-leb, eq-eqb, ne-eqb, not-true, not-false}
 use borrow.Author.Needs.{needs}
 use Rattle.model.proofs.Model.read_register.Statement.{statement}
 use Rattle.model.proofs.Model.read_register.Tie as tie
@@ -25,7 +26,7 @@ answer-requires c κs = search needs
 
 -- src/lib.rt:381:13
 returns : tie.Need-returns
-returns c = ?
+returns c = simp (← c .before .before .exists-at .ensures, not-true (c .before .before .exists-at .result) (c .before .if1 .taken), c .answer .ensures)
 
 -- src/lib.rt:383:13
 read-requires : tie.Need-read-requires
@@ -49,7 +50,7 @@ answer-requires-2 c κs = search needs
 
 -- src/lib.rt:375:5
 returns-2 : tie.Need-returns-2
-returns-2 c = ?
+returns-2 c = simp (← c .before .before .before .exists-at .ensures, not-false (c .before .before .before .exists-at .result) (c .before .before .if1 .left), c .answer2 .ensures, c .before .read .ensures)
 
 pub read-register-spec : {M : Type 1} → statement M
 read-register-spec =

@@ -1,3 +1,6 @@
+use mathlib.Core.Path.{_≡_, sym}
+use lib.ListN.{length, List·getD-eq-default}
+use native.Mathlib.Omega.{arith}
 use borrow.Author.Needs.{needs}
 use Rattle.model.proofs.Model.register.Statement.{statement}
 use Rattle.model.proofs.Model.register.Tie as tie
@@ -6,7 +9,9 @@ use Rattle.model.proofs.Model.register.Lts as lts
 
 -- src/lib.rt:234:13
 returns : tie.Need-returns
-returns c = ?
+returns c =
+    let h : length (c .before .args .self .registers) ≡ 16 = search needs in
+    sym (List·getD-eq-default (c .before .args .self .registers) 0 {n = c .before .args .address} (omega arith))
 
 -- src/lib.rt:237:9
 mul-result : tie.Need-mul-result

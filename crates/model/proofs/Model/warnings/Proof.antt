@@ -1,3 +1,5 @@
+use native.Mathlib.Omega.{arith}
+use Rattle.model.proofs.Facts.{cond-le}
 use borrow.Author.Needs.{needs}
 use Rattle.model.proofs.Model.warnings.Statement.{statement}
 use Rattle.model.proofs.Model.warnings.Tie as tie
@@ -19,11 +21,11 @@ flag-requires-3 c κs = search needs
 
 -- src/lib.rt:267:10
 add-result : tie.Need-add-result
-add-result c = ?
+add-result c = omega (arith, cond-le (c .before .before .before .args .self .wlv1) 1, cond-le (c .before .before .before .args .self .wfst) 2)
 
 -- src/lib.rt:267:10
 add-result-2 : tie.Need-add-result-2
-add-result-2 c = ?
+add-result-2 c = omega (arith, cond-le (c .before .before .before .args .self .wlv1) 1, cond-le (c .before .before .before .args .self .wfst) 2, cond-le (c .before .before .before .args .self .wslw) 4)
 
 -- src/lib.rt:267:9
 cast-result : tie.Need-cast-result

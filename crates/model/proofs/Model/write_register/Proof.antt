@@ -1,3 +1,6 @@
+use Rattle.model.proofs.Facts.{exists-low}
+use mathlib.Core.Path.{sym, _∙_}
+use borrow.Author.Tests.{lt-ltb, le-ltb, le-leb, lt-leb, eq-eqb, ne-eqb, not-true, not-false}
 use borrow.Author.Needs.{needs}
 use Rattle.model.proofs.Model.write_register.Statement.{statement}
 use Rattle.model.proofs.Model.write_register.Tie as tie
@@ -37,7 +40,7 @@ answer-requires c κs = search needs
 
 -- src/lib.rt:368:13
 returns : tie.Need-returns
-returns c = ?
+returns c = simp (← c .before .before .exists-at .ensures, not-true (c .before .before .exists-at .result) (c .before .if1 .taken), c .answer .ensures)
 
 -- src/lib.rt:371:41
 stored-requires : tie.Need-stored-requires
@@ -49,7 +52,7 @@ mul-m c = search needs
 
 -- src/lib.rt:371:9
 element-write-m : tie.Need-element-write-m
-element-write-m c = ?
+element-write-m c = exists-low (c .before .before .before .args .plan) _ (sym (c .before .before .exists-at .ensures) ∙ not-false (c .before .before .exists-at .result) (c .before .if1 .left))
 
 -- src/lib.rt:372:25
 add-answer-2 : tie.Need-add-answer-2
@@ -61,7 +64,7 @@ answer-requires-2 c κs = search needs
 
 -- src/lib.rt:361:5
 returns-2 : tie.Need-returns-2
-returns-2 c = ?
+returns-2 c = simp (← c .before .before .before .exists-at .ensures, not-false (c .before .before .before .exists-at .result) (c .before .before .if1 .left), c .answer2 .ensures, c .before .stored .ensures)
 
 pub write-register-spec : {M : Type 1} → statement M
 write-register-spec =

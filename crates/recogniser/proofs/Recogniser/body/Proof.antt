@@ -12,28 +12,58 @@ gather-requires : tie.Need-gather-requires
 gather-requires c κs = search needs
 
 returns : tie.Need-returns
-returns c = simp (← c .before .before .before .nibble-with .ensures, lt-ltb _ _ (c .before .if1 .taken), c .gather .ensures)
+returns c =
+    let c3 = c .before .before .before in
+    simp (← c3 .nibble-with .ensures, lt-ltb _ _ (c .before .if1 .taken), c .gather .ensures)
 
 is-fast-requires : tie.Need-is-fast-requires
 is-fast-requires c κs = search needs
 
+hunting-requires : tie.Need-hunting-requires
+hunting-requires c κs = search needs
+
+returns-2 : tie.Need-returns-2
+returns-2 c =
+    let c3 = c .before .before .before in
+    simp (
+      ← c3 .before .before .nibble-with .ensures,
+      le-ltb _ _ (c3 .if1 .left),
+      ← c .before .before .is-fast .ensures,
+      c .before .if2 .taken,
+      c .hunting .ensures,
+    )
+
 start-requires : tie.Need-start-requires
 start-requires c κs = search needs
 
-returns-2 : tie.Need-returns-2
-returns-2 c = simp (← c .before .before .before .before .before .nibble-with .ensures, le-ltb _ _ (c .before .before .before .if1 .left), ← c .before .before .is-fast .ensures, c .before .if2 .taken, c .start .ensures)
-
-start-requires-2 : tie.Need-start-requires-2
-start-requires-2 c κs = search needs
-
 returns-3 : tie.Need-returns-3
-returns-3 c = simp (← c .before .before .before .before .before .before .nibble-with .ensures, le-ltb _ _ (c .before .before .before .before .if1 .left), ← c .before .before .before .is-fast .ensures, c .before .before .if2 .left, eq-eqb _ _ (c .before .if3 .taken), c .start2 .ensures)
+returns-3 c =
+    let c3 = c .before .before .before in
+    let c6 = c3 .before .before .before in
+    simp (
+      ← c6 .nibble-with .ensures,
+      le-ltb _ _ (c3 .before .if1 .left),
+      ← c3 .is-fast .ensures,
+      c .before .before .if2 .left,
+      eq-eqb _ _ (c .before .if3 .taken),
+      c .start .ensures,
+    )
 
-start-requires-3 : tie.Need-start-requires-3
-start-requires-3 c κs = search needs
+hunting-requires-2 : tie.Need-hunting-requires-2
+hunting-requires-2 c κs = search needs
 
 returns-4 : tie.Need-returns-4
-returns-4 c = simp (← c .before .before .before .before .before .before .nibble-with .ensures, le-ltb _ _ (c .before .before .before .before .if1 .left), ← c .before .before .before .is-fast .ensures, c .before .before .if2 .left, ne-eqb _ _ (c .before .if3 .left), c .start3 .ensures)
+returns-4 c =
+    let c3 = c .before .before .before in
+    let c6 = c3 .before .before .before in
+    simp (
+      ← c6 .nibble-with .ensures,
+      le-ltb _ _ (c3 .before .if1 .left),
+      ← c3 .is-fast .ensures,
+      c .before .before .if2 .left,
+      ne-eqb _ _ (c .before .if3 .left),
+      c .hunting2 .ensures,
+    )
 
 pub body-spec : {M : Type 1} → statement M
 body-spec =
@@ -43,9 +73,9 @@ body-spec =
     gather-requires
     returns
     is-fast-requires
-    start-requires
+    hunting-requires
     returns-2
-    start-requires-2
+    start-requires
     returns-3
-    start-requires-3
+    hunting-requires-2
     returns-4)

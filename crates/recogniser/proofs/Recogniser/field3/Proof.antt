@@ -12,13 +12,17 @@ gather-requires : tie.Need-gather-requires
 gather-requires c κs = search needs
 
 returns : tie.Need-returns
-returns c = simp (← c .before .before .before .nibble-with .ensures, lt-ltb _ _ (c .before .if1 .taken), c .gather .ensures)
+returns c =
+    let c3 = c .before .before .before in
+    simp (← c3 .nibble-with .ensures, lt-ltb _ _ (c .before .if1 .taken), c .gather .ensures)
 
 start-requires : tie.Need-start-requires
 start-requires c κs = search needs
 
 returns-2 : tie.Need-returns-2
-returns-2 c = simp (← c .before .before .before .nibble-with .ensures, le-ltb _ _ (c .before .if1 .left), c .start .ensures)
+returns-2 c =
+    let c3 = c .before .before .before in
+    simp (← c3 .nibble-with .ensures, le-ltb _ _ (c .before .if1 .left), c .start .ensures)
 
 pub field3-spec : {M : Type 1} → statement M
 field3-spec =

@@ -12,7 +12,9 @@ gather-requires : tie.Need-gather-requires
 gather-requires c κs = search needs
 
 returns : tie.Need-returns
-returns c = simp (← c .before .before .before .nibble-with .ensures, lt-ltb _ _ (c .before .if1 .taken), c .gather .ensures)
+returns c =
+    let c3 = c .before .before .before in
+    simp (← c3 .nibble-with .ensures, lt-ltb _ _ (c .before .if1 .taken), c .gather .ensures)
 
 length-requires : tie.Need-length-requires
 length-requires c κs = search needs
@@ -21,25 +23,56 @@ start-requires : tie.Need-start-requires
 start-requires c κs = search needs
 
 returns-2 : tie.Need-returns-2
-returns-2 c = simp (← c .before .before .before .before .before .nibble-with .ensures, le-ltb _ _ (c .before .before .before .if1 .left), ← c .before .before .length .ensures, lt-ltb _ _ (c .before .if2 .taken), c .start .ensures)
+returns-2 c =
+    let c3 = c .before .before .before in
+    simp (
+      ← c3 .before .before .nibble-with .ensures,
+      le-ltb _ _ (c3 .if1 .left),
+      ← c .before .before .length .ensures,
+      lt-ltb _ _ (c .before .if2 .taken),
+      c .start .ensures,
+    )
 
 is-frame-requires : tie.Need-is-frame-requires
 is-frame-requires c κs = search needs
 
-start-requires-2 : tie.Need-start-requires-2
-start-requires-2 c κs = search needs
+hunting-requires : tie.Need-hunting-requires
+hunting-requires c κs = search needs
 
 returns-3 : tie.Need-returns-3
-returns-3 c = simp (← c .before .before .before .before .before .before .before .nibble-with .ensures, le-ltb _ _ (c .before .before .before .before .before .if1 .left), ← c .before .before .before .before .length .ensures, le-ltb _ _ (c .before .before .before .if2 .left), ← c .before .before .is-frame .ensures, c .before .if3 .taken, c .start2 .ensures)
-
-start-requires-3 : tie.Need-start-requires-3
-start-requires-3 c κs = search needs
+returns-3 c =
+    let c3 = c .before .before .before in
+    let c6 = c3 .before .before .before in
+    simp (
+      ← c6 .before .nibble-with .ensures,
+      le-ltb _ _ (c3 .before .before .if1 .left),
+      ← c3 .before .length .ensures,
+      le-ltb _ _ (c3 .if2 .left),
+      ← c .before .before .is-frame .ensures,
+      c .before .if3 .taken,
+      c .hunting .ensures,
+    )
 
 slow-requires : tie.Need-slow-requires
 slow-requires c κs = search needs
 
+hunting-requires-2 : tie.Need-hunting-requires-2
+hunting-requires-2 c κs = search needs
+
 returns-4 : tie.Need-returns-4
-returns-4 c = simp (← c .before .before .before .before .before .before .before .before .nibble-with .ensures, le-ltb _ _ (c .before .before .before .before .before .before .if1 .left), ← c .before .before .before .before .before .length .ensures, le-ltb _ _ (c .before .before .before .before .if2 .left), ← c .before .before .before .is-frame .ensures, c .before .before .if3 .left, c .before .start3 .ensures, c .slow .ensures)
+returns-4 c =
+    let c3 = c .before .before .before in
+    let c6 = c3 .before .before .before in
+    simp (
+      ← c6 .before .before .nibble-with .ensures,
+      le-ltb _ _ (c6 .if1 .left),
+      ← c3 .before .before .length .ensures,
+      le-ltb _ _ (c3 .before .if2 .left),
+      ← c3 .is-frame .ensures,
+      c .before .before .if3 .left,
+      c .before .slow .ensures,
+      c .hunting2 .ensures,
+    )
 
 pub field4-spec : {M : Type 1} → statement M
 field4-spec =
@@ -52,8 +85,8 @@ field4-spec =
     start-requires
     returns-2
     is-frame-requires
-    start-requires-2
+    hunting-requires
     returns-3
-    start-requires-3
     slow-requires
+    hunting-requires-2
     returns-4)

@@ -13,29 +13,50 @@ classify-requires c κs = search needs
 enum-told : tie.Need-enum-told
 enum-told c = search needs
 
-start-requires : tie.Need-start-requires
-start-requires c κs = search needs
+hunting-requires : tie.Need-hunting-requires
+hunting-requires c κs = search needs
 
 enum-known-m : tie.Need-enum-known-m
 enum-known-m c = search needs
 
-start-requires-2 : tie.Need-start-requires-2
-start-requires-2 c κs = search needs
+hunting-requires-2 : tie.Need-hunting-requires-2
+hunting-requires-2 c κs = search needs
 
 enum-told-2 : tie.Need-enum-told-2
 enum-told-2 c = search needs
 
-start-requires-3 : tie.Need-start-requires-3
-start-requires-3 c κs = search needs
+start-requires : tie.Need-start-requires
+start-requires c κs = search needs
 
 returns : tie.Need-returns
-returns c = simp (← c .before .before .before .before .window-with .ensures, ← c .before .before .before .classify .ensures, c .before .enum-told .given .1, c .start .ensures)
+returns c =
+    let c3 = c .before .before .before in
+    simp (
+      ← c3 .before .window-with .ensures,
+      ← c3 .classify .ensures,
+      c .before .enum-told .given .1,
+      c .hunting .ensures,
+    )
 
 returns-2 : tie.Need-returns-2
-returns-2 c = simp (← c .before .before .before .before .before .window-with .ensures, ← c .before .before .before .before .classify .ensures, c .before .before .m .given .1, c .start2 .ensures)
+returns-2 c =
+    let c3 = c .before .before .before in
+    simp (
+      ← c3 .before .before .window-with .ensures,
+      ← c3 .before .classify .ensures,
+      c .before .before .m .given .1,
+      c .hunting2 .ensures,
+    )
 
 returns-3 : tie.Need-returns-3
-returns-3 c = simp (← c .before .before .before .before .window-with .ensures, ← c .before .before .before .classify .ensures, c .before .enum-told2 .given .1, c .start3 .ensures)
+returns-3 c =
+    let c3 = c .before .before .before in
+    simp (
+      ← c3 .before .window-with .ensures,
+      ← c3 .classify .ensures,
+      c .before .enum-told2 .given .1,
+      c .start .ensures,
+    )
 
 pub hunt-spec : {M : Type 1} → statement M
 hunt-spec =
@@ -44,11 +65,11 @@ hunt-spec =
     window-with-requires
     classify-requires
     enum-told
-    start-requires
+    hunting-requires
     enum-known-m
-    start-requires-2
+    hunting-requires-2
     enum-told-2
-    start-requires-3
+    start-requires
     returns
     returns-2
     returns-3)

@@ -25,7 +25,9 @@ with-requires : tie.Need-with-requires
 with-requires c κs = search needs
 
 returns-3 : tie.Need-returns-3
-returns-3 c = simp (ne-eqb _ _ (c .before .before .before .before .if1 .left), c .before .before .before .if2 .left, ← c .before .with .ensures, differs)
+returns-3 c =
+    let c3 = c .before .before .before in
+    simp (ne-eqb _ _ (c3 .before .if1 .left), c3 .if2 .left, ← c .before .with .ensures, differs)
 
 pub unsteady-with-spec : {M : Type 1} → statement M
 unsteady-with-spec = tie.close (tie.spec returns returns-2 with-requires returns-3)

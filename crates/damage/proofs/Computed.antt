@@ -1,0 +1,52 @@
+-- Finite facts as computed equations: a function's values in a list, and its value at a variable read off that list.
+-- Assumes nothing.
+use mathlib.Core.Path.{_≡_}
+use mathlib.Core.Bool.{Bool, true, false, cond, not, _&&_}
+use mathlib.Core.List.{List, [], _∷_}
+use Prim.Native.Nat.{ℕ, zero, suc, _<_}
+use native.Mathlib.Nat.{le-of-suc-le-suc, not-suc-le-zero}
+use lib.Dec.{T}
+use Rattle.damage.specs.Commands.{Command, lv1, bcr, ecr, cal, sync}
+
+module _ {A : Type 0} where
+  -- the values below n
+  abbrev pub below : ℕ → (ℕ → A) → List A
+  below zero f = []
+  below (suc n) f = f 0 ∷ below n (λ k. f (suc k))
+
+  pub below-at : (n : ℕ) (f g : ℕ → A) → below n f ≡ below n g → (k : ℕ) → k < n → f k ≡ g k
+  below-at zero f g e k h = absurd (not-suc-le-zero h)
+  below-at (suc n) f g e zero h = cc
+  below-at (suc n) f g e (suc k) h =
+      let rest : below n (λ k. f (suc k)) ≡ below n (λ k. g (suc k)) = cc in
+      below-at n (λ k. f (suc k)) (λ k. g (suc k)) rest k (le-of-suc-le-suc h)
+
+  -- the values at each command
+  abbrev pub each : (Command → A) → List A
+  each f = f lv1 ∷ f bcr ∷ f ecr ∷ f cal ∷ f sync ∷ []
+
+  pub each-at : (f g : Command → A) → each f ≡ each g → (c : Command) → f c ≡ g c
+  each-at f g e lv1 = cc
+  each-at f g e bcr = cc
+  each-at f g e ecr = cc
+  each-at f g e cal = cc
+  each-at f g e sync = cc
+
+-- A choice by a test, taken apart.
+module _ {A : Type 0} where
+  pub by-test : (P : A → Type 0) (b : Bool) (x y : A) → (T b → P x) → (T (not b) → P y) → P (cond b x y)
+  by-test P true x y f g = f tt
+  by-test P false x y f g = g tt
+
+  pub by-both : {B : Type 0} (P : A → B → Type 0) (b : Bool) (x y : A) (u v : B) → (T b → P x u) → (T (not b) → P y v) → P (cond b x y) (cond b u v)
+  by-both P true x y u v f g = f tt
+  by-both P false x y u v f g = g tt
+
+-- Both of two tests.
+pub and-left : (a b : Bool) → T (a && b) → T a
+and-left true b t = tt
+and-left false b t = t
+
+pub and-right : (a b : Bool) → T (a && b) → T b
+and-right true b t = t
+and-right false b t = absurd t

@@ -1,0 +1,42 @@
+-- The commands of a clean stream and their bits (document 01, "The damage table"; the chip paper's Table 1-1).
+-- Assumes nothing.
+use mathlib.Core.Bool.{Bool, true, false}
+use mathlib.Core.List.{List, [], _∷_, _++_}
+use Prim.Native.Nat.{ℕ}
+use lib.ListN.{length}
+use Rattle.recogniser.specs.declared.Event.{Event}
+use Rattle.recogniser.specs.declared.Event.the-variants.{Lv1, Fast}
+
+-- "Its commands are the exact LV1, BCR, ECR, CAL and SYNC".
+pub data Command : Type 0 where
+  lv1 bcr ecr cal sync : Command
+
+-- The header of a Fast command.
+abbrev pub header : List ℕ
+header = 1 ∷ 0 ∷ 1 ∷ 1 ∷ 0 ∷ []
+
+abbrev pub codeOf : Command → List ℕ
+codeOf lv1 = 1 ∷ 1 ∷ 1 ∷ 0 ∷ 1 ∷ []
+codeOf bcr = header ++ (0 ∷ 0 ∷ 0 ∷ 1 ∷ [])
+codeOf ecr = header ++ (0 ∷ 0 ∷ 1 ∷ 0 ∷ [])
+codeOf cal = header ++ (0 ∷ 1 ∷ 0 ∷ 0 ∷ [])
+codeOf sync = header ++ (1 ∷ 0 ∷ 0 ∷ 0 ∷ [])
+
+-- How many bits a command has.
+abbrev pub widthOf : Command → ℕ
+widthOf c = length (codeOf c)
+
+abbrev pub isFastCommand : Command → Bool
+isFastCommand lv1 = false
+isFastCommand bcr = true
+isFastCommand ecr = true
+isFastCommand cal = true
+isFastCommand sync = true
+
+-- What a whole command asks for at its last bit.
+abbrev pub eventOf : Command → Event
+eventOf lv1 = Lv1 false
+eventOf bcr = Fast 0b0001
+eventOf ecr = Fast 0b0010
+eventOf cal = Fast 0b0100
+eventOf sync = Fast 0b1000

@@ -1,0 +1,107 @@
+-- The damage table as data, and the affected command (document 01, "The damage table").
+-- Assumes nothing.
+use mathlib.Core.Bool.{Bool, true, false, cond, _&&_, _||_}
+use mathlib.Core.List.{List, [], _∷_}
+use Prim.Native.Nat.{ℕ, suc, _+_, _-_}
+use lib.Dec.{eqb, ltb, leb}
+use lib.ListN.{drop}
+use Rattle.bits.specs.Bits.{numberOf}
+use Rattle.recogniser.specs.declared.Event.{Event}
+use Rattle.recogniser.specs.declared.Event.the-variants.{Lv1, BadFast}
+use Rattle.damage.specs.Commands.{Command, lv1, bcr, ecr, cal, sync, codeOf, widthOf, isFastCommand, eventOf}
+use Rattle.damage.specs.Streams.{Item, itemSize, inverted}
+
+-- What the table's right column says: "flip at 5" and the like, "bad Fast, at 9", or "none".
+pub data Outcome : Type 0 where
+  none : Outcome
+  flipAt : ℕ → Outcome
+  exactAt : ℕ → Outcome
+  badFastAt : ℕ → Outcome
+
+-- A row: the commands it speaks of, the first and the last of its inverted bits, and what is recorded instead.
+pub record Row : Type 0 where
+  pub commands : List Command
+  pub from : ℕ
+  pub to : ℕ
+  pub outcome : Outcome
+
+abbrev pub row : List Command → ℕ → ℕ → Outcome → Row
+row commands from to outcome = record { commands = commands; from = from; to = to; outcome = outcome }
+
+abbrev pub fasts : List Command
+fasts = bcr ∷ ecr ∷ cal ∷ sync ∷ []
+
+-- The table, in the paper's order; a line that speaks of several commands apart is a row for each.
+abbrev pub table : List Row
+table =
+    row (lv1 ∷ []) 1 5 (flipAt 5)
+    ∷ row fasts 6 9 (badFastAt 9)
+    ∷ row (cal ∷ []) 1 1 (flipAt 7)
+    ∷ row (sync ∷ []) 1 1 (flipAt 6)
+    ∷ row (bcr ∷ ecr ∷ []) 1 1 none
+    ∷ row (bcr ∷ ecr ∷ cal ∷ []) 2 2 (flipAt 6)
+    ∷ row (sync ∷ []) 2 2 (exactAt 6)
+    ∷ row fasts 3 4 none
+    ∷ row (bcr ∷ ecr ∷ []) 5 5 (flipAt 7)
+    ∷ row (cal ∷ []) 5 5 (exactAt 7)
+    ∷ row (sync ∷ []) 5 5 (flipAt 8)
+    ∷ []
+
+abbrev pub zeroAhead : Outcome
+zeroAhead = flipAt 3
+
+-- Which command a name is.
+abbrev pub commandNumber : Command → ℕ
+commandNumber lv1 = 0
+commandNumber bcr = 1
+commandNumber ecr = 2
+commandNumber cal = 3
+commandNumber sync = 4
+
+abbrev pub among : Command → List Command → Bool
+among c [] = false
+among c (d ∷ ds) = eqb (commandNumber c) (commandNumber d) || among c ds
+
+abbrev pub speaksOf : Row → Command → ℕ → Bool
+speaksOf r c bit = among c (r .commands) && (leb (r .from) bit && leb bit (r .to))
+
+abbrev pub lookUp : List Row → Command → ℕ → Outcome
+lookUp [] c bit = none
+lookUp (r ∷ rs) c bit = cond (speaksOf r c bit) (r .outcome) (lookUp rs c bit)
+
+-- What stands in a command's place: nothing, or an event at one of its bits, counted from 1.
+pub data Instead : Type 0 where
+  nothing : Instead
+  at : ℕ → Event → Instead
+
+-- A bad Fast has the damaged body.
+abbrev pub damagedBody : Command → ℕ → ℕ
+damagedBody c bit = numberOf 0 (drop 5 (inverted (bit - 1) (codeOf c)))
+
+abbrev pub asInstead : Command → ℕ → Outcome → Instead
+asInstead c bit none = nothing
+asInstead c bit (flipAt p) = at p (Lv1 true)
+asInstead c bit (exactAt p) = at p (Lv1 false)
+asInstead c bit (badFastAt p) = at p (BadFast (damagedBody c bit))
+
+-- The command itself, at its last bit.
+abbrev pub itself : Command → Instead
+itself c = at (widthOf c) (eventOf c)
+
+-- A bit of the command inverted, counted from 1.
+abbrev pub damage : Command → ℕ → Instead
+damage c bit = asInstead c bit (lookUp table c bit)
+
+-- "for an inverted zero that no command holds, one or two cycles ahead of a Fast, that Fast; otherwise none"
+abbrev pub hitsFast : Command → ℕ → Bool
+hitsFast c distance = isFastCommand c && leb distance 2
+
+abbrev pub zeroDamage : Command → ℕ → Instead
+zeroDamage c distance = cond (hitsFast c distance) (asInstead c 0 zeroAhead) (itself c)
+
+-- "Affected: the command holding the inverted bit; or .. that Fast": of an item whose bit k is inverted, counted from 0 at the first of its zeros.
+abbrev pub affected : Item → ℕ → Bool
+affected i k = cond (ltb k (i .ahead)) (hitsFast (i .command) (i .ahead - k)) true
+
+abbrev pub insteadOf : Item → ℕ → Instead
+insteadOf i k = cond (ltb k (i .ahead)) (zeroDamage (i .command) (i .ahead - k)) (damage (i .command) (suc (k - i .ahead)))

@@ -1,0 +1,85 @@
+-- How a fact of every effect is shown: command by command, and for the model's arrays and base by what each event does to them.
+-- Assumes nothing.
+use mathlib.Core.Bool.{Bool, true, false, cond}
+use mathlib.Core.List.{List}
+use mathlib.Core.Path.{_≡_, refl}
+use Prim.Native.Nat.{ℕ, zero, suc, _+_, _/_, _%_, _^_}
+use lib.Dec.{eqb}
+use lib.ListN.{getD, set}
+use Rattle.recogniser.specs.declared.Event.{Event}
+use Rattle.recogniser.specs.declared.Event.the-variants as event
+use Rattle.model.specs.declared.Plan.{Plan}
+use Rattle.model.specs.declared.Model.{Model}
+use Rattle.model.specs.declared.Acted.{Acted}
+use Rattle.model.specs.Plan.{existsAt}
+use Rattle.model.specs.Registers.{feenOf, writtenOf}
+use Rattle.model.specs.Fifos.{Fifos, movedOn, pushOf, writeOf}
+use Rattle.model.specs.Commands.{Effect, effect, zeros16, fastEffect, writeRegisterOf, readRegisterOf, writeFifoOf, readFifoOf, enableOf, resetOf, resetFrontEndsOf, slowOf, actOf}
+
+-- Either side of a test.
+pub split : {A : Type 0} (P : A → Type 0) (b : Bool) {x y : A} → (b ≡ true → P x) → (b ≡ false → P y) → P (cond b x y)
+split P true p q = p refl
+split P false p q = q refl
+
+-- What each word written keeps, a WrFifo keeps.
+pub write-keeps : (P : Fifos → Type 0) → ((n word : ℕ) (f : Fifos) → P f → P (pushOf n word f))
+    → (k n feen word : ℕ) (f : Fifos) → P f → P (writeOf k n feen word f)
+unfolding writeOf
+write-keeps P push zero n feen word f p = p
+write-keeps P push (suc k) n feen word f p =
+    write-keeps P push k (n + 1) feen word _ (split P (eqb (feen / 2 ^ n % 2) 1) (λ _. push n word f p) (λ _. p))
+
+module _ (P : Effect → Type 0) (plan : Plan) (m : Model) (command address value time : ℕ) (store : List ℕ) where
+  pub slow-cases : (eqb command 0 ≡ true → P (effect (writeRegisterOf plan m address value time) store))
+      → P (effect (readRegisterOf plan m address time) store)
+      → P (writeFifoOf plan m value time store)
+      → P (effect (readFifoOf m address time store) store)
+      → (eqb command 8 ≡ true → P (effect (enableOf m time) store))
+      → (eqb command 9 ≡ true → P (effect (resetOf m time) store))
+      → P (effect (resetFrontEndsOf m value time) store)
+      → P (slowOf plan m command address value time store)
+  slow-cases p0 p1 p2 p3 p8 p9 p10 =
+      split P (eqb command 0) p0
+      (λ _. split P (eqb command 1) (λ _. p1)
+      (λ _. split P (eqb command 2) (λ _. p2)
+      (λ _. split P (eqb command 3) (λ _. p3)
+      (λ _. split P (eqb command 8) p8
+      (λ _. split P (eqb command 9) p9 (λ _. p10))))))
+
+-- A fact of the registers, the pointers and the base.
+module _ (P : List ℕ → List ℕ → List ℕ → ℕ → Type 0) where
+  abbrev pub Holds : Model → Type 0
+  Holds m = P (m .registers) (m .writes) (m .reads) (m .base)
+
+  module _ (plan : Plan) (m : Model) (time : ℕ) (store : List ℕ)
+      (here : Holds m)
+      (bcr : P (m .registers) (m .writes) (m .reads) time)
+      (ecr : P (m .registers) zeros16 zeros16 (m .base))
+      (write : (address value : ℕ) → existsAt plan address ≡ true → P (writtenOf plan m address value) (m .writes) (m .reads) (m .base))
+      (push : (feen word : ℕ) → P (m .registers) (writeOf 16 0 feen word (record { writes = m .writes; store = store }) .writes) (m .reads) (m .base))
+      (pop : (n : ℕ) → P (m .registers) (m .writes) (set (m .reads) n (movedOn (getD (m .reads) n 0))) (m .base))
+      (reset : P zeros16 zeros16 zeros16 time) where
+    pub act-keeps : (e : Event) → Holds (actOf plan m e time store .acted .model)
+    unfolding actOf
+    act-keeps event.Nothing = here
+    act-keeps (event.Lv1 flip) = here
+    act-keeps (event.Fast body) =
+        split Holds (m .running)
+        (λ _. split Holds (eqb body 0b0001) (λ _. bcr) (λ _. split Holds (eqb body 0b0010) (λ _. ecr) (λ _. here)))
+        (λ _. here)
+    act-keeps (event.BadFast body) = here
+    act-keeps event.SlowBegins = here
+    act-keeps (event.Slow command address value) =
+        let R : Acted → Type 0 = λ a. Holds (a .model) in
+        slow-cases (λ f. R (f .acted)) plan m command address value time store
+        (λ _. split R (existsAt plan address) (write address (value % 2 ^ 16)) (λ _. here))
+        (split R (existsAt plan address) (λ _. here) (λ _. here))
+        (push (feenOf plan m) (value % 2 ^ 27))
+        (pop (address % 16))
+        (λ _. here)
+        (λ _. reset)
+        here
+    act-keeps (event.BadSlow command) = here
+    act-keeps (event.FrameBit place bit) = here
+    act-keeps (event.FrameEnd command unsteady) = here
+    act-keeps (event.FrameEndBit command unsteady place bit) = here

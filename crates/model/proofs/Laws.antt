@@ -1,0 +1,104 @@
+-- What an event keeps of the store and the model, as "a sound state stays sound" cites it.
+-- Assumes nothing.
+use mathlib.Core.Bool.{Bool, true, false, _||_}
+use mathlib.Core.List.{List, [], _∷_}
+use mathlib.Core.Path.{_≡_, refl, ap}
+use Prim.Native.Nat.{ℕ, zero, suc, _+_, _≤_}
+use native.Mathlib.Nat.{le-refl}
+use native.Mathlib.Omega.{arith}
+use lib.Dec.{ltb, eqb}
+use lib.ListN.{length, getD, set, replicate, length-set}
+use borrow.Author.Tests.{lt-ltb, eq-eqb}
+use Rattle.recogniser.specs.declared.Event.{Event}
+use Rattle.recogniser.specs.declared.Event.the-variants as event
+use Rattle.model.specs.declared.Plan.{Plan}
+use Rattle.model.specs.declared.Model.{Model}
+use Rattle.model.specs.Plan.{existsAt}
+use Rattle.model.specs.Registers.{cntOf}
+use Rattle.model.specs.Fifos.{Fifos, movedOn}
+use Rattle.model.specs.Commands.{Effect, zeros16, actOf}
+use Rattle.model.specs.Sound.{everyFrom, fitsAt, pointersFit, zeroAt, missingZero}
+use Rattle.model.proofs.Facts.{clash, and-true, or-false, or-left, or-right}
+use Rattle.model.proofs.Cases.{split, write-keeps, slow-cases, act-keeps}
+
+-- The model after an event.
+abbrev pub after : Plan → Model → Event → ℕ → List ℕ → Model
+after plan m e time store = actOf plan m e time store .acted .model
+
+-- A test that is weaker at each number still passes.
+every-more : (n i : ℕ) (f g : ℕ → Bool) → ((k : ℕ) → f k ≡ true → g k ≡ true) → everyFrom n i f ≡ true → everyFrom n i g ≡ true
+unfolding everyFrom
+every-more zero i f g more h = h
+every-more (suc n) i f g more h =
+    let p = and-true (f i) (everyFrom n (i + 1) f) h in
+    rw (more i (p .0)) (every-more n (i + 1) f g more (p .1))
+
+-- An element after a store: the stored one, or what was there.
+set-case : (P : ℕ → Type 0) (l : List ℕ) (i k v : ℕ) → (k ≡ i → P v) → P (getD l k 0) → P (getD (set l i v) k 0)
+set-case P [] i k v p q = q
+set-case P (x ∷ xs) zero zero v p q = p refl
+set-case P (x ∷ xs) zero (suc k) v p q = q
+set-case P (x ∷ xs) (suc i) zero v p q = q
+set-case P (x ∷ xs) (suc i) (suc k) v p q = set-case P xs i k v (λ e. p (ap suc e)) q
+
+zeros-at : (n k : ℕ) → getD {A = ℕ} (replicate n 0) k 0 ≡ 0
+zeros-at zero k = refl
+zeros-at (suc n) zero = refl
+zeros-at (suc n) (suc k) = zeros-at n k
+
+moved-fits : (l : List ℕ) (n : ℕ) → pointersFit l ≡ true → pointersFit (set l n (movedOn (getD l n 0))) ≡ true
+unfolding pointersFit
+moved-fits l n =
+    every-more 16 0 (fitsAt l) (fitsAt (set l n (movedOn (getD l n 0))))
+    (λ k. set-case (λ x. ltb x 128 ≡ true) l n k (movedOn (getD l n 0)) (λ _. lt-ltb (movedOn (getD l n 0)) 128 (omega arith)))
+
+-- A fact of the registers, as `act-keeps` takes it.
+abbrev ZeroIn : Plan → List ℕ → Type 0
+ZeroIn plan registers = everyFrom 16 0 (zeroAt plan registers) ≡ true
+
+written-zero : (plan : Plan) (l : List ℕ) (address value : ℕ) → existsAt plan address ≡ true → ZeroIn plan l → ZeroIn plan (set l address value)
+written-zero plan l address value there =
+    every-more 16 0 (zeroAt plan l) (zeroAt plan (set l address value))
+    (λ k. set-case (λ x. (existsAt plan k || eqb x 0) ≡ true) l address k value (λ e. or-left (existsAt plan k) _ (rw e there)))
+
+zeros-zero : (plan : Plan) → ZeroIn plan zeros16
+unfolding everyFrom
+zeros-zero plan =
+    every-more 16 0 (λ _. true) (zeroAt plan zeros16)
+    (λ k _. or-right (existsAt plan k) _ (eq-eqb _ _ (zeros-at 16 k))) refl
+
+module _ (plan : Plan) (m : Model) (e : Event) (time : ℕ) (store : List ℕ) where
+  pub writes-fit : pointersFit (m .writes) ≡ true → pointersFit (after plan m e time store .writes) ≡ true
+  unfolding pointersFit everyFrom
+  writes-fit h =
+      act-keeps (λ r w d b. pointersFit w ≡ true) plan m time store h h refl (λ address value _. h)
+      (λ feen word. write-keeps (λ f. pointersFit (f .writes) ≡ true) (λ n word f. moved-fits (f .writes) n) 16 0 feen word _ h)
+      (λ n. h) refl e
+
+  pub reads-fit : pointersFit (m .reads) ≡ true → pointersFit (after plan m e time store .reads) ≡ true
+  unfolding pointersFit everyFrom
+  reads-fit h =
+      act-keeps (λ r w d b. pointersFit d ≡ true) plan m time store h h refl (λ address value _. h) (λ feen word. h)
+      (λ n. moved-fits (m .reads) n h) refl e
+
+  pub missing-zero : missingZero plan m ≡ true → missingZero plan (after plan m e time store) ≡ true
+  unfolding missingZero
+  missing-zero h =
+      act-keeps (λ r w d b. ZeroIn plan r) plan m time store h h h (λ address value there. written-zero plan (m .registers) address _ there h)
+      (λ feen word. h) (λ n. h) (zeros-zero plan) e
+
+  pub base-low : m .base ≤ time → after plan m e time store .base ≤ time
+  base-low h =
+      act-keeps (λ r w d b. b ≤ time) plan m time store h (le-refl time) h (λ address value _. h) (λ feen word. h) (λ n. h)
+      (le-refl time) e
+
+-- The events after which a register may hold something else: WrRegister and GlobalResetMCC.
+abbrev pub changesRegisters : Event → Bool
+changesRegisters (event.Slow command address value) = eqb command 0 || eqb command 9
+changesRegisters e = false
+
+-- The events at which RunMode may change: a Slow's ninth header bit and EnDataTake.
+abbrev pub changesRunning : Event → Bool
+changesRunning event.SlowBegins = true
+changesRunning (event.Slow command address value) = eqb command 8
+changesRunning e = false

@@ -1,0 +1,5 @@
+pub mod Facts
+pub mod Every
+pub mod Writes
+pub mod Cases
+pub mod Laws

@@ -1,0 +1,79 @@
+//! The cases for comparison: names, repeatability, and how the outputs of
+//! the three programs hang together.
+
+use reference::cases::{generated, kept, Case};
+use reference::{model, reading, station};
+use std::collections::HashSet;
+
+fn all() -> Vec<Case> {
+    let mut cases = kept();
+    cases.extend(generated(40));
+    cases
+}
+
+#[test]
+fn names_serve_as_file_names() {
+    let mut names = HashSet::new();
+    for case in all() {
+        assert!(case
+            .name
+            .bytes()
+            .all(|c| c.is_ascii_alphanumeric() || c == b'-'));
+        // Also where upper and lower case are the same.
+        assert!(names.insert(case.name.to_lowercase()), "{}", case.name);
+    }
+}
+
+#[test]
+fn generated_cases_repeat() {
+    let inputs = |count| generated(count).into_iter().map(|case| case.input);
+    assert!(inputs(20).eq(inputs(40).take(20)));
+}
+
+#[test]
+fn the_three_outputs_hang_together() {
+    let text = |bytes: Vec<u8>| String::from_utf8(bytes).unwrap();
+    let mut refused = HashSet::new();
+    for case in all() {
+        let (mut one, mut two, mut three) = (Vec::new(), Vec::new(), Vec::new());
+        station(&case.input[..], &mut one).unwrap();
+        reading(&case.input[..], &mut two).unwrap();
+        model(&case.input[..], &mut three).unwrap();
+        let (one, two, three) = (text(one), text(two), text(three));
+        let records = one.lines().filter(|line| !line.starts_with('>'));
+        assert!(records.eq(two.lines()), "{}", case.name);
+        let state = three.strip_prefix(&two).unwrap();
+        assert!(state.starts_with("register 0 "), "{}", case.name);
+        if let Some(line) = two.lines().find(|line| line.starts_with('!')) {
+            assert!(case.name.starts_with("line-"), "{}", case.name);
+            refused.insert(line[1..3].to_string());
+        }
+    }
+    assert_eq!(refused, HashSet::from(["07".to_string(), "08".to_string()]));
+}
+
+/// The marked streams stand 17 cycles later than in document 01, behind
+/// EnDataTake and with zeros after them.
+#[test]
+fn marked_cases() {
+    let wanted = [
+        (1, "000000000015 01 05 00000015\n"),
+        (2, "000000000015 01 07 00000015\n"),
+        (7, "000000000019 11 01 00000000\n"),
+        (8, "000000000019 1F 00 00000009\n"),
+        (
+            12,
+            "000000000017 01 07 00000017\n00000000001C 01 07 0000011C\n",
+        ),
+        (13, "000000000021 2F 00 0000000B\n"),
+        (14, "000000000021 24 01 00000000\n"),
+    ];
+    for (number, lines) in wanted {
+        let name = format!("marked-{number:02}");
+        let case = kept().into_iter().find(|case| case.name == name).unwrap();
+        let mut out = Vec::new();
+        station(&case.input[..], &mut out).unwrap();
+        let wanted = format!("000000000010 28 01 00000000\n{lines}");
+        assert_eq!(String::from_utf8(out).unwrap(), wanted, "{name}");
+    }
+}
