@@ -1,9 +1,13 @@
 //! The programs' lines: how input arrives, fit and refused lines, output.
 
-use reference::{model, reading, station};
+use reference::listing::{push_frame, push_record, push_refused};
+use reference::{model, reading, station, Record};
 use std::cell::RefCell;
 use std::io::{self, BufRead, BufReader, ErrorKind, Read, Write};
 use std::process::{Command, Stdio};
+use std::sync::mpsc::channel;
+use std::thread::spawn;
+use std::time::Duration;
 
 /// Input that arrives in pieces, each read giving at most one of them.
 struct Pieces(Vec<Vec<u8>>);
@@ -250,6 +254,24 @@ fn very_long_lines() {
     }
 }
 
+#[test]
+fn the_lines_themselves() {
+    let mut out = Vec::new();
+    let record = Record {
+        time: (1 << 48) - 1,
+        kind: 0x2F,
+        flags: 0x0A,
+        value: u32::MAX,
+    };
+    push_record(&mut out, &record);
+    push_frame(&mut out, &[]);
+    push_frame(&mut out, &[0x00, 0xA5]);
+    push_refused(&mut out, 8, 0xFFFF_FFFF);
+    push_refused(&mut out, 7, 0x1_0000_0000);
+    let wanted = "FFFFFFFFFFFF 2F 0A FFFFFFFF\n>00A5\n!08 FFFFFFFF\n!07 100000000\n";
+    assert_eq!(String::from_utf8(out).unwrap(), wanted);
+}
+
 /// What a program did, in order: reads, bytes written, flushes.
 #[derive(Debug, PartialEq)]
 enum Deed {
@@ -393,23 +415,27 @@ fn a_live_pipe() {
         .spawn()
         .unwrap();
     let mut input = child.stdin.take().unwrap();
-    let mut output = BufReader::new(child.stdout.take().unwrap());
-    let mut line = String::new();
+    let output = BufReader::new(child.stdout.take().unwrap());
+    // A thread reads, so that missing lines fail the test and do not hang it.
+    let (sender, lines) = channel();
+    let reader = spawn(move || {
+        for line in output.lines() {
+            sender.send(line.unwrap() + "\n").unwrap();
+        }
+    });
+    let next = |count: usize| -> String {
+        (0..count)
+            .map_while(|_| lines.recv_timeout(Duration::from_secs(20)).ok())
+            .collect()
+    };
     input.write_all(b"B5C074\n").unwrap();
-    for _ in 0..2 {
-        output.read_line(&mut line).unwrap();
-    }
-    assert_eq!(line, FIRST);
+    assert_eq!(next(2), FIRST);
     input.write_all(b"E0B0").unwrap();
     input.write_all(b"80\n").unwrap();
-    for _ in 0..2 {
-        output.read_line(&mut line).unwrap();
-    }
-    assert_eq!(line, LISTING);
+    assert_eq!(next(2), LISTING[FIRST.len()..]);
     // A refused line ends the run though the pipe stays open.
     input.write_all(b"e0\n").unwrap();
-    let mut rest = String::new();
-    output.read_to_string(&mut rest).unwrap();
-    assert_eq!(rest, "!07 00000003\n");
+    assert_eq!(next(1), "!07 00000003\n");
     assert!(child.wait().unwrap().success());
+    reader.join().unwrap();
 }

@@ -8,6 +8,8 @@ use native.Mathlib.Omega.{arith}
 use lib.ListN.{length, take, drop}
 use lib.Seq.{sets, sets-eq, length-sets, length-take-le, drop-at, take-at}
 use Rattle.decoder.specs.declared.Decoder.{Decoder}
+use Rattle.decoder.specs.declared.Ending.{Ending}
+use Rattle.decoder.specs.declared.Ending.the-variants.{Unsound, WrongBuffers, WrongRange, ClockOver}
 use Rattle.decoder.specs.Limits.{listUnit}
 use Rattle.decoder.specs.Run.{Run, runOf, stateAfter, wordsAfter}
 use Rattle.decoder.specs.Sound.{soundOf}
@@ -39,7 +41,7 @@ pub record Kept (d : Decoder) (c : Call) (l : Left) : Type 0 where
   pub words : take (listUnit * l .taken .told .records) (drop (c .free) (l .list)) ≡ wordsAfter turnOf (worldOf d c) (take (l .taken .told .bits) (offered c))
 
 module _ (d : Decoder) (c : Call) where
-  away : (e : _) → Kept d c (refused d c e)
+  away : (e : Ending) → Kept d c (refused d c e)
   away e = record { taken = omega arith; world = refl; words = refl }
 
   run : Run World
@@ -56,15 +58,17 @@ module _ (d : Decoder) (c : Call) where
         words = rw z (standing (run .words) (c .list) (c .free) (f .whole) (f .fits) ∙ f .words);
       }
 
-  either : (b : Bool) (e : _) (l : Left) → Kept d c l → Kept d c (cond b (refused d c e) l)
+  either : (b : Bool) (e : Ending) (l : Left) → Kept d c l → Kept d c (cond b (refused d c e) l)
   either true e l k = away e
   either false e l k = k
 
   pub call-kept : Kept d c (takeOf d c)
   unfolding takeOf
   call-kept =
-      either (not (soundOf d)) _ _
-      (either (not (buffersFit c)) _ _ (either (not (rangeFits c)) _ _ (either (not (clockFits d c)) _ _ through)))
+      either (not (soundOf d)) Unsound _
+      (either (not (buffersFit (length (c .store)) (length (c .tray)) (length (c .list)) (c .free))) WrongBuffers _
+      (either (not (rangeFits (length (c .input)) (c .first) (c .count))) WrongRange _
+      (either (not (clockFits (d .next) (c .count))) ClockOver _ through)))
 
 -- a list of calls, store and tray carried over
 pub carried-world : (w : World) (qs : List Request) → carriedWorld w qs ≡ stateAfter turnOf w (carriedBits w qs)

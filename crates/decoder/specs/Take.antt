@@ -29,18 +29,17 @@ pub record Call : Type 0 where
 abbrev pub offered : Call → List ℕ
 offered c = bitsOf (c .input) (c .first) (c .count)
 
--- Refusal 4, turned round: the store and tray have their lengths, and the first free word is not past the list's end.
-abbrev pub buffersFit : Call → Bool
-buffersFit c =
-    eqb (length (c .store)) storeLength && (eqb (length (c .tray)) trayLength && leb (c .free) (length (c .list)))
+-- Refusal 4, turned round, of the lengths of store, tray and list, and the first free word: it is not past the list's end.
+abbrev pub buffersFit : ℕ → ℕ → ℕ → ℕ → Bool
+buffersFit store tray list free = eqb store storeLength && (eqb tray trayLength && leb free list)
 
--- Refusal 5, turned round.
-abbrev pub rangeFits : Call → Bool
-rangeFits c = leb (length (c .input)) inputLimit && leb (c .first + c .count) (8 * length (c .input))
+-- Refusal 5, turned round, of the input's length and the range.
+abbrev pub rangeFits : ℕ → ℕ → ℕ → Bool
+rangeFits input first count = leb input inputLimit && leb (first + count) (8 * input)
 
--- Refusal 6, turned round.
-abbrev pub clockFits : Decoder → Call → Bool
-clockFits d c = leb (d .next + c .count) clockLimit
+-- Refusal 6, turned round, of the next cycle and the count.
+abbrev pub clockFits : ℕ → ℕ → Bool
+clockFits next count = leb (next + count) clockLimit
 
 -- The answer, and each buffer's later contents.
 pub record Left : Type 0 where
@@ -81,9 +80,9 @@ takenOf d c = finished 0 0 (c .list) (c .free) (runOf turnOf (offered c) (worldO
 unfoldable pub takeOf : Decoder → Call → Left
 takeOf d c =
     cond (not (soundOf d)) (refused d c Unsound)
-    (cond (not (buffersFit c)) (refused d c WrongBuffers)
-    (cond (not (rangeFits c)) (refused d c WrongRange)
-    (cond (not (clockFits d c)) (refused d c ClockOver)
+    (cond (not (buffersFit (length (c .store)) (length (c .tray)) (length (c .list)) (c .free))) (refused d c WrongBuffers)
+    (cond (not (rangeFits (length (c .input)) (c .first) (c .count))) (refused d c WrongRange)
+    (cond (not (clockFits (d .next) (c .count))) (refused d c ClockOver)
     (takenOf d c))))
 
 -- The refusal number of each ending; 0 is none.

@@ -14,7 +14,9 @@ use Rattle.model.specs.declared.Acted.{Acted}
 use Rattle.model.specs.Plan.{existsAt}
 use Rattle.model.specs.Registers.{feenOf, writtenOf}
 use Rattle.model.specs.Fifos.{Fifos, movedOn, pushOf, writeOf}
-use Rattle.model.specs.Commands.{Effect, effect, zeros16, fastEffect, writeRegisterOf, readRegisterOf, writeFifoOf, readFifoOf, enableOf, resetOf, resetFrontEndsOf, slowOf, actOf}
+use Rattle.model.specs.Commands.{Effect, effect, zeros16, writeRegisterOf, readRegisterOf, writeFifoOf, readFifoOf, enableOf, resetOf, resetFrontEndsOf, slowOf, actOf}
+use Rattle.model.specs.Sound.{changesRegisters}
+use Rattle.model.proofs.Facts.{or-left, or-right}
 
 -- Either side of a test.
 pub split : {A : Type 0} (P : A → Type 0) (b : Bool) {x y : A} → (b ≡ true → P x) → (b ≡ false → P y) → P (cond b x y)
@@ -46,40 +48,40 @@ module _ (P : Effect → Type 0) (plan : Plan) (m : Model) (command address valu
       (λ _. split P (eqb command 8) p8
       (λ _. split P (eqb command 9) p9 (λ _. p10))))))
 
--- A fact of the registers, the pointers and the base.
+-- A fact of the registers, the pointers and the base: as it stands, after a BCR, an ECR, a WrRegister, a WrFifo, a RdFifo and a GlobalResetMCC.
 module _ (P : List ℕ → List ℕ → List ℕ → ℕ → Type 0) where
   abbrev pub Holds : Model → Type 0
   Holds m = P (m .registers) (m .writes) (m .reads) (m .base)
 
-  module _ (plan : Plan) (m : Model) (time : ℕ) (store : List ℕ)
-      (here : Holds m)
-      (bcr : P (m .registers) (m .writes) (m .reads) time)
-      (ecr : P (m .registers) zeros16 zeros16 (m .base))
-      (write : (address value : ℕ) → existsAt plan address ≡ true → P (writtenOf plan m address value) (m .writes) (m .reads) (m .base))
-      (push : (feen word : ℕ) → P (m .registers) (writeOf 16 0 feen word (record { writes = m .writes; store = store }) .writes) (m .reads) (m .base))
-      (pop : (n : ℕ) → P (m .registers) (m .writes) (set (m .reads) n (movedOn (getD (m .reads) n 0))) (m .base))
-      (reset : P zeros16 zeros16 zeros16 time) where
-    pub act-keeps : (e : Event) → Holds (actOf plan m e time store .acted .model)
-    unfolding actOf
-    act-keeps event.Nothing = here
-    act-keeps (event.Lv1 flip) = here
-    act-keeps (event.Fast body) =
-        split Holds (m .running)
-        (λ _. split Holds (eqb body 0b0001) (λ _. bcr) (λ _. split Holds (eqb body 0b0010) (λ _. ecr) (λ _. here)))
-        (λ _. here)
-    act-keeps (event.BadFast body) = here
-    act-keeps event.SlowBegins = here
-    act-keeps (event.Slow command address value) =
-        let R : Acted → Type 0 = λ a. Holds (a .model) in
-        slow-cases (λ f. R (f .acted)) plan m command address value time store
-        (λ _. split R (existsAt plan address) (write address (value % 2 ^ 16)) (λ _. here))
-        (split R (existsAt plan address) (λ _. here) (λ _. here))
-        (push (feenOf plan m) (value % 2 ^ 27))
-        (pop (address % 16))
-        (λ _. here)
-        (λ _. reset)
-        here
-    act-keeps (event.BadSlow command) = here
-    act-keeps (event.FrameBit place bit) = here
-    act-keeps (event.FrameEnd command unsteady) = here
-    act-keeps (event.FrameEndBit command unsteady place bit) = here
+  pub act-keeps : (plan : Plan) (m : Model) (e : Event) (time : ℕ) (store : List ℕ)
+      → Holds m
+      → P (m .registers) (m .writes) (m .reads) time
+      → P (m .registers) zeros16 zeros16 (m .base)
+      → ((address value : ℕ) → existsAt plan address ≡ true → changesRegisters e ≡ true → P (writtenOf plan m address value) (m .writes) (m .reads) (m .base))
+      → ((feen word : ℕ) → P (m .registers) (writeOf 16 0 feen word (record { writes = m .writes; store = store }) .writes) (m .reads) (m .base))
+      → ((n : ℕ) → P (m .registers) (m .writes) (set (m .reads) n (movedOn (getD (m .reads) n 0))) (m .base))
+      → (changesRegisters e ≡ true → P zeros16 zeros16 zeros16 time)
+      → Holds (actOf plan m e time store .acted .model)
+  unfolding actOf
+  act-keeps plan m event.Nothing time store here bcr ecr write push pop reset = here
+  act-keeps plan m (event.Lv1 flip) time store here bcr ecr write push pop reset = here
+  act-keeps plan m (event.Fast body) time store here bcr ecr write push pop reset =
+      split Holds (m .running)
+      (λ _. split Holds (eqb body 0b0001) (λ _. bcr) (λ _. split Holds (eqb body 0b0010) (λ _. ecr) (λ _. here)))
+      (λ _. here)
+  act-keeps plan m (event.BadFast body) time store here bcr ecr write push pop reset = here
+  act-keeps plan m event.SlowBegins time store here bcr ecr write push pop reset = here
+  act-keeps plan m (event.Slow command address value) time store here bcr ecr write push pop reset =
+      let R : Acted → Type 0 = λ a. Holds (a .model) in
+      slow-cases (λ f. R (f .acted)) plan m command address value time store
+      (λ e. split R (existsAt plan address) (λ there. write address (value % 2 ^ 16) there (or-left (eqb command 0) (eqb command 9) e)) (λ _. here))
+      (split R (existsAt plan address) (λ _. here) (λ _. here))
+      (push (feenOf plan m) (value % 2 ^ 27))
+      (pop (address % 16))
+      (λ _. here)
+      (λ e. reset (or-right (eqb command 0) (eqb command 9) e))
+      here
+  act-keeps plan m (event.BadSlow command) time store here bcr ecr write push pop reset = here
+  act-keeps plan m (event.FrameBit place bit) time store here bcr ecr write push pop reset = here
+  act-keeps plan m (event.FrameEnd command unsteady) time store here bcr ecr write push pop reset = here
+  act-keeps plan m (event.FrameEndBit command unsteady place bit) time store here bcr ecr write push pop reset = here

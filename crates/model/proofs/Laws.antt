@@ -2,7 +2,7 @@
 -- Assumes nothing.
 use mathlib.Core.Bool.{Bool, true, false, _||_}
 use mathlib.Core.List.{List, [], _∷_}
-use mathlib.Core.Path.{_≡_, refl, ap}
+use mathlib.Core.Path.{_≡_, refl, ap, _∙_}
 use Prim.Native.Nat.{ℕ, zero, suc, _+_, _≤_}
 use native.Mathlib.Nat.{le-refl}
 use native.Mathlib.Omega.{arith}
@@ -13,12 +13,13 @@ use Rattle.recogniser.specs.declared.Event.{Event}
 use Rattle.recogniser.specs.declared.Event.the-variants as event
 use Rattle.model.specs.declared.Plan.{Plan}
 use Rattle.model.specs.declared.Model.{Model}
+use Rattle.model.specs.declared.Acted.{Acted}
 use Rattle.model.specs.Plan.{existsAt}
 use Rattle.model.specs.Registers.{cntOf}
-use Rattle.model.specs.Fifos.{Fifos, movedOn}
-use Rattle.model.specs.Commands.{Effect, zeros16, actOf}
-use Rattle.model.specs.Sound.{everyFrom, fitsAt, pointersFit, zeroAt, missingZero}
-use Rattle.model.proofs.Facts.{clash, and-true, or-false, or-left, or-right}
+use Rattle.model.specs.Fifos.{movedOn}
+use Rattle.model.specs.Commands.{zeros16, actOf}
+use Rattle.model.specs.Sound.{everyFrom, fitsAt, pointersFit, zeroAt, missingZero, changesRegisters, changesRunning}
+use Rattle.model.proofs.Facts.{clash, and-true, or-left, or-right}
 use Rattle.model.proofs.Cases.{split, write-keeps, slow-cases, act-keeps}
 
 -- The model after an event.
@@ -67,38 +68,95 @@ zeros-zero plan =
     every-more 16 0 (λ _. true) (zeroAt plan zeros16)
     (λ k _. or-right (existsAt plan k) _ (eq-eqb _ _ (zeros-at 16 k))) refl
 
+-- A model whose arrays are all 0, as at the opening.
+pub zeros-fit : pointersFit zeros16 ≡ true
+unfolding pointersFit everyFrom
+zeros-fit = refl
+
+pub zeros-missing : (plan : Plan) (m : Model) → m .registers ≡ zeros16 → missingZero plan m ≡ true
+unfolding missingZero
+zeros-missing plan m e = rw e (zeros-zero plan)
+
+-- What holds of the model before an event holds of it after.
 module _ (plan : Plan) (m : Model) (e : Event) (time : ℕ) (store : List ℕ) where
   pub writes-fit : pointersFit (m .writes) ≡ true → pointersFit (after plan m e time store .writes) ≡ true
-  unfolding pointersFit everyFrom
   writes-fit h =
-      act-keeps (λ r w d b. pointersFit w ≡ true) plan m time store h h refl (λ address value _. h)
+      act-keeps (λ r w d b. pointersFit w ≡ true) plan m e time store h h zeros-fit (λ address value _ _. h)
       (λ feen word. write-keeps (λ f. pointersFit (f .writes) ≡ true) (λ n word f. moved-fits (f .writes) n) 16 0 feen word _ h)
-      (λ n. h) refl e
+      (λ n. h) (λ _. zeros-fit)
 
   pub reads-fit : pointersFit (m .reads) ≡ true → pointersFit (after plan m e time store .reads) ≡ true
-  unfolding pointersFit everyFrom
   reads-fit h =
-      act-keeps (λ r w d b. pointersFit d ≡ true) plan m time store h h refl (λ address value _. h) (λ feen word. h)
-      (λ n. moved-fits (m .reads) n h) refl e
+      act-keeps (λ r w d b. pointersFit d ≡ true) plan m e time store h h zeros-fit (λ address value _ _. h) (λ feen word. h)
+      (λ n. moved-fits (m .reads) n h) (λ _. zeros-fit)
 
   pub missing-zero : missingZero plan m ≡ true → missingZero plan (after plan m e time store) ≡ true
   unfolding missingZero
   missing-zero h =
-      act-keeps (λ r w d b. ZeroIn plan r) plan m time store h h h (λ address value there. written-zero plan (m .registers) address _ there h)
-      (λ feen word. h) (λ n. h) (zeros-zero plan) e
+      act-keeps (λ r w d b. ZeroIn plan r) plan m e time store h h h
+      (λ address value there _. written-zero plan (m .registers) address _ there h)
+      (λ feen word. h) (λ n. h) (λ _. zeros-zero plan)
 
   pub base-low : m .base ≤ time → after plan m e time store .base ≤ time
   base-low h =
-      act-keeps (λ r w d b. b ≤ time) plan m time store h (le-refl time) h (λ address value _. h) (λ feen word. h) (λ n. h)
-      (le-refl time) e
+      act-keeps (λ r w d b. b ≤ time) plan m e time store h (le-refl time) h (λ address value _ _. h) (λ feen word. h)
+      (λ n. h) (λ _. le-refl time)
 
--- The events after which a register may hold something else: WrRegister and GlobalResetMCC.
-abbrev pub changesRegisters : Event → Bool
-changesRegisters (event.Slow command address value) = eqb command 0 || eqb command 9
-changesRegisters e = false
+  pub registers-kept : changesRegisters e ≡ false → after plan m e time store .registers ≡ m .registers
+  registers-kept h =
+      act-keeps (λ r w d b. r ≡ m .registers) plan m e time store refl refl refl (λ address value _ t. clash t h)
+      (λ feen word. refl) (λ n. refl) (λ t. clash t h)
 
--- The events at which RunMode may change: a Slow's ninth header bit and EnDataTake.
-abbrev pub changesRunning : Event → Bool
-changesRunning event.SlowBegins = true
-changesRunning (event.Slow command address value) = eqb command 8
-changesRunning e = false
+  pub cnt-kept : changesRegisters e ≡ false → cntOf plan (after plan m e time store) ≡ cntOf plan m
+  cnt-kept h = ap (λ l. getD l (plan .cnt) 0) (registers-kept h)
+
+-- RunMode: ended by SlowBegins, started by EnDataTake, else as it was.
+pub begins-stops : (plan : Plan) (m : Model) (time : ℕ) (store : List ℕ) → after plan m event.SlowBegins time store .running ≡ false
+unfolding actOf
+begins-stops plan m time store = refl
+
+pub enable-runs : (plan : Plan) (m : Model) (address value time : ℕ) (store : List ℕ)
+    → after plan m (event.Slow 8 address value) time store .running ≡ true
+unfolding actOf
+enable-runs plan m address value time store = refl
+
+pub running-kept : (plan : Plan) (m : Model) (e : Event) (time : ℕ) (store : List ℕ)
+    → changesRunning e ≡ false → after plan m e time store .running ≡ m .running
+unfolding actOf
+running-kept plan m event.Nothing time store h = refl
+running-kept plan m (event.Lv1 flip) time store h = refl
+running-kept plan m (event.Fast body) time store h =
+    let P : Model → Type 0 = λ n. n .running ≡ m .running in
+    split P (m .running)
+    (λ _. split P (eqb body 0b0001) (λ _. refl) (λ _. split P (eqb body 0b0010) (λ _. refl) (λ _. refl)))
+    (λ _. refl)
+running-kept plan m (event.BadFast body) time store h = refl
+running-kept plan m event.SlowBegins time store h = clash refl h
+running-kept plan m (event.Slow command address value) time store h =
+    let P : Acted → Type 0 = λ a. a .model .running ≡ m .running in
+    slow-cases (λ f. P (f .acted)) plan m command address value time store
+    (λ _. split P (existsAt plan address) (λ _. refl) (λ _. refl))
+    (split P (existsAt plan address) (λ _. refl) (λ _. refl))
+    refl refl (λ t. clash t h) (λ _. refl) refl
+running-kept plan m (event.BadSlow command) time store h = refl
+running-kept plan m (event.FrameBit place bit) time store h = refl
+running-kept plan m (event.FrameEnd command unsteady) time store h = refl
+running-kept plan m (event.FrameEndBit command unsteady place bit) time store h = refl
+
+-- The store keeps its length.
+pub act-length : (plan : Plan) (m : Model) (e : Event) (time : ℕ) (store : List ℕ) → length (actOf plan m e time store .store) ≡ length store
+unfolding actOf
+act-length plan m event.Nothing time store = refl
+act-length plan m (event.Lv1 flip) time store = refl
+act-length plan m (event.Fast body) time store = refl
+act-length plan m (event.BadFast body) time store = refl
+act-length plan m event.SlowBegins time store = refl
+act-length plan m (event.Slow command address value) time store =
+    slow-cases (λ f. length (f .store) ≡ length store) plan m command address value time store
+    (λ _. refl) refl
+    (write-keeps (λ f. length (f .store) ≡ length store) (λ n word f h. length-set (f .store) _ _ ∙ h) 16 0 _ _ _ refl)
+    refl (λ _. refl) (λ _. refl) refl
+act-length plan m (event.BadSlow command) time store = refl
+act-length plan m (event.FrameBit place bit) time store = refl
+act-length plan m (event.FrameEnd command unsteady) time store = refl
+act-length plan m (event.FrameEndBit command unsteady place bit) time store = refl

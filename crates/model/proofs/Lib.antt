@@ -3,3 +3,4 @@ pub mod Every
 pub mod Writes
 pub mod Cases
 pub mod Laws
+pub mod Heard

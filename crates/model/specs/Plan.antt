@@ -10,7 +10,7 @@ abbrev pub existsAt : Plan → ℕ → Bool
 existsAt plan address = ltb address 16 && eqb (plan .mask / 2 ^ address % 2) 1
 
 -- Refusal 1's condition, turned round: CSR, FEEN and CNT are "three different ones in the mask".
-abbrev pub planFits : Plan → Bool
+unfoldable pub planFits : Plan → Bool
 planFits plan =
     existsAt plan (plan .csr)
     && (existsAt plan (plan .feen)

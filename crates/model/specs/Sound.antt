@@ -1,6 +1,6 @@
--- What a sound state has of the model (document 01, "A taking call"), and what an event has whose record fits.
+-- What a sound state has of the model (document 01, "A taking call"), what an event has whose record fits, and what events change.
 -- Assumes nothing.
-use mathlib.Core.Bool.{Bool, true, _&&_, _||_}
+use mathlib.Core.Bool.{Bool, true, false, _&&_, _||_}
 use mathlib.Core.List.{List}
 use Prim.Native.Nat.{ℕ, zero, suc, _+_}
 use lib.Dec.{ltb, eqb}
@@ -42,3 +42,29 @@ eventFits (event.BadSlow command) = true
 eventFits (event.FrameBit place bit) = true
 eventFits (event.FrameEnd command unsteady) = ltb command 16
 eventFits (event.FrameEndBit command unsteady place bit) = ltb command 16
+
+-- The events that store to registers: WrRegister and GlobalResetMCC.
+abbrev pub changesRegisters : Event → Bool
+changesRegisters event.Nothing = false
+changesRegisters (event.Lv1 flip) = false
+changesRegisters (event.Fast body) = false
+changesRegisters (event.BadFast body) = false
+changesRegisters event.SlowBegins = false
+changesRegisters (event.Slow command address value) = eqb command 0 || eqb command 9
+changesRegisters (event.BadSlow command) = false
+changesRegisters (event.FrameBit place bit) = false
+changesRegisters (event.FrameEnd command unsteady) = false
+changesRegisters (event.FrameEndBit command unsteady place bit) = false
+
+-- The events that set RunMode: "RunMode ends at the ninth header bit of any Slow and starts at the end of EnDataTake."
+abbrev pub changesRunning : Event → Bool
+changesRunning event.Nothing = false
+changesRunning (event.Lv1 flip) = false
+changesRunning (event.Fast body) = false
+changesRunning (event.BadFast body) = false
+changesRunning event.SlowBegins = true
+changesRunning (event.Slow command address value) = eqb command 8
+changesRunning (event.BadSlow command) = false
+changesRunning (event.FrameBit place bit) = false
+changesRunning (event.FrameEnd command unsteady) = false
+changesRunning (event.FrameEndBit command unsteady place bit) = false

@@ -1,14 +1,14 @@
 // The controller behind the recogniser: plan, registers, FIFOs, counters, warnings and RunMode, and what each event does to them.
 ghost use mathlib.Core.Path.{_≡_};
 ghost use mathlib.Core.Bool.{cond, true};
-ghost use Prim.Native.Nat.{_<_, _^_};
+ghost use Prim.Native.Nat.{_<_, _≤_, _^_};
 ghost use lib.Dec.{eqb};
 ghost use lib.ListN.{length};
 ghost use Rattle.model.specs.Plan.{existsAt, planFits, defaultPlan};
 ghost use Rattle.model.specs.Registers.{registerOf, cntOf, warningsOf, withWarnings, readOf};
-ghost use Rattle.model.specs.Fifos.{Fifos, movedOn, writeOf, readWordOf};
+ghost use Rattle.model.specs.Fifos.{movedOn, writeOf, readWordOf};
 ghost use Rattle.model.specs.Records.{recordOf, isFrameHead};
-ghost use Rattle.model.specs.Commands.{Effect, acted, bunchOf, lv1Of, fastOf, badFastOf, leaveOf, writeRegisterOf, readRegisterOf, writeFifoOf, readFifoOf, enableOf, resetOf, resetFrontEndsOf, badSlowOf, frameValueOf, frameOf, slowOf, actOf};
+ghost use Rattle.model.specs.Commands.{acted, bunchOf, lv1Of, fastOf, badFastOf, leaveOf, writeRegisterOf, readRegisterOf, writeFifoOf, readFifoOf, enableOf, resetOf, resetFrontEndsOf, badSlowOf, frameValueOf, frameOf, slowOf, actOf};
 ghost use Rattle.model.specs.Sound.{eventFits, pointersFit, missingZero};
 use recogniser::Event;
 
@@ -48,8 +48,8 @@ pub struct Acted {
     pub cycle: Cycle,
 }
 
-// FIFO words have 27 bits.
-const WORD: u32 = 134217728;
+// FIFO words have 27 bits: each is below this.
+const WORD: u32 = 0x0800_0000;
 
 // The values of Field 3 that the model tells apart.
 const WR_REGISTER: u8 = 0;
@@ -91,7 +91,7 @@ const FLAG_MISSING: u8 = 0x08;
 const FLAG_UNSTEADY: u8 = 0x10;
 
 fn flag(on: bool, bit: u8) -> u8
-    ensures { λ r. ⌜ r ≡ cond on bit 0 ⌝ }
+    ensures { λ r. ⌜ (r ≡ cond on bit 0) × (r ≤ bit) ⌝ }
 {
     if on { bit } else { 0 }
 }
@@ -115,10 +115,7 @@ pub fn is_frame_head(head: u64) -> bool
     ensures { λ r. ⌜ r ≡ isFrameHead head ⌝ }
 {
     let kind = head / 256 % 256;
-    if kind < 0x24 {
-        return false;
-    }
-    kind <= 0x26
+    (0x24 <= kind) & (kind <= 0x26)
 }
 
 // Bits 8, 9 and 10 of a number replaced.
@@ -211,22 +208,11 @@ impl Plan {
     pub fn fits(self) -> bool
         ensures { λ r. ⌜ r ≡ planFits self ⌝ }
     {
-        if !self.exists_at(self.csr) {
-            return false;
-        }
-        if !self.exists_at(self.feen) {
-            return false;
-        }
-        if !self.exists_at(self.cnt) {
-            return false;
-        }
-        if self.csr == self.feen {
-            return false;
-        }
-        if self.csr == self.cnt {
-            return false;
-        }
-        self.feen != self.cnt
+        let csr = self.exists_at(self.csr);
+        let feen = self.exists_at(self.feen);
+        let cnt = self.exists_at(self.cnt);
+        let apart = (self.csr != self.feen) & ((self.csr != self.cnt) & (self.feen != self.cnt));
+        csr & (feen & (cnt & apart))
     }
 
     // What a write of a value stores: CSR's warning bits are not writable.
@@ -264,17 +250,17 @@ impl Model {
         ensures { λ r. ⌜ r ≡ missingZero plan self ⌝ }
     {
         for i in 0..16 {
-            if !plan.exists_at(i) {
-                if self.register(i) != 0 {
-                    return false;
-                }
+            let there = plan.exists_at(i);
+            let held = self.register(i);
+            if !(there | (held == 0)) {
+                return false;
             }
         }
         true
     }
 
     fn warnings(self) -> u16
-        ensures { λ r. ⌜ r ≡ warningsOf self ⌝ }
+        ensures { λ r. ⌜ (r ≡ warningsOf self) × (r < 8) ⌝ }
     {
         let lv1 = flag(self.wlv1, 1);
         let fst = flag(self.wfst, 2);

@@ -4,3 +4,4 @@ pub mod Fields
 pub mod Groups
 pub mod Step
 pub mod Fit
+pub mod Stretch

@@ -90,6 +90,13 @@ pub struct Heard {
     pub event: Event,
 }
 
+// Several cycles at once: how many, the recogniser after them, and what the last of them asks for.
+pub struct Stretch {
+    pub taken: usize,
+    pub next: Recogniser,
+    pub event: Event,
+}
+
 // The window with a new bit at its low end, and without its oldest.
 pub fn window_with(window: u8, bit: u8) -> u8
     requires { ⌜ bit < 2 ⌝ }

@@ -140,6 +140,11 @@ pub fn cases() -> Vec<Case> {
     for (number, bits) in (1..).zip(MARKED) {
         let stream = in_run_mode(true).pattern(bits);
         cases.push(Case::stream(format!("marked-{number:02}"), &stream));
+        // The zeros that fill up the last byte can complete a pattern, as
+        // after 11110; zeros ahead instead leave the stream as it is.
+        let ahead = stream.bits.len().wrapping_neg() % 8;
+        let stream = in_run_mode(true).zeros(ahead).pattern(bits);
+        cases.push(Case::stream(format!("marked-{number:02}-whole"), &stream));
     }
     for (table, rows) in RECEIVED {
         for (row, bits) in (1..).zip(rows) {

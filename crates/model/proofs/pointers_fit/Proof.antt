@@ -1,12 +1,12 @@
-use Rattle.model.proofs.Every.{Left, begun, failed, passed, over}
-use Rattle.model.specs.Sound.{fitsAt, pointersFit}
-use borrow.Author.Tests.{lt-ltb, le-ltb, le-leb, lt-leb, eq-eqb, ne-eqb, not-true, not-false}
+-- `pointers_fit` answers `pointersFit`: what is left of the 16 pointers decides as the whole.
+-- Assumes nothing.
 use Prim.Native.Nat.{_-_}
+use borrow.Author.Tests.{lt-ltb, le-ltb}
 use borrow.Author.Needs.{needs}
+use Rattle.model.specs.Sound.{fitsAt, pointersFit}
+use Rattle.model.proofs.Every.{Left, begun, failed, passed, over}
 use Rattle.model.proofs.pointers_fit.Statement.{statement}
 use Rattle.model.proofs.pointers_fit.Tie as tie
-use Rattle.model.proofs.pointers_fit.Reads as reads
-use Rattle.model.proofs.pointers_fit.Lts as lts
 
 abbrev Inv-loop : tie.InvT-loop
 Inv-loop pointers i₀ i = Left (fitsAt pointers) i
@@ -14,36 +14,29 @@ Inv-loop pointers i₀ i = Left (fitsAt pointers) i
 abbrev μ-loop : tie.MeasureT-loop
 μ-loop pointers i₀ i = 16 - i
 
--- src/lib.rt:164:5
 loop-holds : tie.Need-loop-holds Inv-loop μ-loop
 loop-holds c = begun (fitsAt (c .args .t1))
 
--- src/lib.rt:165:19
 array-read-if1 : tie.Need-array-read-if1 Inv-loop μ-loop
 array-read-if1 c = search needs
 
--- src/lib.rt:166:13
 returns : tie.Need-returns Inv-loop μ-loop
 unfolding pointersFit
 returns c =
     failed (fitsAt (c .before .before .before .args .t1)) (c .before .before .loop .inv) (c .before .loop-test .taken)
     (le-ltb _ _ (c .if1 .taken))
 
--- src/lib.rt:164:9
 add-i : tie.Need-add-i Inv-loop μ-loop
 add-i c = search needs
 
--- src/lib.rt:164:5
 loop-less : tie.Need-loop-less Inv-loop μ-loop
 loop-less c = search needs
 
--- src/lib.rt:164:5
 loop-again : tie.Need-loop-again Inv-loop μ-loop
 loop-again c =
     passed (fitsAt (c .before .before .before .args .t1)) (c .before .before .loop .inv) (c .before .loop-test .taken)
     (lt-ltb _ _ (c .if1 .left))
 
--- src/lib.rt:161:1
 returns-2 : tie.Need-returns-2 Inv-loop μ-loop
 unfolding pointersFit
 returns-2 c = over (fitsAt (c .before .before .args .t1)) (c .before .loop .inv) (c .loop-test .left)

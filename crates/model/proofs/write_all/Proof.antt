@@ -1,14 +1,13 @@
-use Rattle.model.proofs.Writes.{Going, begun, kept, put, again, over}
-use lib.ListN.{length-set}
+-- `write_all` does what `writeOf 16 0` says: what the FIFOs from n on are left to do gives what all 16 do.
+-- Assumes nothing.
 use mathlib.Core.Logic.{⊎-elim}
 use mathlib.Core.Path.{refl}
 use Prim.Native.Nat.{_-_}
+use lib.ListN.{length-set}
 use borrow.Author.Needs.{needs}
+use Rattle.model.proofs.Writes.{Going, begun, kept, put, again, over}
 use Rattle.model.proofs.write_all.Statement.{statement}
 use Rattle.model.proofs.write_all.Tie as tie
-use Rattle.model.proofs.write_all.Reads as reads
-use Rattle.model.proofs.write_all.Lts as lts
-use Rattle.model.proofs.moved_on.Reads as moved-on-reads
 
 abbrev Inv-loop : tie.InvT-loop
 Inv-loop feen word store₀ p₀ n₀ store p n = Going feen word store₀ p₀ store p n
@@ -16,59 +15,45 @@ Inv-loop feen word store₀ p₀ n₀ store p n = Going feen word store₀ p₀ 
 abbrev μ-loop : tie.MeasureT-loop
 μ-loop feen word store₀ p₀ n₀ store p n = 16 - n
 
--- src/lib.rt:141:5
 loop-holds : tie.Need-loop-holds Inv-loop μ-loop
 loop-holds c = begun _ _ _ _ (search needs) (search needs)
 
--- src/lib.rt:142:20
 cast-if1 : tie.Need-cast-if1 Inv-loop μ-loop
 cast-if1 c = search needs
 
--- src/lib.rt:142:12
 shr-if1 : tie.Need-shr-if1 Inv-loop μ-loop
 shr-if1 c = search needs
 
--- src/lib.rt:143:27
 array-read-pointer : tie.Need-array-read-pointer Inv-loop μ-loop
 array-read-pointer c = search needs
 
--- src/lib.rt:144:19
 mul-store : tie.Need-mul-store Inv-loop μ-loop
 mul-store c = search needs
 
--- src/lib.rt:144:29
 cast-store : tie.Need-cast-store Inv-loop μ-loop
 cast-store c = search needs
 
--- src/lib.rt:144:19
 add-store : tie.Need-add-store Inv-loop μ-loop
 add-store c = search needs
 
--- src/lib.rt:144:13
 mul-store-2 : tie.Need-mul-store-2 Inv-loop μ-loop
 mul-store-2 c = search needs
 
--- src/lib.rt:144:13
 slice-write-store : tie.Need-slice-write-store Inv-loop μ-loop
 slice-write-store c = search needs
 
--- src/lib.rt:145:20
 moved-on-requires : tie.Need-moved-on-requires Inv-loop μ-loop
 moved-on-requires c κs = search needs
 
--- src/lib.rt:145:13
 array-write-p : tie.Need-array-write-p Inv-loop μ-loop
 array-write-p c = search needs
 
--- src/lib.rt:147:13
 add-n : tie.Need-add-n Inv-loop μ-loop
 add-n c = search needs
 
--- src/lib.rt:141:5
 loop-less : tie.Need-loop-less Inv-loop μ-loop
 loop-less c = search needs
 
--- src/lib.rt:141:5
 loop-again : tie.Need-loop-again Inv-loop μ-loop
 loop-again c =
     let a = c .before .before .before .before .args in
@@ -79,11 +64,9 @@ loop-again c =
     (λ w. rw (w .1, w .2) (again (l .inv) more _ _ refl refl (kept (a .feen) (a .word) (l .store) (l .p) (l .n) (w .0 .left))))
     (c .if1 .came)
 
--- src/lib.rt:135:1
 same-length : tie.Need-same-length Inv-loop μ-loop
 same-length c = c .before .loop .inv .same
 
--- src/lib.rt:135:1
 returns : tie.Need-returns Inv-loop μ-loop
 returns c = over (c .before .loop .inv) (c .loop-test .left)
 

@@ -1,149 +1,110 @@
-use Rattle.model.specs.Commands.{actOf}
+-- `Model::act` does what `actOf` says: by the event, what the method for it ensures. A `Fast` or a frame that fits has a kind within a byte.
+-- Assumes nothing.
 use borrow.Author.Tests.{ltb-true}
 use borrow.Author.Needs.{needs}
+use Rattle.model.specs.Commands.{actOf}
 use Rattle.model.proofs.Model.act.Statement.{statement}
 use Rattle.model.proofs.Model.act.Tie as tie
-use Rattle.model.proofs.Model.act.Reads as reads
-use Rattle.model.proofs.Model.act.Lts as lts
-use Rattle.model.proofs.Model.bad_fast.Reads as bad-fast-reads
-use Rattle.model.proofs.Model.bad_slow.Reads as bad-slow-reads
-use Rattle.model.proofs.Model.fast.Reads as fast-reads
-use Rattle.model.proofs.Model.frame.Reads as frame-reads
-use Rattle.model.proofs.Model.leave.Reads as leave-reads
-use Rattle.model.proofs.Model.lv1.Reads as lv1-reads
-use Rattle.model.proofs.Model.silent.Reads as silent-reads
-use Rattle.model.proofs.Model.slow.Reads as slow-reads
 
--- src/lib.rt:531:31
 enum-told : tie.Need-enum-told
 enum-told c = search needs
 
--- src/lib.rt:531:31
 silent-requires : tie.Need-silent-requires
 silent-requires c κs = search needs
 
--- src/lib.rt:532:26
 enum-known-event : tie.Need-enum-known-event
 enum-known-event c = search needs
 
--- src/lib.rt:532:36
 lv1-requires : tie.Need-lv1-requires
 lv1-requires c κs = search needs
 
--- src/lib.rt:533:27
 enum-known-event-2 : tie.Need-enum-known-event-2
 enum-known-event-2 c = search needs
 
--- src/lib.rt:533:37
 fast-requires : tie.Need-fast-requires
 fast-requires c κs = (c .before .before .before .before .pre .0, ltb-true _ _ (rw (c .before .event2 .given .1) at (c .before .before .before .before .pre .2)))
 
--- src/lib.rt:534:30
 enum-known-event-3 : tie.Need-enum-known-event-3
 enum-known-event-3 c = search needs
 
--- src/lib.rt:534:40
 bad-fast-requires : tie.Need-bad-fast-requires
 bad-fast-requires c κs = search needs
 
--- src/lib.rt:535:34
 enum-told-2 : tie.Need-enum-told-2
 enum-told-2 c = search needs
 
--- src/lib.rt:535:34
 leave-requires : tie.Need-leave-requires
 leave-requires c κs = search needs
 
--- src/lib.rt:537:17
 enum-known-event-4 : tie.Need-enum-known-event-4
 enum-known-event-4 c = search needs
 
--- src/lib.rt:540:18
 slow-requires : tie.Need-slow-requires
 slow-requires c κs = search needs
 
--- src/lib.rt:541:30
 enum-known-event-5 : tie.Need-enum-known-event-5
 enum-known-event-5 c = search needs
 
--- src/lib.rt:541:43
 bad-slow-requires : tie.Need-bad-slow-requires
 bad-slow-requires c κs = search needs
 
--- src/lib.rt:542:53
 enum-told-3 : tie.Need-enum-told-3
 enum-told-3 c = search needs
 
--- src/lib.rt:542:53
 silent-requires-2 : tie.Need-silent-requires-2
 silent-requires-2 c κs = search needs
 
--- src/lib.rt:543:31
 enum-known-event-6 : tie.Need-enum-known-event-6
 enum-known-event-6 c = search needs
 
--- src/lib.rt:543:54
 frame-requires : tie.Need-frame-requires
 frame-requires c κs = (c .before .before .before .before .pre .0, ltb-true _ _ (rw (c .before .event6 .given .1) at (c .before .before .before .before .pre .2)))
 
--- src/lib.rt:545:17
 enum-known-event-7 : tie.Need-enum-known-event-7
 enum-known-event-7 c = search needs
 
--- src/lib.rt:549:18
 frame-requires-2 : tie.Need-frame-requires-2
 frame-requires-2 c κs = (c .before .before .before .before .pre .0, ltb-true _ _ (rw (c .before .event7 .given .1) at (c .before .before .before .before .pre .2)))
 
--- src/lib.rt:526:5
 returns : tie.Need-returns
 unfolding actOf
 returns c = simp (c .before .enum-told .given .1, c .silent .ensures)
 
--- src/lib.rt:526:5
 returns-2 : tie.Need-returns-2
 unfolding actOf
 returns-2 c = simp (c .before .before .event .given .1, c .lv1 .ensures)
 
--- src/lib.rt:526:5
 returns-3 : tie.Need-returns-3
 unfolding actOf
 returns-3 c = simp (c .before .before .event2 .given .1, c .fast .ensures)
 
--- src/lib.rt:526:5
 returns-4 : tie.Need-returns-4
 unfolding actOf
 returns-4 c = simp (c .before .before .event3 .given .1, c .bad-fast .ensures)
 
--- src/lib.rt:526:5
 returns-5 : tie.Need-returns-5
 unfolding actOf
 returns-5 c = simp (c .before .enum-told2 .given .1, c .leave .ensures)
 
--- src/lib.rt:526:5
 same-length : tie.Need-same-length
 same-length c = search needs
 
--- src/lib.rt:526:5
 returns-6 : tie.Need-returns-6
 unfolding actOf
 returns-6 c = simp (c .before .before .before .before .before .event4 .given .1, c .before .before .slow .ensures)
 
--- src/lib.rt:526:5
 returns-7 : tie.Need-returns-7
 unfolding actOf
 returns-7 c = simp (c .before .before .event5 .given .1, c .bad-slow .ensures)
 
--- src/lib.rt:526:5
 returns-8 : tie.Need-returns-8
 unfolding actOf
 returns-8 c = simp (c .before .enum-told3 .given .1, c .silent2 .ensures)
 
--- src/lib.rt:526:5
 returns-9 : tie.Need-returns-9
 unfolding actOf
 returns-9 c = simp (c .before .before .event6 .given .1, c .frame .ensures)
 
--- src/lib.rt:526:5
 returns-10 : tie.Need-returns-10
 unfolding actOf
 returns-10 c = simp (c .before .before .event7 .given .1, c .frame2 .ensures)

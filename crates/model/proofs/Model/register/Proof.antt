@@ -1,27 +1,23 @@
+-- `Model::register` answers `registerOf`, which is 0 past the 16 registers.
+-- Assumes nothing.
 use mathlib.Core.Path.{_≡_, sym}
-use lib.ListN.{length, List·getD-eq-default}
 use native.Mathlib.Omega.{arith}
+use lib.ListN.{length, List·getD-eq-default}
 use borrow.Author.Needs.{needs}
 use Rattle.model.proofs.Model.register.Statement.{statement}
 use Rattle.model.proofs.Model.register.Tie as tie
-use Rattle.model.proofs.Model.register.Reads as reads
-use Rattle.model.proofs.Model.register.Lts as lts
 
--- src/lib.rt:234:13
 returns : tie.Need-returns
 returns c =
     let h : length (c .before .args .self .registers) ≡ 16 = search needs in
     sym (List·getD-eq-default (c .before .args .self .registers) 0 {n = c .before .args .address} (omega arith))
 
--- src/lib.rt:237:9
 mul-result : tie.Need-mul-result
 mul-result c = search needs
 
--- src/lib.rt:237:9
 array-read-result : tie.Need-array-read-result
 array-read-result c = search needs
 
--- src/lib.rt:230:5
 returns-2 : tie.Need-returns-2
 returns-2 c = search needs
 

@@ -1,80 +1,61 @@
+-- `Model::slow` does what `slowOf` says, by Field 3.
+-- Assumes nothing.
 use borrow.Author.Tests.{ne-eqb}
 use borrow.Author.Needs.{needs}
 use Rattle.model.proofs.Model.slow.Statement.{statement}
 use Rattle.model.proofs.Model.slow.Tie as tie
-use Rattle.model.proofs.Model.slow.Reads as reads
-use Rattle.model.proofs.Model.slow.Lts as lts
-use Rattle.model.proofs.Model.enable.Reads as enable-reads
-use Rattle.model.proofs.Model.read_fifo.Reads as read-fifo-reads
-use Rattle.model.proofs.Model.read_register.Reads as read-register-reads
-use Rattle.model.proofs.Model.reset.Reads as reset-reads
-use Rattle.model.proofs.Model.reset_front_ends.Reads as reset-front-ends-reads
-use Rattle.model.proofs.Model.write_fifo.Reads as write-fifo-reads
-use Rattle.model.proofs.Model.write_register.Reads as write-register-reads
 
--- src/lib.rt:505:13
 write-register-requires : tie.Need-write-register-requires
 write-register-requires c κs = search needs
 
--- src/lib.rt:505:13
 returns : tie.Need-returns
 returns c = rw (c .before .if1 .taken, c .write-register .ensures)
 
--- src/lib.rt:508:13
 read-register-requires : tie.Need-read-register-requires
 read-register-requires c κs = search needs
 
--- src/lib.rt:508:13
 returns-2 : tie.Need-returns-2
 returns-2 c = rw (c .before .if2 .taken, c .read-register .ensures)
 
--- src/lib.rt:511:13
 write-fifo-requires : tie.Need-write-fifo-requires
 write-fifo-requires c κs = search needs
 
--- src/lib.rt:511:13
 same-length : tie.Need-same-length
 same-length c = search needs
 
--- src/lib.rt:511:13
 returns-3 : tie.Need-returns-3
 returns-3 c = rw (c .before .before .before .before .if3 .taken, c .before .before .write-fifo .ensures)
 
--- src/lib.rt:514:13
 read-fifo-requires : tie.Need-read-fifo-requires
 read-fifo-requires c κs = search needs
 
--- src/lib.rt:514:13
 same-length-2 : tie.Need-same-length-2
 same-length-2 c = search needs
 
--- src/lib.rt:514:13
 returns-4 : tie.Need-returns-4
 returns-4 c = rw (c .before .before .if4 .taken, c .read-fifo .ensures)
 
--- src/lib.rt:517:13
 enable-requires : tie.Need-enable-requires
 enable-requires c κs = search needs
 
--- src/lib.rt:517:13
 returns-5 : tie.Need-returns-5
 returns-5 c = rw (c .before .if5 .taken, c .enable .ensures)
 
--- src/lib.rt:520:13
 reset-requires : tie.Need-reset-requires
 reset-requires c κs = search needs
 
--- src/lib.rt:520:13
 returns-6 : tie.Need-returns-6
 returns-6 c = rw (c .before .if6 .taken, c .reset .ensures)
 
--- src/lib.rt:522:9
 reset-front-ends-requires : tie.Need-reset-front-ends-requires
 reset-front-ends-requires c κs = search needs
 
--- src/lib.rt:492:5
 returns-7 : tie.Need-returns-7
-returns-7 c = simp (ne-eqb _ _ (c .before .before .before .before .before .before .if1 .left), ne-eqb _ _ (c .before .before .before .before .before .if2 .left), ne-eqb _ _ (c .before .before .before .before .if3 .left), ne-eqb _ _ (c .before .before .before .if4 .left), ne-eqb _ _ (c .before .before .if5 .left), ne-eqb _ _ (c .before .if6 .left), c .reset-front-ends .ensures)
+returns-7 c =
+    let d = c .before .before .before in
+    simp
+    (ne-eqb _ _ (d .before .before .before .if1 .left), ne-eqb _ _ (d .before .before .if2 .left), ne-eqb _ _ (d .before .if3 .left),
+    ne-eqb _ _ (d .if4 .left), ne-eqb _ _ (c .before .before .if5 .left), ne-eqb _ _ (c .before .if6 .left), c .reset-front-ends .ensures)
 
 pub slow-spec : {M : Type 1} → statement M
 slow-spec =

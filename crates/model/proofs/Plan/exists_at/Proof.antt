@@ -1,21 +1,18 @@
+-- `Plan::exists_at` answers `existsAt`; the mask's bit is taken by a shift.
+-- Assumes nothing.
 use Prim.Native.Nat.{_/_, _^_}
-use borrow.Author.Tests.{lt-ltb, le-ltb, le-leb, lt-leb, eq-eqb, ne-eqb}
 use lib.Bits.{and-mask}
+use borrow.Author.Tests.{lt-ltb, le-ltb}
 use borrow.Author.Needs.{needs}
 use Rattle.model.proofs.Plan.exists_at.Statement.{statement}
 use Rattle.model.proofs.Plan.exists_at.Tie as tie
-use Rattle.model.proofs.Plan.exists_at.Reads as reads
-use Rattle.model.proofs.Plan.exists_at.Lts as lts
 
--- src/lib.rt:190:13
 returns : tie.Need-returns
 returns c = simp (le-ltb _ _ (c .if1 .taken))
 
--- src/lib.rt:192:9
 shr-result : tie.Need-shr-result
 shr-result c = search needs
 
--- src/lib.rt:186:5
 returns-2 : tie.Need-returns-2
 returns-2 c = simp (lt-ltb _ _ (c .before .if1 .left), and-mask (c .before .before .args .self .mask / 2 ^ c .before .before .args .address) 1)
 

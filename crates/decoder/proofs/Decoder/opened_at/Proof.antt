@@ -1,0 +1,14 @@
+-- `opened_at` is the start state.
+-- Assumes nothing.
+use borrow.Author.Needs.{needs}
+use Rattle.decoder.proofs.Decoder.opened_at.Statement.{statement}
+use Rattle.decoder.proofs.Decoder.opened_at.Tie as tie
+
+start-requires : tie.Need-start-requires
+start-requires c κs = search needs
+
+returns : tie.Need-returns
+returns c = simp (c .start .ensures)
+
+pub opened-at-spec : {M : Type 1} → statement M
+opened-at-spec = tie.close (tie.spec start-requires returns)

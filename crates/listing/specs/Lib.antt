@@ -1,0 +1,6 @@
+pub mod Digits
+pub mod Line
+pub mod Lines
+pub mod Block
+pub mod Records
+pub mod State

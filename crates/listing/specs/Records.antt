@@ -1,0 +1,38 @@
+-- The lines of the listing, as bytes (document 01, "Streams with their records": the station program).
+-- Assumes nothing.
+use mathlib.Core.List.{List, [], _∷_, _++_}
+use Prim.Native.Nat.{ℕ, _/_, _%_}
+use Rattle.listing.specs.Digits.{charactersOf}
+
+-- What stands after a number: a space while more follow, else the line feed.
+abbrev pub markAfter : List ℕ → ℕ
+markAfter [] = 10
+markAfter (n ∷ ns) = 32
+
+-- Numbers, each in so many digits, "parted by spaces" and ended by a line feed.
+unfoldable pub numbersLine : List ℕ → List ℕ → List ℕ
+numbersLine [] widths = []
+numbersLine (n ∷ ns) [] = []
+numbersLine (n ∷ ns) (width ∷ widths) = charactersOf n width ++ (markAfter ns ∷ numbersLine ns widths)
+
+-- A line: its lead, and its numbers.
+abbrev pub lineOf : List ℕ → List ℕ → List ℕ → List ℕ
+lineOf lead numbers widths = lead ++ numbersLine numbers widths
+
+-- A record's line from its two words: "time (12 digits), kind (2), flags (2), value (8), parted by spaces".
+abbrev pub recordLine : ℕ → ℕ → List ℕ
+recordLine head value =
+    lineOf [] (head / 65536 ∷ head / 256 % 256 ∷ head % 256 ∷ value ∷ []) (12 ∷ 2 ∷ 2 ∷ 8 ∷ [])
+
+-- "A refused line prints "!", the number in two digits, a space, the line's number from 1 in eight".
+abbrev pub refusedLine : ℕ → ℕ → List ℕ
+refusedLine number line = lineOf (33 ∷ []) (number ∷ line ∷ []) (2 ∷ 8 ∷ [])
+
+-- Bytes in "two digits each, unspaced".
+unfoldable pub byteDigits : List ℕ → List ℕ
+byteDigits [] = []
+byteDigits (b ∷ bs) = charactersOf b 2 ++ byteDigits bs
+
+-- A frame's line: "">" and its bytes".
+abbrev pub frameLine : List ℕ → List ℕ
+frameLine bytes = 62 ∷ (byteDigits bytes ++ (10 ∷ []))
