@@ -1,6 +1,9 @@
 pub mod Ranges
 pub mod Runs
 pub mod Calls
+pub mod Refusals
 pub mod Stretched
 pub mod Loop
-pub mod Events
+pub mod Slows
+pub mod Soundness
+pub mod Stays

@@ -14,7 +14,7 @@ use Rattle.recogniser.specs.declared.Event.the-variants as event
 use Rattle.recogniser.specs.declared.Recogniser.{Recogniser}
 use Rattle.recogniser.specs.declared.Stretch.{Stretch}
 use Rattle.recogniser.specs.Stretch.{stretchOf}
-use Rattle.recogniser.proofs.Stretches.{Passes, stretch-passes, stretch-some, stretch-within}
+use Rattle.recogniser.proofs.Stretches.{Passes, ends, last, more, stretch-passes, stretch-some, stretch-within}
 use Rattle.frames.specs.Tray.{trayOf}
 use Rattle.model.specs.declared.Model.{Model}
 use Rattle.model.specs.declared.Acted.{Acted}
@@ -23,10 +23,12 @@ use Rattle.model.specs.declared.Cycle.the-variants.{Nothing, Record}
 use Rattle.model.specs.Registers.{cntOf}
 use Rattle.model.specs.Records.{isFrameHead}
 use Rattle.model.specs.Commands.{Effect, actOf}
+use Rattle.model.specs.Sound.{eventFits}
+use Rattle.model.proofs.Heard.{heard-fits}
 use Rattle.decoder.specs.declared.Decoder.{Decoder}
 use Rattle.decoder.specs.declared.Ending.{Ending}
 use Rattle.decoder.specs.declared.Ending.the-variants.{Done, Frame, ListFull}
-use Rattle.decoder.specs.Run.{Turned, Run, ended, oneRecord, afterCycle, runOf}
+use Rattle.decoder.specs.Run.{Turned, Run, ended, oneBit, oneRecord, afterCycle, runOf}
 use Rattle.decoder.specs.Turn.{World, turnOf}
 use Rattle.decoder.specs.Take.{Call, Left, finished, takenOf}
 use Rattle.decoder.proofs.Stretched.{effectAt, landed, bitsAhead, run-stretch}
@@ -114,6 +116,11 @@ two-put l at x v h =
     in
     rw (left, ← right, ← front) (take-append-drop at (set (set l at x) (at + 1) v))
 
+-- no room for a record: no bit is taken
+no-room : (w : World) (bit : ℕ) (bits : List ℕ) (room : ℕ) → room < 2 → runOf turnOf (bit ∷ bits) w room ≡ ended w ListFull
+no-room w bit bits room h =
+    ap (λ b. cond b (ended w ListFull) (oneBit (afterCycle (runOf turnOf bits) (turnOf w bit .state) (turnOf w bit .cycle) room))) (lt-ltb room 2 h)
+
 -- a run with a record ahead of it, finished
 wrote-one : (taken at free x v : ℕ) (list : List ℕ) (r : Run World) → free ≤ at
     → finished taken ((at - free) / 2) list at (oneRecord x v r) ≡ finished taken ((at + 2 - free) / 2) (set (set list at x) (at + 1) v) (at + 2) r
@@ -121,7 +128,17 @@ wrote-one taken at free x v list r h =
     let n : (at - free) / 2 + suc (suc (length (r .words))) / 2 ≡ (at + 2 - free) / 2 + length (r .words) / 2 = omega arith in
     let a : suc at ≡ at + 1 = omega arith in
     let b : suc (suc at) ≡ at + 2 = omega arith in
-    rw (n, a, b)
+    λ i. record {
+      taken = record { decoder = r .state .decoder; told = record { bits = taken + r .bits; records = n i; ending = r .ending } };
+      store = r .state .store;
+      tray = r .state .tray;
+      list = sets (set (set list at x) (a i) v) (b i) (r .words);
+    }
+
+passes-fit : {cnt : ℕ} {r : Recogniser} {bits : List ℕ} {s : Stretch} → Passes cnt r bits s → eventFits (s .event) ≡ true
+passes-fit (ends r) = refl
+passes-fit {cnt} (last r bit bits) = heard-fits r bit cnt
+passes-fit (more r bit bits s silent p) = passes-fit p
 
 module _ {d : Decoder} {c : Call} {store tray list : List ℕ} {r : Recogniser} {m : Model} {cnt taken at : ℕ} (g : Going d c store tray list r m cnt taken at) where
   abbrev here : World
@@ -140,25 +157,35 @@ module _ {d : Decoder} {c : Call} {store tray list : List ℕ} {r : Recogniser} 
     pub full : length list - at < 2 → answered c here taken at ListFull list ≡ takenOf d c
     full h =
         ending c here ListFull taken at list
-        ∙ ap (λ b. finished taken ((at - c .free) / 2) list at (cond b (ended here ListFull) _)) (sym (lt-ltb (length list - at) 2 h))
+        ∙ ap (finished taken ((at - c .free) / 2) list at) (sym (no-room here (bitOf (c .input) (c .first + taken)) (bitsOf (c .input) (c .first + taken + 1) (c .count - taken - 1)) (length list - at) h))
         ∙ (rw first at (g .rest))
 
     -- after a stretch, given what its event did
-    module _ (room : 2 ≤ length list - at) (s : Stretch) (went : s ≡ stretchOf r cnt (left c taken)) where
+    module _ (room : 2 ≤ length list - at) (s : Stretch)
+        (walked : s ≡ stretchOf r cnt (bitsOf (c .input) (c .first + taken) (c .first + c .count - (c .first + taken)))) where
       abbrev on : ℕ
       on = taken + s .taken
+
+      went : s ≡ stretchOf r cnt (left c taken)
+      went = let e : c .first + c .count - (c .first + taken) ≡ c .count - taken = omega arith in rw e at walked
 
       some : 1 ≤ s .taken
       some = rw (went, first) (stretch-some r cnt _ _)
 
       pub within : s .taken ≤ c .count - taken
-      within = rw (length-bits (c .input) (c .first + taken) (c .count - taken)) at (rw went (stretch-within r cnt (left c taken)))
+      within =
+          let h : s .taken ≤ length (left c taken) = rw went (stretch-within r cnt (left c taken)) in
+          rw (length-bits (c .input) (c .first + taken) (c .count - taken)) at h
 
       pub moved : (1 ≤ s .taken) × (on ≤ c .count)
       moved = (some, let h = within in omega arith)
 
       passes : Passes cnt r (left c taken) s
       passes = rw (went, first) (stretch-passes r cnt _ _)
+
+      -- what the last cycle of a stretch asks for has a record that fits
+      pub stretched-fits : eventFits (s .event) ≡ true
+      stretched-fits = passes-fit passes
 
       after : drop (s .taken) (left c taken) ≡ left c on
       after =

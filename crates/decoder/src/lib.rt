@@ -192,6 +192,18 @@ impl Decoder {
         }
     }
 
+    // The state that the loop's locals make up.
+    fn joined(plan: Plan, next: u64, recogniser: Recogniser, model: Model) -> Decoder
+        ensures { λ r. ⌜ r ≡ (record { plan = plan; next = next; recogniser = recogniser; model = model }) ⌝ }
+    {
+        Decoder {
+            plan: plan,
+            next: next,
+            recogniser: recogniser,
+            model: model,
+        }
+    }
+
     // What a call tells after so many bits, with the list filled up to a word.
     fn told(self, bits: usize, words: usize, ending: Ending) -> Taken
         ensures { λ r. ⌜ r ≡ (record { decoder = self; told = record { bits = bits; records = words / 2; ending = ending } }) ⌝ }
@@ -206,7 +218,7 @@ impl Decoder {
         }
     }
 
-    // A call that is not refused, bit by bit. The recogniser, CNT and the counts are locals; arrays are touched only when an event asks for it.
+    // A call that is not refused, stretch by stretch. The recogniser, CNT and the counts are locals; arrays are touched only when an event asks for it.
     fn run(
         self,
         input: &[u8],
@@ -229,22 +241,20 @@ impl Decoder {
         let mut taken: usize = 0;
         let mut at = free;
         while taken < count {
-            let time = start + taken as u64;
             if list.len() - at < Decoder::LIST_UNIT {
-                let d = Decoder { plan: plan, next: time, recogniser: recogniser, model: model };
+                let d = Decoder::joined(plan, start + taken as u64, recogniser, model);
                 return d.told(taken, at - free, Ending::ListFull);
             }
-            let bit = bits::bit_at(input, first + taken);
-            let heard = recogniser.step(bit, cnt);
-            let next = heard.next;
+            let stretch = recogniser.stretch(input, first + taken, first + count, cnt);
+            let next = stretch.next;
             recogniser = next;
-            taken = taken + 1;
-            let event = heard.event;
+            taken = taken + stretch.taken;
+            let event = stretch.event;
             if let Event::Nothing = event {
                 continue;
             }
             frames::keep(tray, event);
-            let acted = model.act(plan, event, time, store);
+            let acted = model.act(plan, event, start + taken as u64 - 1, store);
             let m = acted.model;
             model = m;
             cnt = m.cnt(plan);
@@ -255,11 +265,11 @@ impl Decoder {
             write_record(&mut list[at..], head, value);
             at = at + Decoder::LIST_UNIT;
             if model::is_frame_head(head) {
-                let d = Decoder { plan: plan, next: time + 1, recogniser: recogniser, model: model };
+                let d = Decoder::joined(plan, start + taken as u64, recogniser, model);
                 return d.told(taken, at - free, Ending::Frame);
             }
         }
-        let d = Decoder { plan: plan, next: start + count as u64, recogniser: recogniser, model: model };
+        let d = Decoder::joined(plan, start + count as u64, recogniser, model);
         d.told(taken, at - free, Ending::Done)
     }
 

@@ -1,11 +1,32 @@
--- Numbers in digits: their count, and the lowest digit apart from the others.
+-- Digits: what is known of a digit's character, and numbers in digits: their count, and the lowest apart from the others.
 -- Assumes nothing.
+use mathlib.Core.Bool.{true}
 use mathlib.Core.List.{List, [], _∷_, _++_}
-use mathlib.Core.Path.{_≡_, refl, ap}
-use Prim.Native.Nat.{ℕ, zero, suc, _*_, _/_, _%_, _^_}
-use native.Mathlib.Nat.{div-one, pow-succ', div-div-eq-div-mul}
-use lib.ListN.{length}
-use Rattle.listing.specs.Digits.{characterOf, charactersOf}
+use mathlib.Core.Logic.{⊎-elim}
+use mathlib.Core.Path.{_≡_, refl, ap, sym, _∙_}
+use Prim.Native.Nat.{ℕ, zero, suc, _+_, _*_, _-_, _/_, _%_, _^_, _≤_, _<_}
+use native.Mathlib.Nat.{div-one, pow-succ', div-div-eq-div-mul, add-assoc}
+use native.Mathlib.Omega.{arith}
+use lib.Dec.{leb}
+use lib.ListN.{length, set, length-set, length-append}
+use lib.Seq.{sets}
+use borrow.Author.Tests.{leb-true}
+use Rattle.listing.specs.Digits.{isDigit, characterOf, charactersOf}
+use Rattle.listing.proofs.Truth.{both, either}
+use Rattle.listing.specs.Block.{block, putAll}
+use Rattle.listing.proofs.Puts.{sets-append, sets-last}
+
+pub record Digit (c : ℕ) : Type 0 where
+  pub low : 48 ≤ c
+  pub high : c ≤ 70
+  pub gap : 57 < c → 65 ≤ c
+
+pub known : (c : ℕ) → isDigit c ≡ true → Digit c
+known c e =
+    ⊎-elim
+    (λ n. let p = both (leb 48 c) (leb c 57) n in let l = leb-true 48 c (p .0) in let h = leb-true c 57 (p .1) in record { low = l; high = omega arith; gap = λ m. omega arith })
+    (λ n. let p = both (leb 65 c) (leb c 70) n in let l = leb-true 65 c (p .0) in let h = leb-true c 70 (p .1) in record { low = omega arith; high = h; gap = λ m. l })
+    (either _ _ e)
 
 pub count : (n width : ℕ) → length (charactersOf n width) ≡ width
 unfolding charactersOf
@@ -16,3 +37,34 @@ pub lowest : (n width : ℕ) → charactersOf n (suc width) ≡ charactersOf (n 
 unfolding charactersOf
 lowest n zero = rw div-one
 lowest n (suc width) = rw (pow-succ', ← div-div-eq-div-mul, lowest n width)
+
+-- A mark after a number.
+pub marked : (out : List ℕ) (at n width mark : ℕ)
+    → block (set (sets out at (charactersOf n width)) (at + width) mark) (at + width + 1) ≡ putAll out at (charactersOf n width ++ (mark ∷ []))
+marked out at n width mark = rw (sets-append, length-append, count, add-assoc)
+
+-- The digits that are left of the number that is left, put at the place, give what the whole number gives.
+pub record Going (out₀ : List ℕ) (at number width : ℕ) (out : List ℕ) (left rest : ℕ) : Type 0 where
+  pub low : left ≤ width
+  pub same : length out ≡ length out₀
+  pub bytes : sets out at (charactersOf rest left) ≡ sets out₀ at (charactersOf number width)
+
+pub begun : (out : List ℕ) (at number width : ℕ) → Going out at number width out width number
+begun out at number width = record { low = omega arith; same = refl; bytes = refl }
+
+module _ {out₀ : List ℕ} {at number width : ℕ} {out : List ℕ} {left rest : ℕ} (g : Going out₀ at number width out left rest) where
+  pub again : 0 < left → Going out₀ at number width (set out (at + (left - 1)) (characterOf (rest % 16))) (left - 1) (rest / 16)
+  again more =
+      let k : left ≡ suc (left - 1) = omega arith in
+      record {
+        low = omega (arith, g .low);
+        same = length-set out _ _ ∙ g .same;
+        bytes =
+            (λ i. sets (set out (at + sym (count (rest / 16) (left - 1)) i) (characterOf (rest % 16))) at (charactersOf (rest / 16) (left - 1)))
+                ∙ sets-last (charactersOf (rest / 16) (left - 1)) out at (characterOf (rest % 16))
+                ∙ (rw (← lowest rest (left - 1), ← k) (g .bytes));
+      }
+
+  pub over : left ≤ 0 → out ≡ sets out₀ at (charactersOf number width)
+  unfolding charactersOf
+  over h = let k : left ≡ 0 = omega arith in rw k at (g .bytes)

@@ -1,2 +1,6 @@
+pub mod Truth
 pub mod Puts
 pub mod Digits
+pub mod Texts
+pub mod Says
+pub mod Lines

@@ -1,7 +1,7 @@
 -- The lines of the listing, as bytes (document 01, "Streams with their records": the station program).
 -- Assumes nothing.
 use mathlib.Core.List.{List, [], _∷_, _++_}
-use Prim.Native.Nat.{ℕ, _/_, _%_}
+use Prim.Native.Nat.{ℕ, _+_, _/_, _%_}
 use Rattle.listing.specs.Digits.{charactersOf}
 
 -- What stands after a number: a space while more follow, else the line feed.
@@ -18,6 +18,11 @@ numbersLine (n ∷ ns) (width ∷ widths) = charactersOf n width ++ (markAfter n
 -- A line: its lead, and its numbers.
 abbrev pub lineOf : List ℕ → List ℕ → List ℕ → List ℕ
 lineOf lead numbers widths = lead ++ numbersLine numbers widths
+
+-- How many bytes a line has, by its lead and widths: each number has its mark.
+abbrev pub numbersSize : List ℕ → ℕ
+numbersSize [] = 0
+numbersSize (width ∷ widths) = width + 1 + numbersSize widths
 
 -- A record's line from its two words: "time (12 digits), kind (2), flags (2), value (8), parted by spaces".
 abbrev pub recordLine : ℕ → ℕ → List ℕ

@@ -11,7 +11,7 @@ ghost use Rattle.listing.specs.Digits.{isDigit, digitOf, characterOf, ch
 ghost use Rattle.listing.specs.Line.{readAs, readOf};
 ghost use Rattle.listing.specs.Lines.{fresh, withCharacter, seenOf, answerOf, nothingSeen, upToFeed, fedOf};
 ghost use Rattle.listing.specs.Block.{block, putAll, putOf};
-ghost use Rattle.listing.specs.Records.{numbersLine, lineOf, recordLine, refusedLine, byteDigits, frameLine};
+ghost use Rattle.listing.specs.Records.{numbersLine, lineOf, numbersSize, recordLine, refusedLine, byteDigits, frameLine};
 ghost use Rattle.listing.specs.State.{registerLine, l1idLine, baseLine, runmodeLine, pointersLine, wordLine};
 
 // What a hexadecimal line says: so many bytes, or a refusal, number 7 or 8.
@@ -295,7 +295,7 @@ fn fits(room: usize, at: usize, size: usize) -> bool
 
 // A line of a lead and numbers, of a size that is known, put into a block.
 fn put_line(out: &mut [u8], at: usize, size: usize, lead: &[u8], numbers: &[u64], widths: &[usize]) -> usize
-    requires { ⌜ (length (now numbers) ≡ length (now widths)) × (size ≡ length (lineOf (now lead) (now numbers) (now widths))) ⌝ }
+    requires { ⌜ (length (now numbers) ≡ length (now widths)) × (size ≡ length (now lead) + numbersSize (now widths)) ⌝ }
     ensures { λ r. ⌜ block (now (out .exit)) r ≡ putOf (now (out .entry)) at (lineOf (now (lead .entry)) (now (numbers .entry)) (now (widths .entry))) ⌝ }
 {
     if !fits(out.len(), at, size) {
@@ -367,11 +367,17 @@ pub fn base_line(out: &mut [u8], at: usize, base: u64) -> usize
     put_line(out, at, 18, b"base ", &numbers, &widths)
 }
 
+fn bit(on: bool) -> u64
+    ensures { λ r. ⌜ r ≡ cond on 1 0 ⌝ }
+{
+    if on { 1 } else { 0 }
+}
+
 // RunMode, 1 for on. 10 bytes.
 pub fn runmode_line(out: &mut [u8], at: usize, on: bool) -> usize
     ensures { λ r. ⌜ block (now (out .exit)) r ≡ putOf (now (out .entry)) at (runmodeLine on) ⌝ }
 {
-    let numbers = [on as u64];
+    let numbers = [bit(on)];
     let widths = [1];
     put_line(out, at, 10, b"runmode ", &numbers, &widths)
 }

@@ -1,24 +1,25 @@
+-- `listing::digit` meets its contract: a digit's character lies in one of two ranges, told apart by 57.
+-- Assumes nothing.
+use native.Mathlib.Omega.{arith}
 use borrow.Author.Needs.{needs}
+use borrow.Author.Tests.{le-leb, lt-leb}
+use Rattle.listing.proofs.Digits.{known}
 use Rattle.listing.proofs.digit.Statement.{statement}
 use Rattle.listing.proofs.digit.Tie as tie
-use Rattle.listing.proofs.digit.Reads as reads
-use Rattle.listing.proofs.digit.Lts as lts
 
--- src/lib.rt:61:16
 sub-result : tie.Need-sub-result
-sub-result c = ?
+sub-result c = known (c .before .args .character) (c .before .pre) .low
 
--- src/lib.rt:61:9
 returns : tie.Need-returns
-returns c = ?
+returns c = (simp (le-leb _ _ (c .if1 .taken)), omega arith)
 
--- src/lib.rt:63:5
 sub-result-2 : tie.Need-sub-result-2
 sub-result-2 c = search needs
 
--- src/lib.rt:56:1
 returns-2 : tie.Need-returns-2
-returns-2 c = ?
+returns-2 c =
+    let d = known (c .before .args .character) (c .before .pre) in
+    (simp (lt-leb _ _ (c .if1 .left)), omega arith)
 
 pub digit-spec : {M : Type 1} → statement M
 digit-spec = tie.close (tie.spec sub-result returns sub-result-2 returns-2)

@@ -1,41 +1,57 @@
+-- `listing::line_end` meets its contract: from each place passed, the characters ahead of the line feed end at the same place.
+-- Assumes nothing.
+use mathlib.Core.Path.{_≡_, refl, _∙_, sym}
+use Prim.Native.Nat.{_+_, _-_, _≤_}
+use native.Mathlib.Numerals.{add-one}
+use native.Mathlib.Omega.{arith}
+use lib.ListN.{length, drop, drop-of-length-le}
+use lib.Seq.{drop-cons}
+use borrow.Author.Needs.{needs}
+use borrow.Author.Tests.{eq-eqb, ne-eqb}
+use Rattle.listing.specs.Lines.{upToFeed}
 use Rattle.listing.proofs.line_end.Statement.{statement}
 use Rattle.listing.proofs.line_end.Tie as tie
-use Rattle.listing.proofs.line_end.Reads as reads
-use Rattle.listing.proofs.line_end.Lts as lts
 
 abbrev Inv-loop : tie.InvT-loop
-Inv-loop block from at₀ at = ?
+Inv-loop block from at₀ at =
+    (at ≤ length block) × (at + length (upToFeed (drop at block)) ≡ from + length (upToFeed (drop from block)))
 
 abbrev μ-loop : tie.MeasureT-loop
-μ-loop block from at₀ at = ?
+μ-loop block from at₀ at = length block - at
 
--- src/lib.rt:88:5
 loop-holds : tie.Need-loop-holds Inv-loop μ-loop
-loop-holds c = ?
+loop-holds c = (c .pre, refl)
 
--- src/lib.rt:89:12
 shared-slice-read-if1 : tie.Need-shared-slice-read-if1 Inv-loop μ-loop
-shared-slice-read-if1 c = ?
+shared-slice-read-if1 c = search needs
 
--- src/lib.rt:90:13
 returns : tie.Need-returns Inv-loop μ-loop
-returns c = ?
+unfolding upToFeed
+returns c =
+    let t = c .before .before in
+    let l = t .before .loop in
+    let h = simp (drop-cons (t .before .before .args .block .now) (l .at) 0 (t .loop-test .taken), eq-eqb _ _ (c .if1 .taken)) at (l .inv .1) in
+    omega arith
 
--- src/lib.rt:92:9
 add-at : tie.Need-add-at Inv-loop μ-loop
-add-at c = ?
+add-at c = search needs
 
--- src/lib.rt:88:5
 loop-less : tie.Need-loop-less Inv-loop μ-loop
-loop-less c = ?
+loop-less c = search needs
 
--- src/lib.rt:88:5
 loop-again : tie.Need-loop-again Inv-loop μ-loop
-loop-again c = ?
+unfolding upToFeed
+loop-again c =
+    let t = c .before .before in
+    let l = t .before .loop in
+    let h = simp (drop-cons (t .before .before .args .block .now) (l .at) 0 (t .loop-test .taken), ne-eqb _ _ (c .if1 .left)) at (l .inv .1) in
+    (omega arith, rw add-one (omega arith))
 
--- src/lib.rt:83:1
 returns-2 : tie.Need-returns-2 Inv-loop μ-loop
-returns-2 c = ?
+unfolding upToFeed
+returns-2 c =
+    let h = rw (drop-of-length-le _ (c .loop-test .left)) at (c .before .loop .inv .1) in
+    omega arith
 
 pub line-end-spec : {M : Type 1} → statement M
 line-end-spec =

@@ -1,50 +1,42 @@
+-- `listing::put_digits` meets its contract: the digits that are left of the number that is left give what all of them give.
+-- Assumes nothing.
+use borrow.Author.Needs.{needs}
+use Rattle.listing.proofs.Digits.{Going, begun, again, over}
 use Rattle.listing.proofs.put_digits.Statement.{statement}
 use Rattle.listing.proofs.put_digits.Tie as tie
-use Rattle.listing.proofs.put_digits.Reads as reads
-use Rattle.listing.proofs.put_digits.Lts as lts
-use Rattle.listing.proofs.character.Reads as character-reads
 
 abbrev Inv-loop : tie.InvT-loop
-Inv-loop out₀ at number width left₀ rest₀ out left rest = ?
+Inv-loop out₀ at number width left₀ rest₀ out left rest = Going out₀ at number width out left rest
 
 abbrev μ-loop : tie.MeasureT-loop
-μ-loop out₀ at number width left₀ rest₀ out left rest = ?
+μ-loop out₀ at number width left₀ rest₀ out left rest = left
 
--- src/lib.rt:231:5
 loop-holds : tie.Need-loop-holds Inv-loop μ-loop
-loop-holds c = ?
+loop-holds c = begun _ _ _ _
 
--- src/lib.rt:232:9
 sub-left : tie.Need-sub-left Inv-loop μ-loop
-sub-left c = ?
+sub-left c = search needs
 
--- src/lib.rt:233:26
 character-requires : tie.Need-character-requires Inv-loop μ-loop
-character-requires c κs = ?
+character-requires c κs = search needs
 
--- src/lib.rt:233:13
 add-out : tie.Need-add-out Inv-loop μ-loop
-add-out c = ?
+add-out c = search needs
 
--- src/lib.rt:233:9
 slice-write-out : tie.Need-slice-write-out Inv-loop μ-loop
-slice-write-out c = ?
+slice-write-out c = search needs
 
--- src/lib.rt:231:5
 loop-less : tie.Need-loop-less Inv-loop μ-loop
-loop-less c = ?
+loop-less c = search needs
 
--- src/lib.rt:231:5
 loop-again : tie.Need-loop-again Inv-loop μ-loop
-loop-again c = ?
+loop-again c = rw (c .character .ensures) (again (c .before .before .loop .inv) (c .before .loop-test .taken))
 
--- src/lib.rt:225:1
 same-length : tie.Need-same-length Inv-loop μ-loop
-same-length c = ?
+same-length c = c .before .loop .inv .same
 
--- src/lib.rt:225:1
 returns : tie.Need-returns Inv-loop μ-loop
-returns c = ?
+returns c = over (c .before .loop .inv) (c .loop-test .left)
 
 pub put-digits-spec : {M : Type 1} → statement M
 put-digits-spec =

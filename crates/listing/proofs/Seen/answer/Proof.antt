@@ -1,19 +1,20 @@
+-- `listing::Seen::answer` meets its contract: a wrong character decides, and then the count of digits.
+-- Assumes nothing.
+use Rattle.listing.specs.Lines.{answerOf}
 use Rattle.listing.proofs.Seen.answer.Statement.{statement}
 use Rattle.listing.proofs.Seen.answer.Tie as tie
-use Rattle.listing.proofs.Seen.answer.Reads as reads
-use Rattle.listing.proofs.Seen.answer.Lts as lts
 
--- src/lib.rt:176:13
 returns : tie.Need-returns
-returns c = ?
+unfolding answerOf
+returns c = simp (c .if1 .taken)
 
--- src/lib.rt:179:13
 returns-2 : tie.Need-returns-2
-returns-2 c = ?
+unfolding answerOf
+returns-2 c = simp (c .before .if1 .left, c .if2 .taken)
 
--- src/lib.rt:171:5
 returns-3 : tie.Need-returns-3
-returns-3 c = ?
+unfolding answerOf
+returns-3 c = simp (c .before .if1 .left, c .if2 .left)
 
 pub answer-spec : {M : Type 1} → statement M
 answer-spec = tie.close (tie.spec returns returns-2 returns-3)

@@ -1,0 +1,74 @@
+-- The test of soundness, taken apart and put together.
+-- Assumes nothing.
+use mathlib.Core.Bool.{Bool, true, false, _&&_}
+use mathlib.Core.Path.{_≡_, refl, subst⁻¹}
+use Prim.Native.Nat.{_≤_}
+use lib.Dec.{T}
+use borrow.Author.Tests.{le-leb, leb-true, not-true}
+use Rattle.recogniser.specs.Fit.{fitOf}
+use Rattle.model.specs.Plan.{planFits}
+use Rattle.model.specs.Registers.{cntOf}
+use Rattle.model.specs.Sound.{pointersFit, missingZero}
+use Rattle.model.proofs.Facts.{and-true}
+use Rattle.decoder.specs.declared.Decoder.{Decoder}
+use Rattle.decoder.specs.Limits.{clockLimit}
+use Rattle.decoder.specs.Sound.{insideSlow, soundOf}
+
+-- A test as an equation, and a test that fails wherever another passes.
+holds : (b : Bool) → T b → b ≡ true
+holds true t = refl
+holds false t = absurd t
+
+off-where : (a b : Bool) → (T a → b ≡ false) → (a && b) ≡ false
+off-where true b f = f tt
+off-where false b f = refl
+
+where-off : (a b : Bool) → (a && b) ≡ false → T a → b ≡ false
+where-off true b e t = e
+where-off false b e t = absurd t
+
+-- What the test says, part by part.
+pub record Sound (d : Decoder) : Type 0 where
+  pub plan : planFits (d .plan) ≡ true
+  pub next : d .next ≤ clockLimit
+  pub base : d .model .base ≤ d .next
+  pub writes : pointersFit (d .model .writes) ≡ true
+  pub reads : pointersFit (d .model .reads) ≡ true
+  pub missing : missingZero (d .plan) (d .model) ≡ true
+  pub stopped : T (insideSlow (d .recogniser .phase)) → d .model .running ≡ false
+  pub fits : T (fitOf (d .recogniser) (cntOf (d .plan) (d .model)))
+
+module _ (d : Decoder) where
+  pub sound : Sound d → T (soundOf d)
+  unfolding soundOf
+  sound s =
+      rw (
+        s .plan,
+        le-leb (d .next) clockLimit (s .next),
+        le-leb (d .model .base) (d .next) (s .base),
+        s .writes,
+        s .reads,
+        s .missing,
+        off-where (insideSlow (d .recogniser .phase)) (d .model .running) (s .stopped),
+      ) (s .fits)
+
+  pub sound-parts : T (soundOf d) → Sound d
+  unfolding soundOf
+  sound-parts t =
+      let p = and-true _ _ (holds (soundOf d) t) in
+      let q = and-true _ _ (p .1) in
+      let b = and-true _ _ (q .1) in
+      let w = and-true _ _ (b .1) in
+      let r = and-true _ _ (w .1) in
+      let m = and-true _ _ (r .1) in
+      let s = and-true _ _ (m .1) in
+      record {
+        plan = p .0;
+        next = leb-true _ _ (q .0);
+        base = leb-true _ _ (b .0);
+        writes = w .0;
+        reads = r .0;
+        missing = m .0;
+        stopped = where-off (insideSlow (d .recogniser .phase)) _ (not-true _ (s .0));
+        fits = subst⁻¹ T (s .1) tt;
+      }
