@@ -89,23 +89,22 @@ unfolding stepOf
 from-empty r bit hunts empty =
     ap (λ (p : Phase). stepBy p r bit 0) hunts ∙ ap (λ (s : ℕ). huntBy (shifted 5 s bit) (meaningOf (shifted 5 s bit))) empty
 
--- The counters of a model, and whether its LV1s are sent to the front ends.
-abbrev pub countersOf : Model → Counters
-countersOf m = counters (m .l1id) (m .base)
+abbrev pub modelCounters : Model → Counters
+modelCounters m = counters (m .l1id) (m .base)
 
-abbrev pub sendsOf : Plan → Model → Bool
-sendsOf plan m = eqb (registerOf m (plan .csr) / 2 ^ 6 % 2) 0
+abbrev pub modelSends : Plan → Model → Bool
+modelSends plan m = eqb (registerOf m (plan .csr) / 2 ^ 6 % 2) 0
 
 -- What a calm event does in RunMode is what the records' definitions say.
 pub record Does (plan : Plan) (m : Model) (e : Event) (time : ℕ) (store : List ℕ) : Type 0 where
-  pub words : wordsOf (actOf plan m e time store .acted .cycle) ≡ entryWords (entriesOf (sendsOf plan m) (countersOf m) time e)
-  pub counts : countersOf (actOf plan m e time store .acted .model) ≡ counted (countersOf m) time e
+  pub words : wordsOf (actOf plan m e time store .acted .cycle) ≡ entryWords (entriesOf (modelSends plan m) (modelCounters m) time e)
+  pub counts : modelCounters (actOf plan m e time store .acted .model) ≡ counted (modelCounters m) time e
   pub running : actOf plan m e time store .acted .model .running ≡ true
   pub registers : actOf plan m e time store .acted .model .registers ≡ m .registers
 
 -- a Fast: BCR and ECR each move one counter
 record FastDoes (m : Model) (body time : ℕ) (n : Model) : Type 0 where
-  counts : countersOf n ≡ counters (cond (eqb body 0b0010) 0 (m .l1id)) (cond (eqb body 0b0001) time (m .base))
+  counts : modelCounters n ≡ counters (cond (eqb body 0b0010) 0 (m .l1id)) (cond (eqb body 0b0001) time (m .base))
   running : n .running ≡ m .running
   registers : n .registers ≡ m .registers
 
@@ -135,7 +134,7 @@ does plan m (Fast body) time store r h =
     let after : Bool → Model = λ b. cond b (fastEffect m body time) m in
     record {
       words = rw r;
-      counts = ap (λ b. countersOf (after b)) r ∙ f .counts;
+      counts = ap (λ b. modelCounters (after b)) r ∙ f .counts;
       running = ap (λ b. after b .running) r ∙ f .running ∙ r;
       registers = ap (λ b. after b .registers) r ∙ f .registers;
     }

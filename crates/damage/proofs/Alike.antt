@@ -9,10 +9,9 @@ use lib.Dec.{ltb, T}
 use Rattle.decoder.specs.Entries.{Entry}
 use Rattle.damage.specs.Commands.{Command, lv1, bcr, ecr, cal, sync, eventOf}
 use Rattle.damage.specs.Streams.{Item, itemSize}
-use Rattle.damage.specs.Table.{Instead, itself, damage, hitsFast, zeroDamage, asInstead, zeroAhead, affected, insteadOf}
+use Rattle.damage.specs.Table.{Instead, itself, damage, affected, bitHit, insteadOf}
 use Rattle.damage.specs.Records.{Counters, entriesOf, counted, lastCycle, itemEntries, itemCounted, cleanEntries, insteadEntries, insteadCounted, damagedEntries}
 use Rattle.damage.specs.Alike.{SameAfter, Replaced}
-use Rattle.damage.proofs.Computed.{by-both}
 
 still : (a : Bool) → T (not (a && true)) → T (not a)
 still true h = h
@@ -60,11 +59,7 @@ cond-of P Q false x y f g = g tt
 
 -- an unaffected command is itself
 spared : (i : Item) (k : ℕ) → T (not (affected i k)) → insteadOf i k ≡ itself (i .command)
-spared i k =
-    by-both (λ b x. T (not b) → x ≡ itself (i .command)) (ltb k (i .ahead))
-    (hitsFast (i .command) (i .ahead - k)) true (zeroDamage (i .command) (i .ahead - k)) (damage (i .command) (suc (k - i .ahead)))
-    (λ b h. cond-no (hitsFast (i .command) (i .ahead - k)) (asInstead (i .command) 0 zeroAhead) (itself (i .command)) h)
-    (λ b h. absurd h)
+spared i k h = cond-no (affected i k) (damage (i .command) (bitHit i k)) (itself (i .command)) h
 
 pub replaced : (sent : Bool) (c : Counters) (n : ℕ) (is : List Item) (k : ℕ) → Replaced sent c n is k (damagedEntries sent c n is k)
 replaced sent c n [] k = refl

@@ -17,7 +17,7 @@ use Rattle.recogniser.specs.Parts.{idle, startOf}
 use Rattle.recogniser.specs.Step.{stepOf}
 use Rattle.damage.specs.Commands.{Command, lv1, bcr, ecr, cal, sync, codeOf, widthOf, isFastCommand}
 use Rattle.damage.specs.Streams.{Item, zeros, zerosBetween, itemBits, itemSize, streamBits, spaced, timed, inverted}
-use Rattle.damage.specs.Table.{damage, zeroDamage, hitsFast, asInstead, zeroAhead, itself, insteadOf}
+use Rattle.damage.specs.Table.{Instead, damage, hitsFast, affected, bitHit, itself, insteadOf}
 use Rattle.damage.specs.Traces.{eventsOf, standsAfter, quiet, spread, commandTrace, itemTrace, cleanTrace, damagedItem, damagedTrace}
 use Rattle.damage.proofs.Computed.{below, below-at, each, each-at, by-test, and-right}
 use Rattle.damage.proofs.Trace.{Shows, chain, onward}
@@ -80,6 +80,21 @@ in-command a c k h = record {
   resumes = below-at (widthOf c) (λ k. shownBy c (standsAfter idle (hit c k))) (λ k. shouldShow c) (hit-resumes c) k h;
 }
 
+-- what stands in a command's place for a zero so far ahead of it
+abbrev pub zeroDamage : Command → ℕ → Instead
+zeroDamage c distance = cond (hitsFast c distance) (damage c 0) (itself c)
+
+-- by where the inverted bit lies
+instead-test : (i : Item) (k : ℕ) (b : Bool)
+    → cond (cond b (hitsFast (i .command) (i .ahead - k)) true) (damage (i .command) (cond b 0 (suc (k - i .ahead)))) (itself (i .command))
+    ≡ cond b (zeroDamage (i .command) (i .ahead - k)) (damage (i .command) (suc (k - i .ahead)))
+instead-test i k true = refl
+instead-test i k false = refl
+
+pub instead-by : (i : Item) (k : ℕ)
+    → insteadOf i k ≡ cond (ltb k (i .ahead)) (zeroDamage (i .command) (i .ahead - k)) (damage (i .command) (suc (k - i .ahead)))
+instead-by i k = instead-test i k (ltb k (i .ahead))
+
 -- a zero ahead of a command: the window after a one, and then z zeros more, computed for fewer than five
 abbrev one : Recogniser
 one = startOf Hunt 1 0 0
@@ -110,8 +125,8 @@ and-no false = refl
 
 far : (c : Command) (z : ℕ) → 2 ≤ z → zeroDamage c (suc z) ≡ itself c
 far c z h =
-    ap (λ b. cond (isFastCommand c && b) (asInstead c 0 zeroAhead) (itself c)) (lt-leb (suc z) 2 (omega arith))
-    ∙ ap (λ b. cond b (asInstead c 0 zeroAhead) (itself c)) (and-no (isFastCommand c))
+    ap (λ b. cond (isFastCommand c && b) (damage c 0) (itself c)) (lt-leb (suc z) 2 (omega arith))
+    ∙ ap (λ b. cond b (damage c 0) (itself c)) (and-no (isFastCommand c))
 
 pub behind-one : (c : Command) (z : ℕ) → Safely c one (near c z) (nearTrace c z)
 behind-one c z =
@@ -145,7 +160,8 @@ in-zeros a k c h =
 
 pub in-item : (i : Item) (k : ℕ) → k < itemSize i → Safely (i .command) idle (inverted k (itemBits i)) (damagedItem i k)
 in-item i k h =
-    by-test (λ x. Safely (i .command) idle (inverted k (itemBits i)) (quiet (i .ahead) ++ spread (widthOf (i .command)) x))
+    rw (instead-by i k)
+    (by-test (λ x. Safely (i .command) idle (inverted k (itemBits i)) (quiet (i .ahead) ++ spread (widthOf (i .command)) x))
     (ltb k (i .ahead)) (zeroDamage (i .command) (i .ahead - k)) (damage (i .command) (suc (k - i .ahead)))
     (λ b.
     let g : k < length (zeros (i .ahead)) = rw length-replicate (ltb→lt k (i .ahead) b) in
@@ -153,7 +169,7 @@ in-item i k h =
     (λ b.
     let g : i .ahead ≤ k = nltb→le k (i .ahead) b in
     let z : length (zeros (i .ahead)) ≡ i .ahead = length-replicate (i .ahead) 0 in
-    rw (inverted-right k (zeros (i .ahead)) (codeOf (i .command)) (omega arith), z) (in-command (i .ahead) (i .command) (k - i .ahead) (omega arith)))
+    rw (inverted-right k (zeros (i .ahead)) (codeOf (i .command)) (omega arith), z) (in-command (i .ahead) (i .command) (k - i .ahead) (omega arith))))
 
 -- an inverted bit in the zeros at the end
 in-tail : (k t : ℕ) → eventsOf idle (inverted k (zeros t)) ≡ quiet t

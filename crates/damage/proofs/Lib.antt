@@ -1,4 +1,5 @@
 pub mod Computed
+pub mod Pins
 pub mod Trace
 pub mod Resume
 pub mod Inverted

@@ -11,9 +11,10 @@ use Rattle.recogniser.specs.declared.Event.{Event}
 use Rattle.decoder.specs.Entries.{Entry}
 use Rattle.damage.specs.Commands.{Command, lv1, bcr, ecr, cal, sync, widthOf, eventOf}
 use Rattle.damage.specs.Streams.{Item, itemSize}
-use Rattle.damage.specs.Table.{Instead, nothing, at, itself, damage, hitsFast, zeroDamage, asInstead, zeroAhead, insteadOf}
+use Rattle.damage.specs.Table.{Instead, nothing, at, itself, damage, hitsFast, insteadOf}
 use Rattle.damage.specs.Traces.{quiet, spread, itemTrace, cleanTrace, damagedItem, damagedTrace}
 use Rattle.damage.specs.Records.{Counters, entriesOf, counted, itemEntries, itemCounted, cleanEntries, insteadEntries, insteadCounted, damagedEntries}
+use Rattle.damage.proofs.Inverted.{zeroDamage, instead-by}
 use Rattle.damage.proofs.Computed.{below, below-at, each, each-at, by-test, by-both, and-left, and-right}
 
 -- The records of a trace that begins at cycle n, and the counters after it.
@@ -96,15 +97,16 @@ damage-within d k h =
 
 zero-within : (d : Command) (distance : ℕ) → T (within (widthOf d) (zeroDamage d distance))
 zero-within d distance =
-    by-test (λ x. T (within (widthOf d) x)) (hitsFast d distance) (asInstead d 0 zeroAhead) (itself d)
-    (λ b. holds _ (each-at (λ d. within (widthOf d) (asInstead d 0 zeroAhead)) (λ d. true) refl d))
+    by-test (λ x. T (within (widthOf d) x)) (hitsFast d distance) (damage d 0) (itself d)
+    (λ b. holds _ (each-at (λ d. within (widthOf d) (damage d 0)) (λ d. true) refl d))
     (λ b. itself-within d)
 
 item-within : (i : Item) (k : ℕ) → k < itemSize i → T (within (widthOf (i .command)) (insteadOf i k))
 item-within i k h =
-    by-test (λ x. T (within (widthOf (i .command)) x)) (ltb k (i .ahead)) (zeroDamage (i .command) (i .ahead - k)) (damage (i .command) (suc (k - i .ahead)))
+    rw (instead-by i k)
+    (by-test (λ x. T (within (widthOf (i .command)) x)) (ltb k (i .ahead)) (zeroDamage (i .command) (i .ahead - k)) (damage (i .command) (suc (k - i .ahead)))
     (λ b. zero-within (i .command) (i .ahead - k))
-    (λ b. let g : i .ahead ≤ k = nltb→le k (i .ahead) b in damage-within (i .command) (k - i .ahead) (omega arith))
+    (λ b. let g : i .ahead ≤ k = nltb→le k (i .ahead) b in damage-within (i .command) (k - i .ahead) (omega arith)))
 
 pub performed-clean : (sent : Bool) (c : Counters) (n : ℕ) (is : List Item) (t : ℕ) → performed sent c n (cleanTrace is t) ≡ cleanEntries sent c n is
 performed-clean sent c n [] t = performed-silence sent c n t

@@ -25,15 +25,15 @@ use Rattle.decoder.specs.Calls.{bitsTaken, wordsStanding, worldLeft, allBits, a
 use Rattle.decoder.proofs.Calls.{Kept, call-kept}
 use Rattle.damage.specs.Commands.{Command, widthOf}
 use Rattle.damage.specs.Streams.{Item, itemSize, streamBits, timed, inverted}
-use Rattle.damage.specs.Table.{Instead, damage, hitsFast, zeroDamage, asInstead, zeroAhead, itself, insteadOf}
+use Rattle.damage.specs.Table.{damage, hitsFast, itself, insteadOf}
 use Rattle.damage.specs.Traces.{eventsOf, standsAfter, quiet, spread, commandTrace, itemTrace, cleanTrace, damagedItem, damagedTrace}
-use Rattle.damage.specs.Records.{Counters, entriesOf, counted, cleanEntries, damagedEntries}
+use Rattle.damage.specs.Records.{Counters, countersOf, sendsOf, entriesOf, counted, cleanEntries, damagedEntries}
 use Rattle.damage.proofs.Computed.{below, below-at, each, each-at, by-test, and-left, and-right}
 use Rattle.damage.proofs.Trace.{events-append, stands-append, length-events}
 use Rattle.damage.proofs.Resume.{clean-run}
-use Rattle.damage.proofs.Inverted.{damaged-run}
+use Rattle.damage.proofs.Inverted.{zeroDamage, instead-by, damaged-run}
 use Rattle.damage.proofs.Recorded.{performed, counting, performed-append, counting-append, performed-clean, performed-damaged}
-use Rattle.damage.proofs.Acts.{quick, calm, step-any-cnt, step-stays, from-empty, countersOf, sendsOf, Does, does}
+use Rattle.damage.proofs.Acts.{quick, calm, step-any-cnt, step-stays, from-empty, Does, does}
 
 -- no event of a trace leads into a Slow command
 abbrev calmly : List Event → Bool
@@ -64,23 +64,17 @@ entries-append : (es fs : List Entry) → entryWords (es ++ fs) ≡ entryWords e
 entries-append [] fs = refl
 entries-append (e ∷ es) fs = ap (λ l. (e .time * 65536 + e .kind * 256 + e .flags) ∷ e .value ∷ l) (entries-append es fs)
 
-abbrev counts : Decoder → Counters
-counts d = countersOf (d .model)
-
-abbrev sends : Decoder → Bool
-sends d = sendsOf (d .plan) (d .model)
-
 abbrev trace : Decoder → List ℕ → List Event
 trace d bits = eventsOf (d .recogniser) bits
 
 -- From d the bits lead to v and write the words, RunMode on, as the trace says.
 record Follows (d : Decoder) (bits : List ℕ) (v : Decoder) (words : List ℕ) : Type 0 where
-  written : words ≡ entryWords (performed (sends d) (counts d) (d .next) (trace d bits))
+  written : words ≡ entryWords (performed (sendsOf d) (countersOf d) (d .next) (trace d bits))
   stands : v .recogniser ≡ standsAfter (d .recogniser) bits
-  counted : counts v ≡ counting (counts d) (d .next) (trace d bits)
+  counted : countersOf v ≡ counting (countersOf d) (d .next) (trace d bits)
   next : v .next ≡ d .next + length bits
   running : v .model .running ≡ true
-  sent : sends v ≡ sends d
+  sent : sendsOf v ≡ sendsOf d
   outside : T (quick (v .recogniser .phase))
 
 follows-none : (d : Decoder) → d .model .running ≡ true → T (quick (d .recogniser .phase)) → Follows d [] d []
@@ -90,12 +84,12 @@ follows-none d r q = record { written = refl; stands = refl; counted = refl; nex
 follows-append : {d v u : Decoder} {xs ys : List ℕ} {ws zs : List ℕ} → Follows d xs v ws → Follows v ys u zs → Follows d (xs ++ ys) u (ws ++ zs)
 follows-append {d} {v} {u} {xs} {ys} {ws} {zs} a b = record {
   written =
-      rw (events-append (d .recogniser) xs ys, performed-append (sends d) (counts d) (d .next) (trace d xs) (eventsOf (standsAfter (d .recogniser) xs) ys), length-events (d .recogniser) xs)
+      rw (events-append (d .recogniser) xs ys, performed-append (sendsOf d) (countersOf d) (d .next) (trace d xs) (eventsOf (standsAfter (d .recogniser) xs) ys), length-events (d .recogniser) xs)
       (ap₂ _++_ (a .written) (b .written ∙ (λ i. entryWords (performed (a .sent i) (a .counted i) (a .next i) (eventsOf (a .stands i) ys))))
-      ∙ sym (entries-append (performed (sends d) (counts d) (d .next) (trace d xs)) _));
+      ∙ sym (entries-append (performed (sendsOf d) (countersOf d) (d .next) (trace d xs)) _));
   stands = b .stands ∙ ap (λ (r : Recogniser). standsAfter r ys) (a .stands) ∙ sym (stands-append (d .recogniser) xs ys);
   counted =
-      rw (events-append (d .recogniser) xs ys, counting-append (counts d) (d .next) (trace d xs) (eventsOf (standsAfter (d .recogniser) xs) ys), length-events (d .recogniser) xs)
+      rw (events-append (d .recogniser) xs ys, counting-append (countersOf d) (d .next) (trace d xs) (eventsOf (standsAfter (d .recogniser) xs) ys), length-events (d .recogniser) xs)
       (b .counted ∙ (λ i. counting (a .counted i) (a .next i) (eventsOf (a .stands i) ys)));
   next = let e = a .next in let f = b .next in rw length-append (omega arith);
   running = b .running;
@@ -115,7 +109,7 @@ follows-one w bit r q h =
     let f = does (d .plan) (d .model) x (d .next) (w .store) r h in
     rw e
     (record {
-      written = f .words ∙ ap entryWords (sym (append-nil (entriesOf (sends d) (counts d) (d .next) x)));
+      written = f .words ∙ ap entryWords (sym (append-nil (entriesOf (sendsOf d) (countersOf d) (d .next) x)));
       stands = refl;
       counted = f .counts;
       next = omega arith;
@@ -178,8 +172,8 @@ calm-damage c k h =
 
 calm-zero : (c : Command) (distance : ℕ) → T (calmly (spread (widthOf c) (zeroDamage c distance)))
 calm-zero c distance =
-    by-test (λ x. T (calmly (spread (widthOf c) x))) (hitsFast c distance) (asInstead c 0 zeroAhead) (itself c)
-    (λ _. holds _ (each-at (λ c. calmly (spread (widthOf c) (asInstead c 0 zeroAhead))) (λ c. true) refl c))
+    by-test (λ x. T (calmly (spread (widthOf c) x))) (hitsFast c distance) (damage c 0) (itself c)
+    (λ _. holds _ (each-at (λ c. calmly (spread (widthOf c) (damage c 0))) (λ c. true) refl c))
     (λ _. calm-itself c)
 
 calm-item : (i : Item) → T (calmly (itemTrace i))
@@ -188,9 +182,10 @@ calm-item i = calmly-append (quiet (i .ahead)) (commandTrace (i .command)) (calm
 calm-hit : (i : Item) (k : ℕ) → k < itemSize i → T (calmly (damagedItem i k))
 calm-hit i k h =
     calmly-append (quiet (i .ahead)) (spread (widthOf (i .command)) (insteadOf i k)) (calmly-quiet (i .ahead))
+    (rw (instead-by i k)
     (by-test (λ x. T (calmly (spread (widthOf (i .command)) x))) (ltb k (i .ahead)) (zeroDamage (i .command) (i .ahead - k)) (damage (i .command) (suc (k - i .ahead)))
     (λ _. calm-zero (i .command) (i .ahead - k))
-    (λ b. let g : i .ahead ≤ k = nltb→le k (i .ahead) b in calm-damage (i .command) (k - i .ahead) (omega arith)))
+    (λ b. let g : i .ahead ≤ k = nltb→le k (i .ahead) b in calm-damage (i .command) (k - i .ahead) (omega arith))))
 
 calm-clean : (is : List Item) (t : ℕ) → T (calmly (cleanTrace is t))
 calm-clean [] t = calmly-quiet t
@@ -212,20 +207,20 @@ hunting-trace r (bit ∷ bits) h e = ap (λ (x : Heard). x .event ∷ eventsOf (
 -- A list of calls in RunMode, from an empty window, whose bits have a calm trace writes the records of that trace.
 module _ (d : Decoder) (running : d .model .running ≡ true) (hunting : d .recogniser .phase ≡ Hunt) (empty : d .recogniser .shift ≡ 0) where
   writes : (cs : List Call) (es : List Event) → eventsOf idle (allBits d cs) ≡ es → T (calmly es)
-      → allWords d cs ≡ entryWords (performed (sends d) (counts d) (d .next) es)
+      → allWords d cs ≡ entryWords (performed (sendsOf d) (countersOf d) (d .next) es)
   writes cs es e h =
       let t : trace d (allBits d cs) ≡ es = hunting-trace (d .recogniser) (allBits d cs) hunting empty ∙ e in
       let f = follows-calls cs d running (rw hunting tt) (rw t h) in
-      f .1 .written ∙ ap (λ es. entryWords (performed (sends d) (counts d) (d .next) es)) t
+      f .1 .written ∙ ap (λ es. entryWords (performed (sendsOf d) (countersOf d) (d .next) es)) t
 
   pub clean-words : (cs : List Call) (is : List Item) (t : ℕ) → allBits d cs ≡ streamBits is t
-      → allWords d cs ≡ entryWords (cleanEntries (sends d) (counts d) (d .next) is)
+      → allWords d cs ≡ entryWords (cleanEntries (sendsOf d) (countersOf d) (d .next) is)
   clean-words cs is t e =
       writes cs (cleanTrace is t) (ap (eventsOf idle) e ∙ clean-run is t) (calm-clean is t)
-      ∙ ap entryWords (performed-clean (sends d) (counts d) (d .next) is t)
+      ∙ ap entryWords (performed-clean (sendsOf d) (countersOf d) (d .next) is t)
 
   pub damaged-words : (cs : List Call) (is : List Item) (t k : ℕ) → T (timed is) → allBits d cs ≡ inverted k (streamBits is t)
-      → allWords d cs ≡ entryWords (damagedEntries (sends d) (counts d) (d .next) is k)
+      → allWords d cs ≡ entryWords (damagedEntries (sendsOf d) (countersOf d) (d .next) is k)
   damaged-words cs is t k h e =
       writes cs (damagedTrace is t k) (ap (eventsOf idle) e ∙ damaged-run is t k h) (calm-damaged is t k)
-      ∙ ap entryWords (performed-damaged (sends d) (counts d) (d .next) is t k)
+      ∙ ap entryWords (performed-damaged (sendsOf d) (countersOf d) (d .next) is t k)

@@ -1,8 +1,9 @@
 -- The commands of a clean stream and their bits (document 01, "The damage table"; the chip paper's Table 1-1).
 -- Assumes nothing.
-use mathlib.Core.Bool.{Bool, true, false}
+use mathlib.Core.Bool.{Bool, true, false, _||_}
 use mathlib.Core.List.{List, [], _∷_, _++_}
 use Prim.Native.Nat.{ℕ}
+use lib.Dec.{eqb}
 use lib.ListN.{length}
 use Rattle.recogniser.specs.declared.Event.{Event}
 use Rattle.recogniser.specs.declared.Event.the-variants.{Lv1, Fast}
@@ -10,6 +11,21 @@ use Rattle.recogniser.specs.declared.Event.the-variants.{Lv1, Fast}
 -- "Its commands are the exact LV1, BCR, ECR, CAL and SYNC".
 pub data Command : Type 0 where
   lv1 bcr ecr cal sync : Command
+
+abbrev pub fasts : List Command
+fasts = bcr ∷ ecr ∷ cal ∷ sync ∷ []
+
+-- Which command a name is.
+abbrev pub commandNumber : Command → ℕ
+commandNumber lv1 = 0
+commandNumber bcr = 1
+commandNumber ecr = 2
+commandNumber cal = 3
+commandNumber sync = 4
+
+abbrev pub among : Command → List Command → Bool
+among c [] = false
+among c (d ∷ ds) = eqb (commandNumber c) (commandNumber d) || among c ds
 
 -- The header of a Fast command.
 abbrev pub header : List ℕ

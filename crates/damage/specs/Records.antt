@@ -2,11 +2,13 @@
 -- Assumes nothing.
 use mathlib.Core.Bool.{Bool, cond}
 use mathlib.Core.List.{List, [], _∷_, _++_}
-use Prim.Native.Nat.{ℕ, _+_, _*_, _-_, _%_}
+use Prim.Native.Nat.{ℕ, _+_, _*_, _-_, _/_, _%_, _^_}
 use lib.Dec.{eqb, ltb}
 use Rattle.recogniser.specs.declared.Event.{Event}
 use Rattle.recogniser.specs.declared.Event.the-variants.{Nothing, Lv1, Fast, BadFast, SlowBegins, Slow, BadSlow, FrameBit, FrameEnd, FrameEndBit}
+use Rattle.model.specs.Registers.{registerOf}
 use Rattle.model.specs.Records.{kindLv1, kindFast, kindBadFast, flagFlip, flagSent}
+use Rattle.decoder.specs.declared.Decoder.{Decoder}
 use Rattle.decoder.specs.Entries.{Entry, entry}
 use Rattle.damage.specs.Commands.{Command, widthOf, eventOf}
 use Rattle.damage.specs.Streams.{Item, itemSize}
@@ -20,7 +22,14 @@ pub record Counters : Type 0 where
 abbrev pub counters : ℕ → ℕ → Counters
 counters l1id base = record { l1id = l1id; base = base }
 
--- The record of an event at a cycle; LV1s are sent to the front ends or not. A clean or damaged stream brings no Slow command.
+-- The counters of a state, and whether its LV1s are sent to the front ends: "while CSR bit 6 is 0".
+abbrev pub countersOf : Decoder → Counters
+countersOf d = counters (d .model .l1id) (d .model .base)
+
+abbrev pub sendsOf : Decoder → Bool
+sendsOf d = eqb (registerOf (d .model) (d .plan .csr) / 2 ^ 6 % 2) 0
+
+-- The record of an event at a cycle, RunMode on; LV1s are sent to the front ends or not. A clean or damaged stream brings no Slow command.
 abbrev pub entriesOf : Bool → Counters → ℕ → Event → List Entry
 entriesOf sent c time Nothing = []
 entriesOf sent c time (Lv1 flip) =

@@ -1,14 +1,14 @@
 -- The damage table as data, and the affected command (document 01, "The damage table").
 -- Assumes nothing.
-use mathlib.Core.Bool.{Bool, true, false, cond, _&&_, _||_}
+use mathlib.Core.Bool.{Bool, true, false, cond, _&&_}
 use mathlib.Core.List.{List, [], _∷_}
 use Prim.Native.Nat.{ℕ, suc, _+_, _-_}
-use lib.Dec.{eqb, ltb, leb}
+use lib.Dec.{ltb, leb}
 use lib.ListN.{drop}
 use Rattle.bits.specs.Bits.{numberOf}
 use Rattle.recogniser.specs.declared.Event.{Event}
 use Rattle.recogniser.specs.declared.Event.the-variants.{Lv1, BadFast}
-use Rattle.damage.specs.Commands.{Command, lv1, bcr, ecr, cal, sync, codeOf, widthOf, isFastCommand, eventOf}
+use Rattle.damage.specs.Commands.{Command, lv1, bcr, ecr, cal, sync, fasts, among, codeOf, widthOf, isFastCommand, eventOf}
 use Rattle.damage.specs.Streams.{Item, itemSize, inverted}
 
 -- What the table's right column says: "flip at 5" and the like, "bad Fast, at 9", or "none".
@@ -28,10 +28,7 @@ pub record Row : Type 0 where
 abbrev pub row : List Command → ℕ → ℕ → Outcome → Row
 row commands from to outcome = record { commands = commands; from = from; to = to; outcome = outcome }
 
-abbrev pub fasts : List Command
-fasts = bcr ∷ ecr ∷ cal ∷ sync ∷ []
-
--- The table, in the paper's order; a line that speaks of several commands apart is a row for each.
+-- The table, in the paper's order; a line that speaks of several commands apart is a row for each. Bit 0 stands for a zero ahead of the command.
 abbrev pub table : List Row
 table =
     row (lv1 ∷ []) 1 5 (flipAt 5)
@@ -45,22 +42,8 @@ table =
     ∷ row (bcr ∷ ecr ∷ []) 5 5 (flipAt 7)
     ∷ row (cal ∷ []) 5 5 (exactAt 7)
     ∷ row (sync ∷ []) 5 5 (flipAt 8)
+    ∷ row fasts 0 0 (flipAt 3)
     ∷ []
-
-abbrev pub zeroAhead : Outcome
-zeroAhead = flipAt 3
-
--- Which command a name is.
-abbrev pub commandNumber : Command → ℕ
-commandNumber lv1 = 0
-commandNumber bcr = 1
-commandNumber ecr = 2
-commandNumber cal = 3
-commandNumber sync = 4
-
-abbrev pub among : Command → List Command → Bool
-among c [] = false
-among c (d ∷ ds) = eqb (commandNumber c) (commandNumber d) || among c ds
 
 abbrev pub speaksOf : Row → Command → ℕ → Bool
 speaksOf r c bit = among c (r .commands) && (leb (r .from) bit && leb bit (r .to))
@@ -88,20 +71,27 @@ asInstead c bit (badFastAt p) = at p (BadFast (damagedBody c bit))
 abbrev pub itself : Command → Instead
 itself c = at (widthOf c) (eventOf c)
 
--- A bit of the command inverted, counted from 1.
+-- A bit of the command inverted, counted from 1; bit 0 is a zero ahead of it.
 abbrev pub damage : Command → ℕ → Instead
 damage c bit = asInstead c bit (lookUp table c bit)
 
--- "for an inverted zero that no command holds, one or two cycles ahead of a Fast, that Fast; otherwise none"
+-- "an inverted zero that no command holds, one or two cycles ahead of a Fast"
 abbrev pub hitsFast : Command → ℕ → Bool
 hitsFast c distance = isFastCommand c && leb distance 2
 
-abbrev pub zeroDamage : Command → ℕ → Instead
-zeroDamage c distance = cond (hitsFast c distance) (asInstead c 0 zeroAhead) (itself c)
-
--- "Affected: the command holding the inverted bit; or .. that Fast": of an item whose bit k is inverted, counted from 0 at the first of its zeros.
+-- "Affected: the command holding the inverted bit; or .. that Fast; otherwise none": of an item whose bit k is inverted, counted from 0 at the first of
+-- its zeros.
 abbrev pub affected : Item → ℕ → Bool
 affected i k = cond (ltb k (i .ahead)) (hitsFast (i .command) (i .ahead - k)) true
 
+-- Which bit of the table's left column that is.
+abbrev pub bitHit : Item → ℕ → ℕ
+bitHit i k = cond (ltb k (i .ahead)) 0 (suc (k - i .ahead))
+
 abbrev pub insteadOf : Item → ℕ → Instead
-insteadOf i k = cond (ltb k (i .ahead)) (zeroDamage (i .command) (i .ahead - k)) (damage (i .command) (suc (k - i .ahead)))
+insteadOf i k = cond (affected i k) (damage (i .command) (bitHit i k)) (itself (i .command))
+
+-- How many rows speak of a command's bit.
+abbrev pub rowsFor : List Row → Command → ℕ → ℕ
+rowsFor [] c bit = 0
+rowsFor (r ∷ rs) c bit = cond (speaksOf r c bit) 1 0 + rowsFor rs c bit

@@ -1,5 +1,6 @@
 pub mod Ranges
 pub mod Runs
+pub mod Ends
 pub mod Calls
 pub mod Refusals
 pub mod Stretched

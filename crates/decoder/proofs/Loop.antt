@@ -84,7 +84,7 @@ one-bit : (s : List ℕ) (place n : ℕ) → 0 < n → bitsOf s place n ≡ bitO
 one-bit s place zero h = absurd (omega arith)
 one-bit s place (suc n) h = let e : suc n - 1 ≡ n = omega arith in rw e
 
-length-bits : (s : List ℕ) (place n : ℕ) → length (bitsOf s place n) ≡ n
+pub length-bits : (s : List ℕ) (place n : ℕ) → length (bitsOf s place n) ≡ n
 length-bits s place zero = refl
 length-bits s place (suc n) = ap suc (length-bits s (place + 1) n)
 

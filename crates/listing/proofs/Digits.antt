@@ -4,7 +4,7 @@ use mathlib.Core.Bool.{true}
 use mathlib.Core.List.{List, [], _∷_, _++_}
 use mathlib.Core.Logic.{⊎-elim}
 use mathlib.Core.Path.{_≡_, refl, ap, sym, _∙_}
-use Prim.Native.Nat.{ℕ, zero, suc, _+_, _*_, _-_, _/_, _%_, _^_, _≤_, _<_}
+use Prim.Native.Nat.{ℕ, zero, suc, _+_, _-_, _/_, _%_, _≤_, _<_}
 use native.Mathlib.Nat.{div-one, pow-succ', div-div-eq-div-mul, add-assoc}
 use native.Mathlib.Omega.{arith}
 use lib.Dec.{leb}
@@ -61,8 +61,8 @@ module _ {out₀ : List ℕ} {at number width : ℕ} {out : List ℕ} {left rest
         same = length-set out _ _ ∙ g .same;
         bytes =
             (λ i. sets (set out (at + sym (count (rest / 16) (left - 1)) i) (characterOf (rest % 16))) at (charactersOf (rest / 16) (left - 1)))
-                ∙ sets-last (charactersOf (rest / 16) (left - 1)) out at (characterOf (rest % 16))
-                ∙ (rw (← lowest rest (left - 1), ← k) (g .bytes));
+            ∙ sets-last (charactersOf (rest / 16) (left - 1)) out at (characterOf (rest % 16))
+            ∙ (rw (← lowest rest (left - 1), ← k) (g .bytes));
       }
 
   pub over : left ≤ 0 → out ≡ sets out₀ at (charactersOf number width)

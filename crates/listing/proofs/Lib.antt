@@ -4,3 +4,4 @@ pub mod Digits
 pub mod Texts
 pub mod Says
 pub mod Lines
+pub mod Example

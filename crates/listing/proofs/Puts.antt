@@ -1,14 +1,16 @@
 -- Texts put into a block piece by piece: what is left of a text, put at the present place, gives what the whole text gives.
 -- Assumes nothing.
 use mathlib.Core.List.{List, [], _∷_, _++_}
-use mathlib.Core.Path.{_≡_, refl, sym, ap, _∙_}
+use mathlib.Core.Path.{_≡_, refl, ap, _∙_}
 use Prim.Native.Nat.{ℕ, suc, _+_, _≤_, _<_}
 use native.Mathlib.Nat.{add-zero, add-assoc}
 use native.Mathlib.Omega.{arith}
+use lib.Dec.{leb}
 use lib.ListN.{length, set, length-append}
 use lib.Seq.{sets, length-sets, set-comm}
-use borrow.Author.Tests.{le-leb, lt-leb}
+use borrow.Author.Tests.{le-leb, lt-leb, leb-true}
 use Rattle.listing.specs.Block.{Block, block, putAll, putOf}
+use Rattle.listing.proofs.Truth.{choice}
 
 pub sets-append : (xs ys out : List ℕ) (at : ℕ) → sets out at (xs ++ ys) ≡ sets (sets out at xs) (at + length xs) ys
 sets-append [] ys out at = rw add-zero
@@ -42,6 +44,20 @@ module _ (out : List ℕ) (at : ℕ) (text : List ℕ) where
   pub put-over : length out < at + length text → putOf out at text ≡ block out at
   unfolding putOf
   put-over h = simp (lt-leb (at + length text) (length out) h)
+
+-- What a program that puts lines into a block goes by: the block keeps its length, and the next place stays within it.
+module _ (out text out′ : List ℕ) (at next : ℕ) (e : block out′ next ≡ putOf out at text) where
+  pub put-same : length out′ ≡ length out
+  unfolding putOf
+  put-same =
+      ap (λ (b : Block). length (b .bytes)) e
+      ∙ choice (λ (b : Block). length (b .bytes) ≡ length out) (leb (at + length text) (length out)) (λ t. length-sets out at text) (λ f. refl)
+
+  pub put-next : at ≤ length out → next ≤ length out
+  unfolding putOf
+  put-next h =
+      rw (ap (λ (b : Block). b .next) e)
+      (choice (λ (b : Block). b .next ≤ length out) (leb (at + length text) (length out)) (λ t. leb-true (at + length text) (length out) t) (λ f. h))
 
 pub record Left (out₀ : List ℕ) (at : ℕ) (whole out : List ℕ) (place : ℕ) (rest : List ℕ) : Type 0 where
   pub same : length out ≡ length out₀

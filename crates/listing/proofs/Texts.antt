@@ -68,4 +68,4 @@ bytes-length [] = refl
 bytes-length (b ∷ bs) = omega (arith, bytes-length bs)
 
 pub frame-length : (bs : List ℕ) → length (frameLine bs) ≡ 2 * length bs + 2
-frame-length bs = rw length-append (omega (arith, bytes-length bs))
+frame-length bs = simp length-append (omega (arith, bytes-length bs))

@@ -9,12 +9,9 @@ use Rattle.listing.specs.declared.HexLine.{HexLine}
 use Rattle.listing.specs.declared.HexLine.the-variants.{Bytes, WrongCharacter, WrongLength}
 use Rattle.listing.specs.declared.Seen.{Seen}
 use Rattle.listing.specs.declared.Fed.{Fed}
+use Rattle.listing.specs.Text.{lineFeed}
 use Rattle.listing.specs.Digits.{isDigit, digitOf}
 use Rattle.listing.specs.Line.{Hex, hexOf, countFits, hexNumber, hexCount}
-
--- The line feed.
-abbrev pub lineFeed : ℕ
-lineFeed = 10
 
 abbrev pub isEmpty : List ℕ → Bool
 isEmpty [] = true
@@ -73,10 +70,10 @@ upToFeed (c ∷ cs) = cond (eqb c lineFeed) [] (c ∷ upToFeed cs)
 
 -- A block taken from a place on, up to and with the next line feed, or to its end: what is seen then, the next place, and whether the line has ended.
 unfoldable pub fedOf : Seen → List ℕ → ℕ → Fed
-fedOf s block «from» =
-    let line = upToFeed (drop «from» block) in
-    let ended = ltb («from» + length line) (length block) in
-    record { seen = seenOf s line; next = «from» + length line + cond ended 1 0; ended = ended }
+fedOf s block at =
+    let line = upToFeed (drop at block) in
+    let ended = ltb (at + length line) (length block) in
+    record { seen = seenOf s line; next = at + length line + cond ended 1 0; ended = ended }
 
 -- What the lines of an input say, character by character: the line so far ends at a line feed, and at the end of the input unless nothing of it was seen.
 unfoldable pub saidFrom : Seen → List ℕ → List Hex

@@ -1,13 +1,15 @@
 -- The lines of the listing, as bytes (document 01, "Streams with their records": the station program).
 -- Assumes nothing.
 use mathlib.Core.List.{List, [], _∷_, _++_}
+use Prim.Native.Char.{code}
 use Prim.Native.Nat.{ℕ, _+_, _/_, _%_}
+use Rattle.listing.specs.Text.{ascii, lineFeed}
 use Rattle.listing.specs.Digits.{charactersOf}
 
 -- What stands after a number: a space while more follow, else the line feed.
 abbrev pub markAfter : List ℕ → ℕ
-markAfter [] = 10
-markAfter (n ∷ ns) = 32
+markAfter [] = lineFeed
+markAfter (n ∷ ns) = code " "
 
 -- Numbers, each in so many digits, "parted by spaces" and ended by a line feed.
 unfoldable pub numbersLine : List ℕ → List ℕ → List ℕ
@@ -31,7 +33,7 @@ recordLine head value =
 
 -- "A refused line prints "!", the number in two digits, a space, the line's number from 1 in eight".
 abbrev pub refusedLine : ℕ → ℕ → List ℕ
-refusedLine number line = lineOf (33 ∷ []) (number ∷ line ∷ []) (2 ∷ 8 ∷ [])
+refusedLine number line = lineOf (ascii "!") (number ∷ line ∷ []) (2 ∷ 8 ∷ [])
 
 -- Bytes in "two digits each, unspaced".
 unfoldable pub byteDigits : List ℕ → List ℕ
@@ -40,4 +42,4 @@ byteDigits (b ∷ bs) = charactersOf b 2 ++ byteDigits bs
 
 -- A frame's line: "">" and its bytes".
 abbrev pub frameLine : List ℕ → List ℕ
-frameLine bytes = 62 ∷ (byteDigits bytes ++ (10 ∷ []))
+frameLine bytes = ascii ">" ++ (byteDigits bytes ++ ascii "\n")

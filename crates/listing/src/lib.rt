@@ -3,7 +3,7 @@
 ghost use mathlib.Core.Path.{_≡_};
 ghost use mathlib.Core.Bool.{true, cond};
 ghost use mathlib.Core.List.{[], _∷_, _++_};
-ghost use Prim.Native.Nat.{_+_, _*_, _≤_, _<_};
+ghost use Prim.Native.Nat.{_+_, _≤_, _<_};
 ghost use lib.Dec.{leb};
 ghost use lib.ListN.{length, drop};
 ghost use lib.Seq.{sets};
@@ -38,9 +38,9 @@ pub struct Fed {
     pub ended: bool,
 }
 
-const LINE_FEED: u8 = 10;
+const LINE_FEED: u8 = b'\n';
 
-const SPACE: u8 = 32;
+const SPACE: u8 = b' ';
 
 // The most digits of a line.
 const DIGITS: usize = 64;
@@ -48,8 +48,8 @@ const DIGITS: usize = 64;
 fn is_digit(character: u8) -> bool
     ensures { λ r. ⌜ r ≡ isDigit character ⌝ }
 {
-    let number = (48 <= character) & (character <= 57);
-    let letter = (65 <= character) & (character <= 70);
+    let number = (b'0' <= character) & (character <= b'9');
+    let letter = (b'A' <= character) & (character <= b'F');
     number | letter
 }
 
@@ -57,20 +57,20 @@ fn digit(character: u8) -> u8
     requires { ⌜ isDigit character ≡ true ⌝ }
     ensures { λ r. ⌜ (r ≡ digitOf character) × (r < 16) ⌝ }
 {
-    if character <= 57 {
-        return character - 48;
+    if character <= b'9' {
+        return character - b'0';
     }
-    character - 55
+    character - b'A' + 10
 }
 
-fn character(digit: u64) -> u8
+fn character(digit: u8) -> u8
     requires { ⌜ digit < 16 ⌝ }
     ensures { λ r. ⌜ r ≡ characterOf digit ⌝ }
 {
     if digit < 10 {
-        return (48 + digit) as u8;
+        return b'0' + digit;
     }
-    (55 + digit) as u8
+    b'A' + (digit - 10)
 }
 
 fn wide(byte: u8) -> u64
@@ -80,18 +80,18 @@ fn wide(byte: u8) -> u64
 }
 
 // The place of the next line feed, or the block's end.
-fn line_end(block: &[u8], from: usize) -> usize
-    requires { ⌜ «from» ≤ length (now block) ⌝ }
-    ensures { λ r. ⌜ r ≡ «from» + length (upToFeed (drop «from» (now (block .entry)))) ⌝ }
+fn line_end(block: &[u8], at: usize) -> usize
+    requires { ⌜ at ≤ length (now block) ⌝ }
+    ensures { λ r. ⌜ r ≡ at + length (upToFeed (drop at (now (block .entry)))) ⌝ }
 {
-    let mut at = from;
-    while at < block.len() {
-        if block[at] == LINE_FEED {
-            return at;
+    let mut end = at;
+    while end < block.len() {
+        if block[end] == LINE_FEED {
+            return end;
         }
-        at += 1;
+        end += 1;
     }
-    at
+    end
 }
 
 impl Seen {
@@ -141,18 +141,18 @@ impl Seen {
 
     // Takes a block's characters from a place on, up to and with the next line feed, or to the block's end.
     // A place past the block's end takes nothing.
-    pub fn feed(self, block: &[u8], from: usize) -> Fed
-        ensures { λ r. ⌜ r ≡ fedOf self (now (block .entry)) «from» ⌝ }
+    pub fn feed(self, block: &[u8], at: usize) -> Fed
+        ensures { λ r. ⌜ r ≡ fedOf self (now (block .entry)) at ⌝ }
     {
-        if block.len() < from {
+        if block.len() < at {
             return Fed {
                 seen: self,
-                next: from,
+                next: at,
                 ended: false,
             };
         }
-        let end = line_end(block, from);
-        let seen = self.with_all(&block[from..end]);
+        let end = line_end(block, at);
+        let seen = self.with_all(&block[at..end]);
         if end < block.len() {
             return Fed {
                 seen: seen,
@@ -230,12 +230,12 @@ fn put_digits(out: &mut [u8], at: usize, number: u64, width: usize)
     let mut rest = number;
     while 0 < left {
         left -= 1;
-        out[at + left] = character(rest % 16);
+        out[at + left] = character((rest % 16) as u8);
         rest = rest / 16;
     }
 }
 
-// What stands after a number of a line: a space while more follow, else the line feed.
+// What stands after a number of a line: the line feed after the last, a space after the others.
 fn mark(last: bool) -> u8
     ensures { λ r. ⌜ r ≡ cond last 10 32 ⌝ }
 {
@@ -294,7 +294,14 @@ fn fits(room: usize, at: usize, size: usize) -> bool
 }
 
 // A line of a lead and numbers, of a size that is known, put into a block.
-fn put_line(out: &mut [u8], at: usize, size: usize, lead: &[u8], numbers: &[u64], widths: &[usize]) -> usize
+fn put_line(
+    out: &mut [u8],
+    at: usize,
+    size: usize,
+    lead: &[u8],
+    numbers: &[u64],
+    widths: &[usize],
+) -> usize
     requires { ⌜ (length (now numbers) ≡ length (now widths)) × (size ≡ length (now lead) + numbersSize (now widths)) ⌝ }
     ensures { λ r. ⌜ block (now (out .exit)) r ≡ putOf (now (out .entry)) at (lineOf (now (lead .entry)) (now (numbers .entry)) (now (widths .entry))) ⌝ }
 {

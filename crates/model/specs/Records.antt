@@ -3,7 +3,7 @@
 use mathlib.Core.Bool.{Bool, cond, _&&_}
 use mathlib.Core.List.{List, [], _∷_}
 use Prim.Native.Nat.{ℕ, _+_, _*_, _/_, _%_}
-use lib.Dec.{leb}
+use lib.Dec.{leb, eqb}
 use Rattle.model.specs.declared.Cycle.{Cycle}
 use Rattle.model.specs.declared.Cycle.the-variants.{Nothing, Record}
 
@@ -61,3 +61,7 @@ flagUnsteady b = cond b 0x10 0
 -- "a record of kind 24, 25 or 26"
 abbrev pub isFrameHead : ℕ → Bool
 isFrameHead head = leb 0x24 (kindOf head) && leb (kindOf head) 0x26
+
+-- The frame's count of bits, off its record: "control bits × 65,536 + data bits; WrReceiver, the count of its bits".
+abbrev pub frameBitsOf : ℕ → ℕ → ℕ
+frameBitsOf kind value = cond (eqb kind 0x26) value (value / 65536 + value % 65536)

@@ -1,7 +1,7 @@
 -- Several cycles at once, as the taking loop walks them: hunting up to the first window that means something, a body up to its end, else one cycle.
 -- How far a stretch goes is no promise to anybody: `proofs/Stretches.antt` shows that each is as many single cycles, all but the last of which ask for nothing.
 -- Assumes nothing.
-use mathlib.Core.Bool.{cond}
+use mathlib.Core.Bool.{Bool, true, false, cond}
 use mathlib.Core.List.{List, [], _∷_}
 use Prim.Native.Nat.{ℕ, suc, _+_}
 use lib.Dec.{ltb, eqb}
@@ -24,6 +24,25 @@ stretched taken h = record { taken = taken; next = h .next; event = h .event }
 
 abbrev pub oneMore : Stretch → Stretch
 oneMore s = record { taken = suc (s .taken); next = s .next; event = s .event }
+
+-- The same phase, with these bits of it received.
+abbrev pub standing : Recogniser → ℕ → ℕ → Recogniser
+standing r shift count = record {
+  phase = r .phase;
+  shift = shift;
+  count = count;
+  command = r .command;
+  address = r .address;
+  held = r .held;
+  group = r .group;
+  unsteady = r .unsteady;
+}
+
+-- Whether a window's meaning is nothing.
+abbrev pub isQuiet : Meaning → Bool
+isQuiet Quiet = true
+isQuiet (Trigger flip) = false
+isQuiet Header = false
 
 -- Hunting with a window.
 abbrev pub huntBeyond : ℕ → Meaning → Stretch → Stretch

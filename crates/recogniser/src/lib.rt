@@ -1,13 +1,16 @@
 // One clock cycle of the command line: what the bit completes, and where the recogniser stands after it.
 // It owns only what the chip triplicates; registers, counters and RunMode belong to the model.
 ghost use mathlib.Core.Path.{_≡_};
-ghost use Prim.Native.Nat.{_<_, _^_};
+ghost use Prim.Native.Nat.{_*_, _-_, _<_, _≤_, _^_};
+ghost use lib.ListN.{length};
 ghost use Rattle.recogniser.specs.Parts.{shifted, startOf, heard, gatheredOf};
 ghost use Rattle.recogniser.specs.declared.Phase.the-variants.{Hunt};
-ghost use Rattle.recogniser.specs.Hunting.{meaningOf, isFast, huntOf, bodyOf};
+ghost use Rattle.recogniser.specs.Hunting.{meaningOf, isFast, huntBy, huntOf, bodyOf};
 ghost use Rattle.recogniser.specs.Fields.{lengthOf, isSlow, isFrame, keptOf, endsOf, slowOf, field3Of, field4Of, keptFieldOf};
 ghost use Rattle.recogniser.specs.Groups.{groupOf, unsteadyOf, storesOf, placeOf, frameEventOf, frameFieldOf};
 ghost use Rattle.recogniser.specs.Step.{field5Of, stepOf};
+ghost use Rattle.recogniser.specs.Stretch.{isQuiet, stretched, standing, huntOn, bodyOn, stretchOf};
+ghost use Rattle.bits.specs.Bits.{bitsOf};
 ghost use Rattle.recogniser.specs.Fit.{hasField5, keeps, nibbleFits, field4Fits, field5Fits, fitOf};
 
 // Where the recogniser stands.
@@ -120,6 +123,18 @@ pub fn classify(window: u8) -> Meaning
         0b11100 | 0b11111 | 0b11001 | 0b10101 | 0b01101 => Meaning::Trigger { flip: true },
         0b10110 => Meaning::Header,
         _ => Meaning::Quiet,
+    }
+}
+
+// Whether the window means nothing.
+fn is_quiet(window: u8) -> bool
+    ensures { λ r. ⌜ r ≡ isQuiet (meaningOf window) ⌝ }
+{
+    let m = classify(window);
+    match m {
+        Meaning::Quiet => true,
+        Meaning::Trigger { flip } => false,
+        Meaning::Header => false,
     }
 }
 
@@ -251,6 +266,36 @@ impl Heard {
             event: event,
         }
     }
+
+    // What a window means, while hunting.
+    fn hunted(window: u8) -> Self
+        ensures { λ r. ⌜ r ≡ huntBy window (meaningOf window) ⌝ }
+    {
+        let m = classify(window);
+        match m {
+            Meaning::Quiet => Heard::hunting(window, Event::Nothing),
+            Meaning::Trigger { flip } => Heard::hunting(0, Event::Lv1 { flip: flip }),
+            Meaning::Header => Heard {
+                next: Recogniser::start(Phase::Body, 0, 0, 0),
+                event: Event::Nothing,
+            },
+        }
+    }
+}
+
+impl Stretch {
+    // So many cycles, of which the last was heard so.
+    fn of(taken: usize, last: Heard) -> Self
+        ensures { λ r. ⌜ r ≡ stretched taken last ⌝ }
+    {
+        let next = last.next;
+        let event = last.event;
+        Stretch {
+            taken: taken,
+            next: next,
+            event: event,
+        }
+    }
 }
 
 impl Recogniser {
@@ -287,16 +332,7 @@ impl Recogniser {
         requires { ⌜ bit < 2 ⌝ }
         ensures { λ r. ⌜ r ≡ huntOf self bit ⌝ }
     {
-        let window = window_with(self.shift, bit);
-        let m = classify(window);
-        match m {
-            Meaning::Quiet => Heard::hunting(window, Event::Nothing),
-            Meaning::Trigger { flip } => Heard::hunting(0, Event::Lv1 { flip: flip }),
-            Meaning::Header => Heard {
-                next: Recogniser::start(Phase::Body, 0, 0, 0),
-                event: Event::Nothing,
-            },
-        }
+        Heard::hunted(window_with(self.shift, bit))
     }
 
     fn body(self, bit: u8) -> Heard
@@ -469,6 +505,72 @@ impl Recogniser {
             Phase::Field3 => self.field3(bit),
             Phase::Field4 => self.field4(bit, cnt),
             Phase::Field5 => self.field5(bit, cnt),
+        }
+    }
+
+    // Hunting on, up to the first window that means something or to the end.
+    fn hunt_on(self, input: &[u8], place: usize, end: usize) -> Stretch
+        requires { ⌜ (place < end) × (end ≤ 8 * length (now input)) × (length (now input) ≤ 1048576) ⌝ }
+        ensures { λ r. ⌜ r ≡ huntOn (self .shift) (bitsOf (now (input .entry)) place (end - place)) ⌝ }
+    {
+        let mut window = self.shift;
+        let mut at = place;
+        while at < end {
+            window = window_with(window, bits::bit_at(input, at));
+            at = at + 1;
+            if is_quiet(window) {
+                continue;
+            }
+            return Stretch::of(at - place, Heard::hunted(window));
+        }
+        Stretch::of(at - place, Heard::hunting(window, Event::Nothing))
+    }
+
+    // The same phase, with these bits of it received.
+    fn standing(mut self, shift: u8, count: u32) -> Recogniser
+        ensures { λ r. ⌜ r ≡ standing self shift count ⌝ }
+    {
+        self.shift = shift;
+        self.count = count;
+        self
+    }
+
+    // A body, up to its fourth bit or to the end.
+    fn body_on(self, input: &[u8], place: usize, end: usize) -> Stretch
+        requires { ⌜ (place < end) × (end ≤ 8 * length (now input)) × (length (now input) ≤ 1048576) ⌝ }
+        ensures { λ r. ⌜ r ≡ bodyOn self (bitsOf (now (input .entry)) place (end - place)) ⌝ }
+    {
+        let mut nibble = self.shift;
+        let mut count = self.count;
+        let mut at = place;
+        while at < end {
+            let bit = bits::bit_at(input, at);
+            at = at + 1;
+            if 3 <= count {
+                return Stretch::of(at - place, self.standing(nibble, count).body(bit));
+            }
+            nibble = nibble_with(nibble, bit);
+            count = count + 1;
+        }
+        Stretch {
+            taken: at - place,
+            next: self.standing(nibble, count),
+            event: Event::Nothing,
+        }
+    }
+
+    // One cycle or more of the input, up to the end at most, by the present contents of the CNT register; all but the last ask for nothing.
+    pub fn stretch(self, input: &[u8], place: usize, end: usize, cnt: u16) -> Stretch
+        requires { ⌜ (place < end) × (end ≤ 8 * length (now input)) × (length (now input) ≤ 1048576) ⌝ }
+        ensures { λ r. ⌜ r ≡ stretchOf self cnt (bitsOf (now (input .entry)) place (end - place)) ⌝ }
+    {
+        let phase = self.phase;
+        match phase {
+            Phase::Hunt => self.hunt_on(input, place, end),
+            Phase::Body => self.body_on(input, place, end),
+            Phase::Field3 => Stretch::of(1, self.field3(bits::bit_at(input, place))),
+            Phase::Field4 => Stretch::of(1, self.field4(bits::bit_at(input, place), cnt)),
+            Phase::Field5 => Stretch::of(1, self.field5(bits::bit_at(input, place), cnt)),
         }
     }
 

@@ -4,7 +4,8 @@ use mathlib.Core.Path.{refl}
 use Rattle.recogniser.specs.Step.{stepOf}
 use Rattle.recogniser.specs.Fit.{fitOf}
 use Rattle.frames.specs.Tray.{trayOf}
-use Rattle.model.specs.Sound.{pointersFit, missingZero}
+use Rattle.model.specs.Plan.{planFits}
+use Rattle.model.specs.Sound.{everyFrom, pointersFit, missingZero}
 use Rattle.model.specs.Fifos.{writeOf}
 use Rattle.model.specs.Commands.{actOf}
 use Rattle.decoder.specs.Opening.{openOf}
@@ -14,9 +15,9 @@ use Rattle.decoder.specs.Take.{takenOf, takeOf}
 use Rattle.streams.specs.Edges.{LongestFrame, LastCycle}
 
 pub last-cycle : LastCycle
-unfolding stepOf fitOf trayOf pointersFit missingZero writeOf actOf openOf soundOf turnOf takenOf takeOf
+unfolding stepOf fitOf trayOf planFits everyFrom pointersFit missingZero writeOf actOf openOf soundOf turnOf takenOf takeOf
 last-cycle = record { opens = refl; one = refl; two = refl; number = refl }
 
 pub longest-frame : LongestFrame
-unfolding stepOf fitOf trayOf pointersFit missingZero writeOf actOf openOf soundOf turnOf takenOf takeOf
-longest-frame = record { cycles = refl; stored = refl; ends = refl; words = refl; bytes = refl }
+unfolding stepOf fitOf trayOf planFits everyFrom pointersFit missingZero writeOf actOf openOf soundOf turnOf takenOf takeOf
+longest-frame = record { cycles = refl; stored = refl; ends = refl; words = refl; bits = refl; bytes = refl }

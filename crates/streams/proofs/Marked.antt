@@ -4,7 +4,8 @@ use mathlib.Core.Path.{refl}
 use Rattle.recogniser.specs.Step.{stepOf}
 use Rattle.recogniser.specs.Fit.{fitOf}
 use Rattle.frames.specs.Tray.{trayOf}
-use Rattle.model.specs.Sound.{pointersFit, missingZero}
+use Rattle.model.specs.Plan.{planFits}
+use Rattle.model.specs.Sound.{everyFrom, pointersFit, missingZero}
 use Rattle.model.specs.Fifos.{writeOf}
 use Rattle.model.specs.Commands.{actOf}
 use Rattle.decoder.specs.Sound.{soundOf}
@@ -13,5 +14,5 @@ use Rattle.decoder.specs.Take.{takenOf, takeOf}
 use Rattle.streams.specs.Marked.{MarkedStreams}
 
 pub marked : MarkedStreams
-unfolding stepOf fitOf trayOf pointersFit missingZero writeOf actOf soundOf turnOf takenOf takeOf
+unfolding stepOf fitOf trayOf planFits everyFrom pointersFit missingZero writeOf actOf soundOf turnOf takenOf takeOf
 marked = refl

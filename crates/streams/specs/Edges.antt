@@ -15,6 +15,7 @@ use Rattle.recogniser.specs.Step.{stepOf}
 use Rattle.model.specs.Commands.{withRunning}
 use Rattle.frames.specs.Tray.{partOf}
 use Rattle.model.specs.Plan.{defaultPlan}
+use Rattle.model.specs.Records.{frameBitsOf}
 use Rattle.decoder.specs.declared.Decoder.{Decoder}
 use Rattle.decoder.specs.Limits.{clockLimit, storeLength, trayLength}
 use Rattle.decoder.specs.declared.Opening.the-variants.{Accepted}
@@ -73,12 +74,14 @@ oneBit = record {
   free = 0;
 }
 
--- "CNT FFFF gives a frame of 8,247 bits, value 00381FFF, 1,031 bytes": its cycles, the bits stored over them, and the call that takes the last one.
+-- "CNT FFFF gives a frame of 8,247 bits, value 00381FFF, 1,031 bytes", in parts: its cycles, the bits stored over them from Field 5's start, the call
+-- that takes the last cycle, the bits that its record tells, and their bytes.
 pub record LongestFrame : Type 0 where
   pub cycles : lengthOf 4 0xFFFF ≡ 65976
   pub stored : storedBits 65976 0xFFFF (inField 0) ≡ 8247
   pub ends : takeOf (receiving 65975) oneBit .taken .told ≡ record { bits = 1; records = 1; ending = Frame }
   pub words : wordsStanding (receiving 65975) oneBit ≡ 0x2401 ∷ 0x00381FFF ∷ []
+  pub bits : frameBitsOf 0x24 0x00381FFF ≡ 8247
   pub bytes : length (partOf (replicate trayLength 0) 8247) ≡ 1031
 
 -- "From cycle 2^48 - 1 one bit is taken; two are number 6."

@@ -9,10 +9,11 @@ use Rattle.bits.specs.Bits.{numberOf}
 use Rattle.model.specs.Plan.{defaultPlan}
 use Rattle.model.specs.Commands.{withRunning, withRegisters}
 use Rattle.decoder.specs.declared.Decoder.{Decoder}
+use Rattle.decoder.specs.declared.Ending.{Ending}
 use Rattle.decoder.specs.Limits.{storeLength, trayLength}
 use Rattle.decoder.specs.Entries.{entryWords}
 use Rattle.decoder.specs.Opening.{openedAt}
-use Rattle.decoder.specs.Take.{Call, takeOf, endingNumber}
+use Rattle.decoder.specs.Take.{Call, takeOf}
 use Rattle.decoder.specs.Calls.{wordsStanding}
 use Rattle.streams.specs.Table.{Row, table}
 
@@ -44,19 +45,19 @@ callFor bits = record {
   free = 0;
 }
 
--- What a call shows: whether it was turned away, the bits taken, the words that stand in its list.
+-- What a call shows: its ending, the bits taken, the words that stand in its list.
 pub record Shown : Type 0 where
-  pub refusal : ℕ
+  pub ending : Ending
   pub bits : ℕ
   pub words : List ℕ
 
 abbrev pub shown : Row → Shown
 shown r =
     let told = takeOf (running (r .cnt)) (callFor (r .bits)) .taken .told in
-    record { refusal = endingNumber (told .ending); bits = told .bits; words = wordsStanding (running (r .cnt)) (callFor (r .bits)) }
+    record { ending = told .ending; bits = told .bits; words = wordsStanding (running (r .cnt)) (callFor (r .bits)) }
 
 abbrev pub asMarked : Row → Shown
-asMarked r = record { refusal = 0; bits = length (r .bits); words = entryWords (r .records) }
+asMarked r = record { ending = r .ending; bits = length (r .bits); words = entryWords (r .records) }
 
 -- Every row, together.
 abbrev pub MarkedStreams : Type 0

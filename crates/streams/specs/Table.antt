@@ -2,6 +2,8 @@
 -- Assumes nothing.
 use mathlib.Core.List.{List, [], _∷_}
 use Prim.Native.Nat.{ℕ, _+_, _*_}
+use Rattle.decoder.specs.declared.Ending.{Ending}
+use Rattle.decoder.specs.declared.Ending.the-variants.{Done, Frame}
 use Rattle.decoder.specs.Entries.{Entry, entry}
 use Rattle.model.specs.Records.{kindLv1, kindFast, kindBadFast, kindSlow, kindBadSlow}
 
@@ -12,14 +14,18 @@ exact l1id t = entry t kindLv1 0x05 (l1id * 256 + t)
 abbrev pub flip : ℕ → ℕ → Entry
 flip l1id t = entry t kindLv1 0x07 (l1id * 256 + t)
 
--- A row: the bits, CNT, and the records.
+-- A row: the bits, CNT, the records, and the ending of a call that is offered the bits.
 pub record Row : Type 0 where
   pub bits : List ℕ
   pub cnt : ℕ
   pub records : List Entry
+  pub ending : Ending
 
 abbrev pub row : List ℕ → List Entry → Row
-row bits records = record { bits = bits; cnt = 0; records = records }
+row bits records = record { bits = bits; cnt = 0; records = records; ending = Done }
+
+abbrev pub frameRow : List ℕ → List Entry → Row
+frameRow bits records = record { bits = bits; cnt = 0; records = records; ending = Frame }
 
 -- All rows have CNT 0; the last one names it.
 abbrev pub table : List Row
@@ -37,5 +43,5 @@ table =
     ∷ row (0 ∷ 0 ∷ 1 ∷ 1 ∷ 0 ∷ 0 ∷ 1 ∷ 0 ∷ 0 ∷ []) (flip 0 6 ∷ [])
     ∷ row (0 ∷ 0 ∷ 1 ∷ 0 ∷ 1 ∷ 0 ∷ 1 ∷ 1 ∷ 0 ∷ 1 ∷ 0 ∷ 1 ∷ 1 ∷ []) (flip 0 6 ∷ flip 1 11 ∷ [])
     ∷ row (1 ∷ 0 ∷ 1 ∷ 1 ∷ 0 ∷ 1 ∷ 0 ∷ 1 ∷ 1 ∷ 1 ∷ 0 ∷ 1 ∷ 1 ∷ 0 ∷ 0 ∷ 0 ∷ 0 ∷ []) (entry 16 kindBadSlow 0x00 11 ∷ [])
-    ∷ row (1 ∷ 0 ∷ 1 ∷ 1 ∷ 0 ∷ 1 ∷ 0 ∷ 1 ∷ 1 ∷ 0 ∷ 1 ∷ 0 ∷ 0 ∷ 0 ∷ 0 ∷ 0 ∷ 0 ∷ []) (entry 16 (kindSlow 4) 0x01 0 ∷ [])
+    ∷ frameRow (1 ∷ 0 ∷ 1 ∷ 1 ∷ 0 ∷ 1 ∷ 0 ∷ 1 ∷ 1 ∷ 0 ∷ 1 ∷ 0 ∷ 0 ∷ 0 ∷ 0 ∷ 0 ∷ 0 ∷ []) (entry 16 (kindSlow 4) 0x01 0 ∷ [])
     ∷ []

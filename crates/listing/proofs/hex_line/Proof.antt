@@ -1,60 +1,85 @@
+-- `listing::hex_line` meets its contract: what was seen of the whole line says what the line says, and its bytes are copied.
+-- Assumes nothing.
+use mathlib.Core.List.{List}
+use mathlib.Core.Path.{_≡_, sym, ap, _∙_}
+use Prim.Native.Nat.{ℕ, _≤_}
+use native.Mathlib.Nat.{zero-add}
+use lib.ListN.{length, take}
+use lib.Seq.{sets}
 use borrow.Author.Needs.{needs}
+use Rattle.listing.specs.declared.HexLine.{HexLine}
+use Rattle.listing.specs.declared.Seen.{Seen}
+use Rattle.listing.specs.Block.{Block}
+use Rattle.listing.specs.Line.{hexCount, readAs, readOf}
+use Rattle.listing.specs.Lines.{fresh, seenOf}
+use Rattle.listing.proofs.Says.{short, within, length-said, read}
 use Rattle.listing.proofs.hex_line.Statement.{statement}
 use Rattle.listing.proofs.hex_line.Tie as tie
-use Rattle.listing.proofs.hex_line.Reads as reads
-use Rattle.listing.proofs.hex_line.Lts as lts
-use Rattle.listing.proofs.Seen.answer.Reads as answer-reads
-use Rattle.listing.proofs.Seen.fresh.Reads as fresh-reads
-use Rattle.listing.proofs.Seen.with_all.Reads as with-all-reads
-use Rattle.listing.proofs.put_bytes.Reads as put-bytes-reads
 
--- src/lib.rt:211:16
+-- once the answer is there
+abbrev entry : tie.After-answer → tie.Start
+entry c = c .before .before .before .before
+
+seen : (c : tie.After-answer) → c .before .with-all .result ≡ seenOf fresh (entry c .args .line .now)
+seen c = c .before .with-all .ensures ∙ ap (λ (s : Seen). seenOf s (entry c .args .line .now)) (c .before .before .fresh .ensures)
+
+module _ (c : tie.After-answer) (r : HexLine) (e : c .answer .result ≡ r) where
+  abbrev held : List ℕ
+  held = take (hexCount r) (c .before .with-all .result .bytes)
+
+  few : hexCount r ≤ 32
+  few = short (entry c .args .line .now) (c .before .with-all .result) (seen c) r (sym e ∙ c .answer .ensures)
+
+  inside : hexCount r ≤ length (c .before .with-all .result .bytes)
+  inside = within (entry c .args .line .now) (c .before .with-all .result) (seen c) r (sym e ∙ c .answer .ensures)
+
+  held-length : length held ≡ hexCount r
+  held-length = length-said (entry c .args .line .now) (c .before .with-all .result) (seen c) r (sym e ∙ c .answer .ensures)
+
+  told : readAs r (sets (entry c .args .bytes .now) 0 held) ≡ readOf (entry c .args .line .now) (entry c .args .bytes .now)
+  told = read (entry c .args .line .now) (c .before .with-all .result) (seen c) r (sym e ∙ c .answer .ensures) (entry c .args .bytes .now)
+
 fresh-requires : tie.Need-fresh-requires
 fresh-requires c κs = search needs
 
--- src/lib.rt:211:9
 with-all-requires : tie.Need-with-all-requires
 with-all-requires c κs = search needs
 
--- src/lib.rt:212:9
 answer-requires : tie.Need-answer-requires
 answer-requires c κs = search needs
 
--- src/lib.rt:214:24
 enum-known-answer : tie.Need-enum-known-answer
 enum-known-answer c = search needs
 
--- src/lib.rt:216:33
 array-share-prefix-held : tie.Need-array-share-prefix-held
-array-share-prefix-held c = ?
+array-share-prefix-held c = inside (c .before .before .before .before .before) _ (c .before .before .before .answer2 .given .1)
 
--- src/lib.rt:216:33
 slice-aggregate-put-bytes : tie.Need-slice-aggregate-put-bytes
-slice-aggregate-put-bytes c = ?
+slice-aggregate-put-bytes c =
+    sym (held-length (c .before .before .before .before .before .before) _ (c .before .before .before .before .answer2 .given .1))
 
--- src/lib.rt:216:13
 put-bytes-requires : tie.Need-put-bytes-requires
-put-bytes-requires c κs = ?
+put-bytes-requires c κs =
+    let a = c .before .before .before .before .before .before in
+    let e = c .before .before .before .before .answer2 .given .1 in
+    let long : length (entry a .args .bytes .now) ≡ 32 = search needs in
+    rw (zero-add, held-length a _ e, long) (few a _ e)
 
--- src/lib.rt:219:36
 enum-told : tie.Need-enum-told
 enum-told c = search needs
 
--- src/lib.rt:220:33
 enum-told-2 : tie.Need-enum-told-2
 enum-told-2 c = search needs
 
--- src/lib.rt:208:1
 returns : tie.Need-returns
-returns c = ?
+returns c =
+    rw (ap (λ (b : Block). b .bytes) (c .put-bytes .ensures)) (told (c .before .before .before .before .before .before .before) _ (c .before .before .before .before .before .answer2 .given .1))
 
--- src/lib.rt:208:1
 returns-2 : tie.Need-returns-2
-returns-2 c = ?
+returns-2 c = told (c .before .before) _ (c .enum-told .given .1)
 
--- src/lib.rt:208:1
 returns-3 : tie.Need-returns-3
-returns-3 c = ?
+returns-3 c = told (c .before .before) _ (c .enum-told2 .given .1)
 
 pub hex-line-spec : {M : Type 1} → statement M
 hex-line-spec =

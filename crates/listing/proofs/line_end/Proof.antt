@@ -1,6 +1,6 @@
 -- `listing::line_end` meets its contract: from each place passed, the characters ahead of the line feed end at the same place.
 -- Assumes nothing.
-use mathlib.Core.Path.{_≡_, refl, _∙_, sym}
+use mathlib.Core.Path.{_≡_, refl}
 use Prim.Native.Nat.{_+_, _-_, _≤_}
 use native.Mathlib.Numerals.{add-one}
 use native.Mathlib.Omega.{arith}
@@ -13,11 +13,11 @@ use Rattle.listing.proofs.line_end.Statement.{statement}
 use Rattle.listing.proofs.line_end.Tie as tie
 
 abbrev Inv-loop : tie.InvT-loop
-Inv-loop block from at₀ at =
-    (at ≤ length block) × (at + length (upToFeed (drop at block)) ≡ from + length (upToFeed (drop from block)))
+Inv-loop block at end₀ end =
+    (end ≤ length block) × (end + length (upToFeed (drop end block)) ≡ at + length (upToFeed (drop at block)))
 
 abbrev μ-loop : tie.MeasureT-loop
-μ-loop block from at₀ at = length block - at
+μ-loop block at end₀ end = length block - end
 
 loop-holds : tie.Need-loop-holds Inv-loop μ-loop
 loop-holds c = (c .pre, refl)
@@ -30,11 +30,11 @@ unfolding upToFeed
 returns c =
     let t = c .before .before in
     let l = t .before .loop in
-    let h = simp (drop-cons (t .before .before .args .block .now) (l .at) 0 (t .loop-test .taken), eq-eqb _ _ (c .if1 .taken)) at (l .inv .1) in
+    let h = simp (drop-cons (t .before .before .args .block .now) (l .end) 0 (t .loop-test .taken), eq-eqb _ _ (c .if1 .taken)) at (l .inv .1) in
     omega arith
 
-add-at : tie.Need-add-at Inv-loop μ-loop
-add-at c = search needs
+add-end : tie.Need-add-end Inv-loop μ-loop
+add-end c = search needs
 
 loop-less : tie.Need-loop-less Inv-loop μ-loop
 loop-less c = search needs
@@ -44,7 +44,7 @@ unfolding upToFeed
 loop-again c =
     let t = c .before .before in
     let l = t .before .loop in
-    let h = simp (drop-cons (t .before .before .args .block .now) (l .at) 0 (t .loop-test .taken), ne-eqb _ _ (c .if1 .left)) at (l .inv .1) in
+    let h = simp (drop-cons (t .before .before .args .block .now) (l .end) 0 (t .loop-test .taken), ne-eqb _ _ (c .if1 .left)) at (l .inv .1) in
     (omega arith, rw add-one (omega arith))
 
 returns-2 : tie.Need-returns-2 Inv-loop μ-loop
@@ -62,7 +62,7 @@ line-end-spec =
     loop-holds
     shared-slice-read-if1
     returns
-    add-at
+    add-end
     loop-less
     loop-again
     returns-2)

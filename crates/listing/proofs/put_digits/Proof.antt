@@ -17,6 +17,9 @@ loop-holds c = begun _ _ _ _
 sub-left : tie.Need-sub-left Inv-loop μ-loop
 sub-left c = search needs
 
+cast-character : tie.Need-cast-character Inv-loop μ-loop
+cast-character c = search needs
+
 character-requires : tie.Need-character-requires Inv-loop μ-loop
 character-requires c κs = search needs
 
@@ -46,6 +49,7 @@ put-digits-spec =
     μ-loop
     loop-holds
     sub-left
+    cast-character
     character-requires
     add-out
     slice-write-out

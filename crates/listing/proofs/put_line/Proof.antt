@@ -52,8 +52,8 @@ returns-2 : tie.Need-returns-2
 returns-2 c =
     let e = c .before .before .before .before .before .before .before .before in
     c .before .before .put-numbers .ensures
-        ∙ again (whole e) (entry e .args .lead .now) _ refl _ _ (c .before .before .before .before .before .before .put-bytes .ensures) .whole-put
-        ∙ sym (put-fits _ _ (Text (entry e)) (whole e .fits))
+    ∙ again (whole e) (entry e .args .lead .now) _ refl _ _ (c .before .before .before .before .before .before .put-bytes .ensures) .whole-put
+    ∙ sym (put-fits _ _ (Text (entry e)) (whole e .fits))
 
 pub put-line-spec : {M : Type 1} → statement M
 put-line-spec =

@@ -1,6 +1,6 @@
 -- `listing::Seen::with_all` meets its contract: the characters that are left, seen from here on, give what all of them give.
 -- Assumes nothing.
-use mathlib.Core.Path.{_≡_, refl, _∙_}
+use mathlib.Core.Path.{_≡_, refl}
 use Prim.Native.Nat.{_-_, _≤_}
 use native.Mathlib.Numerals.{add-one}
 use native.Mathlib.Omega.{arith}

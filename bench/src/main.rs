@@ -1,0 +1,109 @@
+//! The proved taking call against plain Rust readers that go bit by bit: one
+//! mebibyte of zeros, and one of dense commands, in turns in one run. Prints
+//! nanoseconds a bit (the fastest turn of each) and the ratios.
+
+mod plain;
+mod streams;
+
+use reference::{open, take, Plan};
+use std::time::Instant;
+
+extern "C" {
+    /// Opens with the default plan at cycle 0 and takes bits; answers the
+    /// records written. A slice passes as a pointer and then a length.
+    fn kernelstill_take_fresh(
+        input: *const u8,
+        input_length: usize,
+        first: usize,
+        count: usize,
+        store: *mut u32,
+        store_length: usize,
+        tray: *mut u8,
+        tray_length: usize,
+        list: *mut u64,
+        list_length: usize,
+        free: usize,
+    ) -> usize;
+}
+
+const CALL: usize = 65_536;
+const TURNS: usize = 40;
+
+struct Buffers {
+    store: Vec<u32>,
+    tray: Vec<u8>,
+    list: Vec<u64>,
+}
+
+fn proved(input: &[u8], b: &mut Buffers) -> usize {
+    // Each slice is lent for this call only, and no two overlap.
+    unsafe {
+        kernelstill_take_fresh(
+            input.as_ptr(),
+            input.len(),
+            0,
+            8 * input.len(),
+            b.store.as_mut_ptr(),
+            b.store.len(),
+            b.tray.as_mut_ptr(),
+            b.tray.len(),
+            b.list.as_mut_ptr(),
+            b.list.len(),
+            0,
+        )
+    }
+}
+
+fn separate(input: &[u8], b: &mut Buffers) -> usize {
+    let (_, state) = open(Plan::DEFAULT, 0);
+    let bits = 8 * input.len() as u64;
+    take(
+        state,
+        input,
+        0,
+        bits,
+        &mut b.store,
+        &mut b.tray,
+        &mut b.list,
+        0,
+    )
+    .records_written as usize
+}
+
+fn plain(input: &[u8], b: &mut Buffers) -> usize {
+    plain::take(input, &mut b.list)
+}
+
+type Reader = fn(&[u8], &mut Buffers) -> usize;
+
+fn main() {
+    let mut buffers = Buffers {
+        store: vec![0; 2048],
+        tray: vec![0; 8192],
+        list: vec![0; 4 * CALL],
+    };
+    let readers: [(&str, Reader); 3] = [
+        ("proved", proved),
+        ("separate reader", separate),
+        ("plain triggers", plain),
+    ];
+    for (name, input) in [("zeros", streams::zeros()), ("dense", streams::dense())] {
+        let mut best = [f64::MAX; 3];
+        let mut records = [0; 3];
+        for _ in 0..TURNS {
+            for (k, (_, read)) in readers.iter().enumerate() {
+                let began = Instant::now();
+                records[k] = input.chunks(CALL).map(|c| read(c, &mut buffers)).sum();
+                best[k] = best[k].min(began.elapsed().as_secs_f64());
+            }
+        }
+        assert!(records.iter().all(|r| *r == records[0]), "{records:?}");
+        let bits = 8.0 * input.len() as f64;
+        for (k, (who, _)) in readers.iter().enumerate() {
+            println!("{name}: {who}: {:.3} ns a bit", best[k] / bits * 1e9);
+        }
+        for (k, (who, _)) in readers.iter().enumerate().skip(1) {
+            println!("{name}: proved / {who}: {:.2}", best[0] / best[k]);
+        }
+    }
+}

@@ -1,0 +1,49 @@
+-- The second demand, proved.
+-- Assumes nothing.
+use mathlib.Core.Path.{_≡_, _∙_, sym, ap}
+use mathlib.Core.List.{List}
+use Prim.Native.Nat.{ℕ, _+_, _*_, _-_, _/_}
+use native.Mathlib.Omega.{arith}
+use lib.ListN.{length, take}
+use Rattle.decoder.specs.declared.Decoder.{Decoder}
+use Rattle.decoder.specs.Run.{Run, runOf, stateAfter, wordsAfter}
+use Rattle.decoder.specs.Turn.{World, turnOf}
+use Rattle.decoder.specs.Take.{Call, offered, worldOf, takenOf}
+use Rattle.decoder.specs.Calls.{Request, carriedBits}
+use Rattle.decoder.proofs.Runs.{run-faithful}
+use Rattle.decoder.proofs.Ends.{run-ended}
+use Rattle.decoder.proofs.Calls.{call-kept, carried-words, carried-world}
+use Rattle.decoder.proofs.Loop.{length-bits}
+use Rattle.decoder.proofs.Stays.{start-sound, take-sound}
+use Rattle.promises.specs.Records.{Exact, Ends, LastIsFrame, Cuts, SecondDemand}
+
+exact : (d : Decoder) (c : Call) → Exact d c
+exact d c = let k = call-kept d c in record { state = k .world; words = k .words }
+
+module _ (d : Decoder) (c : Call) where
+  run : Run World
+  run = runOf turnOf (offered c) (worldOf d c) (length (c .list) - c .free)
+
+  ends : Ends d c
+  unfolding takenOf run
+  ends =
+      let e = run-ended turnOf (offered c) (worldOf d c) (length (c .list) - c .free) in
+      let f = run-faithful turnOf (offered c) (worldOf d c) (length (c .list) - c .free) in
+      let n : length (offered c) ≡ c .count = length-bits (c .input) (c .first) (c .count) in
+      let z : 0 + run .bits ≡ run .bits = omega arith in
+      record {
+        done = λ h. let g = e .done h in omega arith;
+        full = λ h. let g = e .full h in let w = f .whole in (omega arith, omega arith);
+        frame = λ h.
+          let g = e .framed h in
+          record { before = g .before; head = g .head; value = g .value; parts = rw z (sym (f .words) ∙ g .parts); frame = g .frame };
+      }
+
+cuts : (w : World) → Cuts w
+cuts w ps qs e = (
+  carried-words w ps ∙ ap (wordsAfter turnOf w) e ∙ sym (carried-words w qs),
+  carried-world w ps ∙ ap (stateAfter turnOf w) e ∙ sym (carried-world w qs),
+)
+
+pub second-demand : SecondDemand
+second-demand = record { exact = exact; ends = ends; cuts = cuts; opens-sound = start-sound; stays-sound = take-sound }

@@ -1,0 +1,120 @@
+-- The first demand, proved: the tests of the definitions are the rows of the table.
+-- Assumes nothing.
+use mathlib.Core.Path.{_≡_, _∙_, refl, sym, ap}
+use mathlib.Core.Bool.{Bool, true, false, cond, not, _&&_, _||_}
+use Prim.Native.Nat.{ℕ, _+_, _*_, _-_, _^_}
+use native.Mathlib.Omega.{arith}
+use lib.Dec.{leb, ltb, eqb}
+use lib.ListN.{length}
+use borrow.Author.Tests.{le-leb, lt-leb, lt-ltb, le-ltb, ltb-true, ltb-false}
+use Rattle.model.specs.declared.Plan.{Plan}
+use Rattle.model.specs.Plan.{existsAt, planFits}
+use Rattle.decoder.specs.declared.Decoder.{Decoder}
+use Rattle.decoder.specs.declared.Ending.{Ending}
+use Rattle.decoder.specs.declared.Ending.the-variants.{Unsound, WrongBuffers, WrongRange, ClockOver}
+use Rattle.decoder.specs.Opening.{openOf}
+use Rattle.decoder.specs.Sound.{soundOf}
+use Rattle.decoder.specs.Turn.{turnOf}
+use Rattle.decoder.specs.Take.{Call, Left, offered, worldOf, refused, buffersFit, rangeFits, clockFits, takenOf, takeOf, endingNumber}
+use Rattle.decoder.proofs.Ends.{run-ended}
+use Rattle.decoder.proofs.Refusals.{buffers, range, unsound, wrong-buffers, wrong-range, clock-over, taken}
+use Rattle.promises.specs.Refusals.{firstOf, threeInMask, threeDiffer, openingRows, takingRows, Opens, Takes, FirstDemand}
+
+-- tests turned round
+not-leb-by : (a b : ℕ) (t : Bool) → ltb b a ≡ t → not (leb a b) ≡ ltb b a
+not-leb-by a b true e = ap not (lt-leb a b (ltb-true b a e)) ∙ sym e
+not-leb-by a b false e = ap not (le-leb a b (ltb-false b a e)) ∙ sym e
+
+not-leb : (a b : ℕ) → not (leb a b) ≡ ltb b a
+not-leb a b = not-leb-by a b (ltb b a) refl
+
+not-and : (a b : Bool) → not (a && b) ≡ (not a || not b)
+not-and true b = refl
+not-and false b = refl
+
+-- The plan's test.
+plan-by : (a b c x y z : Bool) → (a && (b && (c && (not x && (not y && not z))))) ≡ ((a && (b && c)) && not (x || (y || z)))
+plan-by false b c x y z = refl
+plan-by true false c x y z = refl
+plan-by true true false x y z = refl
+plan-by true true true true y z = refl
+plan-by true true true false true z = refl
+plan-by true true true false false z = refl
+
+plan-row : (plan : Plan) → planFits plan ≡ (threeInMask plan && threeDiffer plan)
+unfolding planFits
+plan-row plan =
+    plan-by (existsAt plan (plan .csr)) (existsAt plan (plan .feen)) (existsAt plan (plan .cnt)) (eqb (plan .csr) (plan .feen)) (eqb (plan .csr) (plan .cnt)) (eqb (plan .feen) (plan .cnt))
+
+opens-by : (plan : Plan) (cycle : ℕ) (p q : Bool) → planFits plan ≡ p → (threeInMask plan && threeDiffer plan) ≡ p → leb (2 ^ 48) cycle ≡ q → Opens plan cycle
+unfolding openOf
+opens-by plan cycle false q e f g = record { number = rw (e, f); state = rw (e, f) }
+opens-by plan cycle true true e f g = record { number = rw (e, f, g); state = rw (e, f, g) }
+opens-by plan cycle true false e f g = record { number = rw (e, f, g); state = rw (e, f, g) }
+
+opens : (plan : Plan) (cycle : ℕ) → Opens plan cycle
+opens plan cycle = opens-by plan cycle (planFits plan) (leb (2 ^ 48) cycle) refl (sym (plan-row plan)) refl
+
+-- The taking call's rows, by the four tests.
+abbrev firstBy : Bool → Bool → Bool → Bool → ℕ
+firstBy s b r k = cond (not s) 3 (cond (not b) 4 (cond (not r) 5 (cond (not k) 6 0)))
+
+module _ (d : Decoder) (c : Call) where
+  abbrev clock : Bool
+  clock = clockFits (d .next) (c .count)
+
+  buffers-row : not (buffers c) ≡ (not (eqb (length (c .store)) 2048) || (not (eqb (length (c .tray)) 8192) || ltb (length (c .list)) (c .free)))
+  buffers-row =
+      not-and (eqb (length (c .store)) 2048) _
+      ∙ ap (λ t. not (eqb (length (c .store)) 2048) || t)
+      (not-and (eqb (length (c .tray)) 8192) _ ∙ ap (λ t. not (eqb (length (c .tray)) 8192) || t) (not-leb (c .free) (length (c .list))))
+
+  range-row : not (range c) ≡ (ltb 65536 (length (c .input)) || ltb (8 * length (c .input)) (c .first + c .count))
+  range-row =
+      not-and (leb (length (c .input)) 65536) _
+      ∙ ap (λ t. t || not (leb (c .first + c .count) (8 * length (c .input)))) (not-leb (length (c .input)) 65536)
+      ∙ ap (λ t. ltb 65536 (length (c .input)) || t) (not-leb (c .first + c .count) (8 * length (c .input)))
+
+  rows : firstBy (soundOf d) (buffers c) (range c) clock ≡ firstOf (takingRows d c)
+  rows = λ i. cond (not (soundOf d)) 3 (cond (buffers-row i) 4 (cond (range-row i) 5 (cond (not-leb (d .next + c .count) (2 ^ 48) i) 6 0)))
+
+  record Says (n : ℕ) : Type 0 where
+    number : endingNumber (takeOf d c .taken .told .ending) ≡ n
+    away : eqb n 0 ≡ false → (ending : Ending) × (takeOf d c ≡ refused d c ending)
+    through : n ≡ 0 → takeOf d c ≡ takenOf d c
+
+  -- a refusal
+  turned : (e : Ending) → eqb (endingNumber e) 0 ≡ false → takeOf d c ≡ refused d c e → Says (endingNumber e)
+  turned e h t = record {
+    number = ap (λ (l : Left). endingNumber (l .taken .told .ending)) t;
+    away = λ _. (e, t);
+    through = λ z. let f : true ≡ false = sym (ap (λ n. eqb n 0) z) ∙ h in absurd (true-false f);
+  }
+    where
+      true-false : true ≡ false → ⊥
+      true-false q = let z : _≡_ {A = ℕ} 0 1 = cc in omega arith
+
+  says : (s b r k : Bool) → soundOf d ≡ s → buffers c ≡ b → range c ≡ r → clock ≡ k → Says (firstBy s b r k)
+  unfolding takenOf
+  says false b r k es eb er ek = turned Unsound refl (unsound d c es)
+  says true false r k es eb er ek = turned WrongBuffers refl (wrong-buffers d c es eb)
+  says true true false k es eb er ek = turned WrongRange refl (wrong-range d c es eb er)
+  says true true true false es eb er ek = turned ClockOver refl (clock-over d c es eb er ek)
+  says true true true true es eb er ek = record {
+    number = ap (λ (l : Left). endingNumber (l .taken .told .ending)) (taken d c es eb er ek)
+        ∙ run-ended turnOf (offered c) (worldOf d c) (length (c .list) - c .free) .fits;
+    away = λ h. let z : _≡_ {A = ℕ} 0 1 = cc in absurd (omega arith);
+    through = λ _. taken d c es eb er ek;
+  }
+
+  takes : Takes d c
+  takes =
+      let t = says (soundOf d) (buffers c) (range c) clock refl refl refl refl in
+      record {
+        number = t .number ∙ rows;
+        away = λ h. t .away (ap (λ n. eqb n 0) rows ∙ h);
+        through = λ h. t .through (rows ∙ h);
+      }
+
+pub first-demand : FirstDemand
+first-demand = record { opens = opens; takes = takes }

@@ -1,0 +1,42 @@
+-- The third demand: one claim about two lists of taking calls, a clean run and the same bits with one inverted (document 01, "The damage table").
+-- Assumes nothing.
+use mathlib.Core.Path.{_≡_}
+use mathlib.Core.Bool.{Bool, true}
+use mathlib.Core.List.{List}
+use Prim.Native.Nat.{ℕ, _<_}
+use lib.Dec.{T}
+use lib.ListN.{length}
+use Rattle.recogniser.specs.declared.Phase.the-variants.{Hunt}
+use Rattle.decoder.specs.declared.Decoder.{Decoder}
+use Rattle.decoder.specs.Entries.{Entry, entryWords}
+use Rattle.decoder.specs.Sound.{soundOf}
+use Rattle.decoder.specs.Take.{Call}
+use Rattle.decoder.specs.Calls.{allBits, allWords}
+use Rattle.damage.specs.Streams.{Item, streamBits, timed, inverted}
+use Rattle.damage.specs.Records.{countersOf, sendsOf, cleanEntries, damagedEntries}
+use Rattle.damage.specs.Alike.{Replaced}
+
+-- Any sound state in RunMode, hunting, window 00000; a clean stream; a bit of it; and two lists of calls, any cuts, any buffers, refused calls
+-- included, of which one has taken the stream and the other the same bits with that one inverted.
+pub record Runs (d : Decoder) (clean damaged : List Call) (items : List Item) (trailing k : ℕ) : Type 0 where
+  pub sound : T (soundOf d)
+  pub running : d .model .running ≡ true
+  pub hunting : d .recogniser .phase ≡ Hunt
+  pub window : d .recogniser .shift ≡ 0
+  pub timing : T (timed items)
+  pub inside : k < length (streamBits items trailing)
+  pub took-clean : allBits d clean ≡ streamBits items trailing
+  pub took-damaged : allBits d damaged ≡ inverted k (streamBits items trailing)
+
+-- The clean run has written the paper's record for each command and no other. The damaged run has written exactly these but for the affected one, which
+-- is exactly the damage table's (`damagedEntries`); in the paper's words (`Replaced`), the trigger numbers differ at most after the affected command up to
+-- the first ECR after it, the bunch numbers up to the first BCR, and nowhere if no command is affected.
+pub record Wrote (d : Decoder) (clean damaged : List Call) (items : List Item) (k : ℕ) : Type 0 where
+  pub clean-words : allWords d clean ≡ entryWords (cleanEntries (sendsOf d) (countersOf d) (d .next) items)
+  pub damaged-words : allWords d damaged ≡ entryWords (damagedEntries (sendsOf d) (countersOf d) (d .next) items k)
+  pub replaced : Replaced (sendsOf d) (countersOf d) (d .next) items k (damagedEntries (sendsOf d) (countersOf d) (d .next) items k)
+
+abbrev pub ThirdDemand : Type 0
+ThirdDemand =
+    (d : Decoder) (clean damaged : List Call) (items : List Item) (trailing k : ℕ)
+    → Runs d clean damaged items trailing k → Wrote d clean damaged items k

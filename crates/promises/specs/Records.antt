@@ -1,0 +1,57 @@
+-- The second demand: the records, registers, FIFO words, counters and frames, wherever the stream is cut into calls.
+-- That the calls answer and leave what their definitions say is in the contracts of `start`, `take` and `frame_part`; here is what follows for cuts,
+-- endings and soundness.
+-- Assumes nothing.
+use mathlib.Core.Path.{_≡_}
+use mathlib.Core.Bool.{true}
+use mathlib.Core.List.{List, [], _∷_, _++_}
+use Prim.Native.Nat.{ℕ, _*_, _-_, _<_}
+use lib.Dec.{T}
+use lib.ListN.{length, take}
+use Rattle.model.specs.declared.Plan.{Plan}
+use Rattle.model.specs.Records.{isFrameHead}
+use Rattle.decoder.specs.declared.Decoder.{Decoder}
+use Rattle.decoder.specs.declared.Ending.the-variants.{Done, Frame, ListFull}
+use Rattle.decoder.specs.Limits.{listUnit}
+use Rattle.decoder.specs.Opening.{openOf}
+use Rattle.decoder.specs.Sound.{soundOf}
+use Rattle.decoder.specs.Run.{stateAfter, wordsAfter}
+use Rattle.decoder.specs.Turn.{World, turnOf}
+use Rattle.decoder.specs.Take.{Call, offered, worldOf, takenOf, takeOf}
+use Rattle.decoder.specs.Calls.{bitsTaken, wordsStanding, worldLeft, Request, carriedBits, carriedWords, carriedWorld}
+
+-- A call, refused or not, leaves and writes what the bits that it took say, cycle by cycle: none missing and none added.
+pub record Exact (d : Decoder) (c : Call) : Type 0 where
+  pub state : worldLeft (takeOf d c) ≡ stateAfter turnOf (worldOf d c) (bitsTaken d c)
+  pub words : wordsStanding d c ≡ wordsAfter turnOf (worldOf d c) (bitsTaken d c)
+
+-- The last record of some words is a frame's.
+pub record LastIsFrame (words : List ℕ) : Type 0 where
+  pub before : List ℕ
+  pub head : ℕ
+  pub value : ℕ
+  pub parts : words ≡ before ++ (head ∷ value ∷ [])
+  pub frame : isFrameHead head ≡ true
+
+-- Each ending of a call that is not refused has its condition: "'done' .. with every bit of its count taken", 'list full' "when bits remain and fewer than
+-- two words are free", 'frame' "after a record of kind 24, 25 or 26".
+pub record Ends (d : Decoder) (c : Call) : Type 0 where
+  pub done : takenOf d c .taken .told .ending ≡ Done → takenOf d c .taken .told .bits ≡ c .count
+  pub full : takenOf d c .taken .told .ending ≡ ListFull
+      → (takenOf d c .taken .told .bits < c .count) × (length (c .list) - c .free - listUnit * takenOf d c .taken .told .records < listUnit)
+  pub frame : takenOf d c .taken .told .ending ≡ Frame → LastIsFrame (wordsAfter turnOf (worldOf d c) (take (takenOf d c .taken .told .bits) (offered c)))
+
+-- Two lists of calls from one state, store and tray carried over, refused calls among them: where the bits taken join to the same stream, so do the
+-- records, and the state, store and tray at the end are the same.
+abbrev pub Cuts : World → Type 0
+Cuts w =
+    (ps qs : List Request) → carriedBits w ps ≡ carriedBits w qs
+    → (carriedWords w ps ≡ carriedWords w qs) × (carriedWorld w ps ≡ carriedWorld w qs)
+
+pub record SecondDemand : Type 0 where
+  pub exact : (d : Decoder) (c : Call) → Exact d c
+  pub ends : (d : Decoder) (c : Call) → Ends d c
+  pub cuts : (w : World) → Cuts w
+  -- Opening gives a sound state, and a sound state stays sound.
+  pub opens-sound : (plan : Plan) (cycle : ℕ) → T (soundOf (openOf plan cycle .decoder))
+  pub stays-sound : (d : Decoder) (c : Call) → T (soundOf d) → T (soundOf (takeOf d c .taken .decoder))

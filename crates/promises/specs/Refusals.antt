@@ -1,0 +1,68 @@
+-- The first demand: refusals by number (document 01, "A taking call", the table and what stands below it).
+-- Assumes nothing.
+use mathlib.Core.Path.{_≡_}
+use mathlib.Core.Bool.{Bool, true, false, cond, not, _&&_, _||_}
+use mathlib.Core.List.{List, [], _∷_}
+use Prim.Native.Nat.{ℕ, _+_, _*_, _^_}
+use lib.Dec.{leb, ltb, eqb}
+use lib.ListN.{length}
+use Rattle.model.specs.declared.Plan.{Plan}
+use Rattle.model.specs.Plan.{existsAt, defaultPlan}
+use Rattle.decoder.specs.declared.Decoder.{Decoder}
+use Rattle.decoder.specs.declared.Ending.{Ending}
+use Rattle.decoder.specs.Opening.{openedAt, openOf, openingNumber}
+use Rattle.decoder.specs.Sound.{soundOf}
+use Rattle.decoder.specs.Take.{Call, refused, takenOf, takeOf, endingNumber}
+
+-- A row of the refusal table: its number, and whether it turns this call away.
+pub record Row : Type 0 where
+  pub number : ℕ
+  pub applies : Bool
+
+abbrev pub row : ℕ → Bool → Row
+row number applies = record { number = number; applies = applies }
+
+-- "The lowest number wins at each place": the first row that applies; 0 where none does.
+abbrev pub firstOf : List Row → ℕ
+firstOf [] = 0
+firstOf (r ∷ rs) = cond (r .applies) (r .number) (firstOf rs)
+
+-- The rows checked at an opening.
+abbrev pub threeInMask : Plan → Bool
+threeInMask plan =
+    existsAt plan (plan .csr) && (existsAt plan (plan .feen) && existsAt plan (plan .cnt))
+
+abbrev pub threeDiffer : Plan → Bool
+threeDiffer plan =
+    not (eqb (plan .csr) (plan .feen) || (eqb (plan .csr) (plan .cnt) || eqb (plan .feen) (plan .cnt)))
+
+abbrev pub openingRows : Plan → ℕ → List Row
+openingRows plan cycle =
+    row 1 (not (threeInMask plan && threeDiffer plan))
+    ∷ row 2 (leb (2 ^ 48) cycle)
+    ∷ []
+
+-- The rows checked at a taking call.
+abbrev pub takingRows : Decoder → Call → List Row
+takingRows d c =
+    row 3 (not (soundOf d))
+    ∷ row 4 (not (eqb (length (c .store)) 2048) || (not (eqb (length (c .tray)) 8192) || ltb (length (c .list)) (c .free)))
+    ∷ row 5 (ltb 65536 (length (c .input)) || ltb (8 * length (c .input)) (c .first + c .count))
+    ∷ row 6 (ltb (2 ^ 48) (d .next + c .count))
+    ∷ []
+
+-- An opening answers the number of the first row that applies, "the default start state at cycle 0" at a refusal, else the start state asked for.
+pub record Opens (plan : Plan) (cycle : ℕ) : Type 0 where
+  pub number : openingNumber (openOf plan cycle .opening) ≡ firstOf (openingRows plan cycle)
+  pub state : openOf plan cycle .decoder ≡ cond (eqb (firstOf (openingRows plan cycle)) 0) (openedAt plan cycle) (openedAt defaultPlan 0)
+
+-- A taking call answers the number of the first row that applies. "A refused taking gives 0 bits, 0 records and the state and buffers it came with";
+-- any other runs to its end, as `takenOf` says.
+pub record Takes (d : Decoder) (c : Call) : Type 0 where
+  pub number : endingNumber (takeOf d c .taken .told .ending) ≡ firstOf (takingRows d c)
+  pub away : eqb (firstOf (takingRows d c)) 0 ≡ false → (ending : Ending) × (takeOf d c ≡ refused d c ending)
+  pub through : firstOf (takingRows d c) ≡ 0 → takeOf d c ≡ takenOf d c
+
+pub record FirstDemand : Type 0 where
+  pub opens : (plan : Plan) (cycle : ℕ) → Opens plan cycle
+  pub takes : (d : Decoder) (c : Call) → Takes d c
