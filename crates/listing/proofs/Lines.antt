@@ -128,6 +128,7 @@ module _ (s : Seen) (block : List ℕ) (at : ℕ) where
     unfolding fedOf
     fed-missed h = simp (whole, e, le-ltb (at + length line) (length block) (rw (← e) h), add-zero)
 
+  -- what a program that feeds a block goes by: the next place stays within the block, and is past the last
   pub fed-next : at ≤ length block → fed .next ≤ length block
   unfolding fedOf
   fed-next h =
@@ -136,6 +137,9 @@ module _ (s : Seen) (block : List ℕ) (at : ℕ) where
       (λ t. let l = ltb-true (at + length line) (length block) t in omega arith)
       (λ f. omega (arith, length-drop at block))
 
-  pub fed-further : fed .ended ≡ true → at < fed .next
+  pub fed-on : at < length block → at < fed .next
   unfolding fedOf
-  fed-further e = simp e (omega arith)
+  fed-on h =
+      choice (λ (k : ℕ). at < at + length line + k) (ltb (at + length line) (length block))
+      (λ t. omega arith)
+      (λ f. let l = ltb-false (at + length line) (length block) f in omega arith)

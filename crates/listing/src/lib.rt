@@ -106,35 +106,27 @@ impl Seen {
         }
     }
 
-    // One more character. A byte takes its two digits from the low end.
-    fn with(mut self, character: u8) -> Seen
-        ensures { λ r. ⌜ r ≡ withCharacter self character ⌝ }
-    {
-        if !is_digit(character) {
-            self.wrong = true;
-            return self;
-        }
-        let n = self.digits;
-        if DIGITS <= n {
-            self.digits = DIGITS + 1;
-            return self;
-        }
-        let at = n / 2;
-        let held = self.bytes[at];
-        self.bytes[at] = held % 16 * 16 + digit(character);
-        self.digits = n + 1;
-        self
-    }
-
-    // More characters, one after the other.
+    // More characters, one after the other. A byte takes its two digits from the low end.
     fn with_all(self, characters: &[u8]) -> Seen
         ensures { λ r. ⌜ r ≡ seenOf self (now (characters .entry)) ⌝ }
     {
         let mut seen = self;
         let mut i: usize = 0;
         while i < characters.len() {
-            seen = seen.with(characters[i]);
+            let character = characters[i];
             i += 1;
+            if !is_digit(character) {
+                seen.wrong = true;
+                continue;
+            }
+            let n = seen.digits;
+            if DIGITS <= n {
+                seen.digits = DIGITS + 1;
+                continue;
+            }
+            let held = seen.bytes[n / 2];
+            seen.bytes[n / 2] = held % 16 * 16 + digit(character);
+            seen.digits = n + 1;
         }
         seen
     }

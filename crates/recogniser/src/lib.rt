@@ -101,21 +101,21 @@ pub struct Stretch {
 }
 
 // The window with a new bit at its low end, and without its oldest.
-pub fn window_with(window: u8, bit: u8) -> u8
+fn window_with(window: u8, bit: u8) -> u8
     requires { ⌜ bit < 2 ⌝ }
     ensures { λ r. ⌜ r ≡ shifted 5 window bit ⌝ }
 {
     ((window << 1) | bit) & 31
 }
 
-pub fn nibble_with(nibble: u8, bit: u8) -> u8
+fn nibble_with(nibble: u8, bit: u8) -> u8
     requires { ⌜ bit < 2 ⌝ }
     ensures { λ r. ⌜ r ≡ shifted 4 nibble bit ⌝ }
 {
     ((nibble << 1) | bit) & 15
 }
 
-pub fn classify(window: u8) -> Meaning
+fn classify(window: u8) -> Meaning
     ensures { λ r. ⌜ r ≡ meaningOf window ⌝ }
 {
     match window {
@@ -138,7 +138,7 @@ fn is_quiet(window: u8) -> bool
     }
 }
 
-pub fn is_fast(body: u8) -> bool
+fn is_fast(body: u8) -> bool
     ensures { λ r. ⌜ r ≡ isFast body ⌝ }
 {
     match body {
@@ -151,7 +151,7 @@ pub fn is_fast(body: u8) -> bool
 }
 
 // Whether Field 3 names a Slow command.
-pub fn is_slow(command: u8) -> bool
+fn is_slow(command: u8) -> bool
     ensures { λ r. ⌜ r ≡ isSlow command ⌝ }
 {
     if command <= 6 {
@@ -164,7 +164,7 @@ pub fn is_slow(command: u8) -> bool
 }
 
 // Whether the command carries frame bits: WrFrontEnd, RdFrontEnd, WrReceiver.
-pub fn is_frame(command: u8) -> bool
+fn is_frame(command: u8) -> bool
     ensures { λ r. ⌜ r ≡ isFrame command ⌝ }
 {
     if 4 <= command {
@@ -174,7 +174,7 @@ pub fn is_frame(command: u8) -> bool
 }
 
 // The cycles of Field 5, by the command and the CNT register.
-pub fn length(command: u8, cnt: u16) -> u32
+fn length(command: u8, cnt: u16) -> u32
     ensures { λ r. ⌜ r ≡ lengthOf command cnt ⌝ }
 {
     let n = cnt as u32;
@@ -197,7 +197,7 @@ pub fn length(command: u8, cnt: u16) -> u32
 }
 
 // The bits kept of Field 5 with one bit more; a read keeps none.
-pub fn kept(command: u8, held: u32, bit: u8) -> u32
+fn kept(command: u8, held: u32, bit: u8) -> u32
     requires { ⌜ bit < 2 ⌝ }
     ensures { λ r. ⌜ r ≡ keptOf command held bit ⌝ }
 {
@@ -211,7 +211,7 @@ pub fn kept(command: u8, held: u32, bit: u8) -> u32
 }
 
 // The end of a Slow command that carries no frame.
-pub fn slow(command: u8, address: u8, value: u32) -> Event
+fn slow(command: u8, address: u8, value: u32) -> Event
     ensures { λ r. ⌜ r ≡ slowOf command address value ⌝ }
 {
     if is_slow(command) {
@@ -226,7 +226,7 @@ pub fn slow(command: u8, address: u8, value: u32) -> Event
 
 impl Group {
     // What is held once the bit of the group's cycle, `count % 8`, has arrived.
-    pub fn with(self, count: u32, bit: u8) -> Group
+    fn with(self, count: u32, bit: u8) -> Group
         ensures { λ r. ⌜ r ≡ groupOf self count bit ⌝ }
     {
         if count % 8 == 0 {
@@ -237,7 +237,7 @@ impl Group {
 }
 
 // Whether a frame bit is stored in this cycle of Field 5.
-pub fn stores(command: u8, count: u32) -> bool
+fn stores(command: u8, count: u32) -> bool
     ensures { λ r. ⌜ r ≡ storesOf command count ⌝ }
 {
     if command == 6 {
@@ -247,7 +247,7 @@ pub fn stores(command: u8, count: u32) -> bool
 }
 
 // The place in its frame of the bit that this cycle belongs to.
-pub fn place(command: u8, count: u32) -> u32
+fn place(command: u8, count: u32) -> u32
     ensures { λ r. ⌜ r ≡ placeOf command count ⌝ }
 {
     if command == 6 {
