@@ -2,7 +2,7 @@
 -- Assumes nothing.
 use mathlib.Core.List.{List}
 use Prim.Native.Nat.{ℕ}
-use Rattle.model.specs.Plan.{defaultPlan}
+use Rattle.controller.specs.Plan.{defaultPlan}
 use Rattle.decoder.specs.Opening.{openOf}
 use Rattle.decoder.specs.Take.{Call, Left, takeOf}
 

@@ -2,7 +2,7 @@
 ghost use mathlib.Core.Path.{_≡_};
 ghost use Rattle.bench.specs.Fresh.{freshOf, recordsOf};
 use decoder::Decoder;
-use model::Plan;
+use controller::Plan;
 
 // Opens with the default plan at cycle 0 and takes `count` bits from bit `first` on; answers the records written.
 #[no_mangle]

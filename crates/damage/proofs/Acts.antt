@@ -16,11 +16,11 @@ use Rattle.recogniser.specs.declared.Heard.{Heard}
 use Rattle.recogniser.specs.Parts.{shifted, startOf, idle, heard, gatheredOf}
 use Rattle.recogniser.specs.Hunting.{meaningOf, huntBy, isFast}
 use Rattle.recogniser.specs.Step.{stepBy, stepOf}
-use Rattle.model.specs.declared.Plan.{Plan}
-use Rattle.model.specs.declared.Model.{Model}
-use Rattle.model.specs.Records.{wordsOf}
-use Rattle.model.specs.Registers.{registerOf}
-use Rattle.model.specs.Commands.{actOf, fastEffect, withBase, withL1id, withPointers, zeros16}
+use Rattle.controller.specs.declared.Plan.{Plan}
+use Rattle.controller.specs.declared.Model.{Model}
+use Rattle.controller.specs.Records.{wordsOf}
+use Rattle.controller.specs.Registers.{registerOf}
+use Rattle.controller.specs.Commands.{actOf, fastEffect, withBase, withL1id, withPointers, zeros16}
 use Rattle.decoder.specs.Entries.{entryWords}
 use Rattle.damage.specs.Records.{Counters, counters, entriesOf, counted}
 use Rattle.damage.proofs.Computed.{by-test}

@@ -13,9 +13,9 @@ use Rattle.recogniser.specs.declared.Recogniser.{Recogniser}
 use Rattle.recogniser.specs.declared.Heard.{Heard}
 use Rattle.recogniser.specs.Parts.{idle}
 use Rattle.recogniser.specs.Step.{stepOf}
-use Rattle.model.specs.declared.Plan.{Plan}
-use Rattle.model.specs.Registers.{cntOf}
-use Rattle.model.specs.Records.{wordsOf}
+use Rattle.controller.specs.declared.Plan.{Plan}
+use Rattle.controller.specs.Registers.{cntOf}
+use Rattle.controller.specs.Records.{wordsOf}
 use Rattle.decoder.specs.declared.Decoder.{Decoder}
 use Rattle.decoder.specs.Entries.{Entry, entryWords}
 use Rattle.decoder.specs.Run.{stateAfter, wordsAfter}

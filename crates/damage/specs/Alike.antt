@@ -6,7 +6,7 @@ use mathlib.Core.Bool.{Bool, true, false, cond, not, _&&_}
 use mathlib.Core.List.{List, [], _∷_, _++_}
 use Prim.Native.Nat.{ℕ, _+_, _-_, _/_, _%_}
 use lib.Dec.{eqb, ltb, T}
-use Rattle.model.specs.Records.{kindLv1, kindFast}
+use Rattle.controller.specs.Records.{kindLv1, kindFast}
 use Rattle.decoder.specs.Entries.{Entry}
 use Rattle.damage.specs.Commands.{Command}
 use Rattle.damage.specs.Streams.{Item, itemSize}

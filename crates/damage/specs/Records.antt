@@ -6,8 +6,8 @@ use Prim.Native.Nat.{ℕ, _+_, _*_, _-_, _/_, _%_, _^_}
 use lib.Dec.{eqb, ltb}
 use Rattle.recogniser.specs.declared.Event.{Event}
 use Rattle.recogniser.specs.declared.Event.the-variants.{Nothing, Lv1, Fast, BadFast, SlowBegins, Slow, BadSlow, FrameBit, FrameEnd, FrameEndBit}
-use Rattle.model.specs.Registers.{registerOf}
-use Rattle.model.specs.Records.{kindLv1, kindFast, kindBadFast, flagFlip, flagSent}
+use Rattle.controller.specs.Registers.{registerOf}
+use Rattle.controller.specs.Records.{kindLv1, kindFast, kindBadFast, flagFlip, flagSent}
 use Rattle.decoder.specs.declared.Decoder.{Decoder}
 use Rattle.decoder.specs.Entries.{Entry, entry}
 use Rattle.damage.specs.Commands.{Command, widthOf, eventOf}

@@ -7,9 +7,9 @@ use Prim.Native.Nat.{ℕ, suc, _-_, _<_, _≤_}
 use native.Mathlib.Omega.{arith}
 use lib.Dec.{ltb, T, ltb→lt, nltb→le}
 use lib.ListN.{length}
-use Rattle.model.specs.declared.Cycle.{Cycle}
-use Rattle.model.specs.declared.Cycle.the-variants.{Nothing, Record}
-use Rattle.model.specs.Records.{isFrameHead}
+use Rattle.controller.specs.declared.Cycle.{Cycle}
+use Rattle.controller.specs.declared.Cycle.the-variants.{Nothing, Record}
+use Rattle.controller.specs.Records.{isFrameHead}
 use Rattle.decoder.specs.declared.Ending.{Ending}
 use Rattle.decoder.specs.declared.Ending.the-variants.{Done, Frame, ListFull}
 use Rattle.decoder.specs.Run.{Turned, Run, ended, oneBit, oneRecord, afterCycle, runOf}

@@ -16,15 +16,15 @@ use Rattle.recogniser.specs.declared.Stretch.{Stretch}
 use Rattle.recogniser.specs.Stretch.{stretchOf}
 use Rattle.recogniser.proofs.Stretches.{Passes, ends, last, more, stretch-passes, stretch-some, stretch-within}
 use Rattle.frames.specs.Tray.{trayOf}
-use Rattle.model.specs.declared.Model.{Model}
-use Rattle.model.specs.declared.Acted.{Acted}
-use Rattle.model.specs.declared.Cycle.{Cycle}
-use Rattle.model.specs.declared.Cycle.the-variants.{Nothing, Record}
-use Rattle.model.specs.Registers.{cntOf}
-use Rattle.model.specs.Records.{isFrameHead}
-use Rattle.model.specs.Commands.{Effect, actOf}
-use Rattle.model.specs.Sound.{eventFits}
-use Rattle.model.proofs.Heard.{heard-fits}
+use Rattle.controller.specs.declared.Model.{Model}
+use Rattle.controller.specs.declared.Acted.{Acted}
+use Rattle.controller.specs.declared.Cycle.{Cycle}
+use Rattle.controller.specs.declared.Cycle.the-variants.{Nothing, Record}
+use Rattle.controller.specs.Registers.{cntOf}
+use Rattle.controller.specs.Records.{isFrameHead}
+use Rattle.controller.specs.Commands.{Effect, actOf}
+use Rattle.controller.specs.Sound.{eventFits}
+use Rattle.controller.proofs.Heard.{heard-fits}
 use Rattle.decoder.specs.declared.Decoder.{Decoder}
 use Rattle.decoder.specs.declared.Ending.{Ending}
 use Rattle.decoder.specs.declared.Ending.the-variants.{Done, Frame, ListFull}

@@ -7,7 +7,7 @@ use native.Mathlib.Omega.{arith}
 use lib.Dec.{eqb, leb}
 use lib.ListN.{length}
 use borrow.Author.Tests.{le-leb, lt-leb, leb-true, eqb-true}
-use Rattle.model.proofs.Facts.{and-true}
+use Rattle.controller.proofs.Facts.{and-true}
 use Rattle.decoder.specs.declared.Decoder.{Decoder}
 use Rattle.decoder.specs.declared.Ending.{Ending}
 use Rattle.decoder.specs.declared.Ending.the-variants.{Unsound, WrongBuffers, WrongRange, ClockOver}

@@ -7,9 +7,9 @@ use Prim.Native.Nat.{ℕ, zero, suc, _+_, _*_, _-_, _/_, _<_, _≤_}
 use native.Mathlib.Omega.{arith}
 use lib.Dec.{ltb, T, nltb→le}
 use lib.ListN.{length, take, drop, length-append}
-use Rattle.model.specs.declared.Cycle.{Cycle}
-use Rattle.model.specs.declared.Cycle.the-variants.{Nothing, Record}
-use Rattle.model.specs.Records.{wordsOf, isFrameHead}
+use Rattle.controller.specs.declared.Cycle.{Cycle}
+use Rattle.controller.specs.declared.Cycle.the-variants.{Nothing, Record}
+use Rattle.controller.specs.Records.{wordsOf, isFrameHead}
 use Rattle.decoder.specs.declared.Ending.{Ending}
 use Rattle.decoder.specs.declared.Ending.the-variants.{Done, Frame, ListFull}
 use Rattle.decoder.specs.Limits.{listUnit}

@@ -6,10 +6,10 @@ use Prim.Native.Nat.{_≤_}
 use lib.Dec.{T}
 use borrow.Author.Tests.{le-leb, leb-true, not-true}
 use Rattle.recogniser.specs.Fit.{fitOf}
-use Rattle.model.specs.Plan.{planFits}
-use Rattle.model.specs.Registers.{cntOf}
-use Rattle.model.specs.Sound.{pointersFit, missingZero}
-use Rattle.model.proofs.Facts.{and-true}
+use Rattle.controller.specs.Plan.{planFits}
+use Rattle.controller.specs.Registers.{cntOf}
+use Rattle.controller.specs.Sound.{pointersFit, missingZero}
+use Rattle.controller.proofs.Facts.{and-true}
 use Rattle.decoder.specs.declared.Decoder.{Decoder}
 use Rattle.decoder.specs.Limits.{clockLimit}
 use Rattle.decoder.specs.Sound.{insideSlow, soundOf}

@@ -15,12 +15,12 @@ use Rattle.recogniser.specs.declared.Recogniser.{Recogniser}
 use Rattle.recogniser.specs.declared.Heard.{Heard}
 use Rattle.recogniser.specs.Fit.{fitOf}
 use Rattle.recogniser.proofs.Laws.{start-fits, step-fits}
-use Rattle.model.specs.declared.Plan.{Plan}
-use Rattle.model.specs.declared.Model.{Model}
-use Rattle.model.specs.Plan.{planFits, defaultPlan}
-use Rattle.model.specs.Registers.{cntOf}
-use Rattle.model.proofs.Cases.{split}
-use Rattle.model.proofs.Laws.{after, zeros-fit, zeros-missing, writes-fit, reads-fit, missing-zero, base-low, cnt-kept, begins-stops, running-kept}
+use Rattle.controller.specs.declared.Plan.{Plan}
+use Rattle.controller.specs.declared.Model.{Model}
+use Rattle.controller.specs.Plan.{planFits, defaultPlan}
+use Rattle.controller.specs.Registers.{cntOf}
+use Rattle.controller.proofs.Cases.{split}
+use Rattle.controller.proofs.Laws.{after, zeros-fit, zeros-missing, writes-fit, reads-fit, missing-zero, base-low, cnt-kept, begins-stops, running-kept}
 use Rattle.decoder.specs.declared.Decoder.{Decoder}
 use Rattle.decoder.specs.declared.Opened.{Opened}
 use Rattle.decoder.specs.Limits.{clockLimit}

@@ -17,9 +17,9 @@ use Rattle.recogniser.specs.Step.{stepOf}
 use Rattle.recogniser.specs.Stretch.{stretched, oneMore}
 use Rattle.recogniser.proofs.Stretches.{Passes, ends, last, more}
 use Rattle.frames.specs.Tray.{trayOf}
-use Rattle.model.specs.declared.Cycle.the-variants as cycle
-use Rattle.model.specs.Registers.{cntOf}
-use Rattle.model.specs.Commands.{Effect, actOf}
+use Rattle.controller.specs.declared.Cycle.the-variants as cycle
+use Rattle.controller.specs.Registers.{cntOf}
+use Rattle.controller.specs.Commands.{Effect, actOf}
 use Rattle.decoder.specs.declared.Decoder.{Decoder}
 use Rattle.decoder.specs.declared.Ending.the-variants.{Done, ListFull}
 use Rattle.decoder.specs.Run.{Turned, Run, ended, oneBit, afterCycle, runOf}

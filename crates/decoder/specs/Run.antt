@@ -4,9 +4,9 @@ use mathlib.Core.Bool.{Bool, true, false, cond}
 use mathlib.Core.List.{List, [], _∷_, _++_}
 use Prim.Native.Nat.{ℕ, suc, _-_}
 use lib.Dec.{ltb}
-use Rattle.model.specs.declared.Cycle.{Cycle}
-use Rattle.model.specs.declared.Cycle.the-variants.{Nothing, Record}
-use Rattle.model.specs.Records.{wordsOf, isFrameHead}
+use Rattle.controller.specs.declared.Cycle.{Cycle}
+use Rattle.controller.specs.declared.Cycle.the-variants.{Nothing, Record}
+use Rattle.controller.specs.Records.{wordsOf, isFrameHead}
 use Rattle.decoder.specs.declared.Ending.{Ending}
 use Rattle.decoder.specs.declared.Ending.the-variants.{Done, Frame, ListFull}
 use Rattle.decoder.specs.Limits.{listUnit}

@@ -6,9 +6,9 @@ use lib.Dec.{leb}
 use Rattle.recogniser.specs.declared.Phase.{Phase}
 use Rattle.recogniser.specs.declared.Phase.the-variants.{Hunt, Body, Field3, Field4, Field5}
 use Rattle.recogniser.specs.Fit.{fitOf}
-use Rattle.model.specs.Plan.{planFits}
-use Rattle.model.specs.Registers.{cntOf}
-use Rattle.model.specs.Sound.{pointersFit, missingZero}
+use Rattle.controller.specs.Plan.{planFits}
+use Rattle.controller.specs.Registers.{cntOf}
+use Rattle.controller.specs.Sound.{pointersFit, missingZero}
 use Rattle.decoder.specs.declared.Decoder.{Decoder}
 use Rattle.decoder.specs.Limits.{clockLimit}
 

@@ -5,8 +5,8 @@ use Prim.Native.Nat.{ℕ, _+_}
 use Rattle.recogniser.specs.declared.Heard.{Heard}
 use Rattle.recogniser.specs.Step.{stepOf}
 use Rattle.frames.specs.Tray.{trayOf}
-use Rattle.model.specs.Registers.{cntOf}
-use Rattle.model.specs.Commands.{Effect, actOf}
+use Rattle.controller.specs.Registers.{cntOf}
+use Rattle.controller.specs.Commands.{Effect, actOf}
 use Rattle.decoder.specs.declared.Decoder.{Decoder}
 use Rattle.decoder.specs.Run.{Turned}
 

@@ -5,9 +5,9 @@ ghost use lib.ListN.{length, set};
 ghost use Rattle.decoder.specs.Opening.{openedAt, openOf};
 ghost use Rattle.decoder.specs.Sound.{insideSlow, soundOf};
 ghost use Rattle.decoder.specs.Take.{buffersFit, rangeFits, takenOf, takeOf};
-use model::Cycle;
-use model::Model;
-use model::Plan;
+use controller::Cycle;
+use controller::Model;
+use controller::Plan;
 use recogniser::Event;
 use recogniser::Phase;
 use recogniser::Recogniser;
@@ -168,8 +168,8 @@ impl Decoder {
         let opens = plan.fits();
         let clock = self.next <= Decoder::CLOCK_LIMIT;
         let base = model.base <= self.next;
-        let writes_fit = model::pointers_fit(writes);
-        let reads_fit = model::pointers_fit(reads);
+        let writes_fit = controller::pointers_fit(writes);
+        let reads_fit = controller::pointers_fit(reads);
         let missing = model.missing_zero(plan);
         let phase = recogniser.phase;
         let slow = inside_slow(phase);
@@ -264,7 +264,7 @@ impl Decoder {
             };
             write_record(&mut list[at..], head, value);
             at = at + Decoder::LIST_UNIT;
-            if model::is_frame_head(head) {
+            if controller::is_frame_head(head) {
                 let d = Decoder::joined(plan, start + taken as u64, recogniser, model);
                 return d.told(taken, at - free, Ending::Frame);
             }

@@ -162,7 +162,7 @@ answer-short s =
     (λ t. let h = leb-true (s .digits) 64 (both (eqb (s .digits % 2) 0) (leb (s .digits) 64) t .1) in omega arith)
     (λ f. lit≤ tt))
 
-long-more : (s : Seen) (c : ℕ) → length (withCharacter s c .bytes) ≡ length (s .bytes)
+pub long-more : (s : Seen) (c : ℕ) → length (withCharacter s c .bytes) ≡ length (s .bytes)
 unfolding withCharacter
 long-more s c =
     choice (λ (r : Seen). length (r .bytes) ≡ length (s .bytes)) (isDigit c)

@@ -21,7 +21,7 @@ numbersLine (n ∷ ns) (width ∷ widths) = charactersOf n width ++ (markAfter n
 abbrev pub lineOf : List ℕ → List ℕ → List ℕ → List ℕ
 lineOf lead numbers widths = lead ++ numbersLine numbers widths
 
--- How many bytes a line has, by its lead and widths: each number has its mark.
+-- How many bytes numbers of these widths take, each with its mark.
 abbrev pub numbersSize : List ℕ → ℕ
 numbersSize [] = 0
 numbersSize (width ∷ widths) = width + 1 + numbersSize widths
@@ -31,15 +31,15 @@ abbrev pub recordLine : ℕ → ℕ → List ℕ
 recordLine head value =
     lineOf [] (head / 65536 ∷ head / 256 % 256 ∷ head % 256 ∷ value ∷ []) (12 ∷ 2 ∷ 2 ∷ 8 ∷ [])
 
--- "A refused line prints "!", the number in two digits, a space, the line's number from 1 in eight".
+-- A refused line prints "!", "the number in two digits, a space, the line's number from 1 in eight".
 abbrev pub refusedLine : ℕ → ℕ → List ℕ
 refusedLine number line = lineOf (ascii "!") (number ∷ line ∷ []) (2 ∷ 8 ∷ [])
 
--- Bytes in "two digits each, unspaced".
+-- The digits of bytes, two each.
 unfoldable pub byteDigits : List ℕ → List ℕ
 byteDigits [] = []
 byteDigits (b ∷ bs) = charactersOf b 2 ++ byteDigits bs
 
--- A frame's line: "">" and its bytes".
+-- A frame's line: ">" and "its bytes, two digits each, unspaced".
 abbrev pub frameLine : List ℕ → List ℕ
 frameLine bytes = ascii ">" ++ (byteDigits bytes ++ ascii "\n")

@@ -1,4 +1,4 @@
--- The lines by which the model's state is shown: a word, and numbers as in the listing.
+-- The lines by which a program shows the model's state (ours: document 01 has none): a word, and numbers as in the listing.
 -- Assumes nothing.
 use mathlib.Core.Bool.{Bool, cond}
 use mathlib.Core.List.{List, [], _∷_}

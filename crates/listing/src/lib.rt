@@ -8,8 +8,8 @@ ghost use lib.Dec.{leb};
 ghost use lib.ListN.{length, drop};
 ghost use lib.Seq.{sets};
 ghost use Rattle.listing.specs.Digits.{isDigit, digitOf, characterOf, charactersOf};
-ghost use Rattle.listing.specs.Line.{readAs, readOf};
-ghost use Rattle.listing.specs.Lines.{fresh, withCharacter, seenOf, answerOf, nothingSeen, upToFeed, fedOf};
+ghost use Rattle.listing.specs.Line.{hexNumber, readAs, readOf};
+ghost use Rattle.listing.specs.Lines.{fresh, seenOf, answerOf, nothingSeen, upToFeed, fedOf};
 ghost use Rattle.listing.specs.Block.{block, putAll, putOf};
 ghost use Rattle.listing.specs.Records.{numbersLine, lineOf, numbersSize, recordLine, refusedLine, byteDigits, frameLine};
 ghost use Rattle.listing.specs.State.{registerLine, l1idLine, baseLine, runmodeLine, pointersLine, wordLine};
@@ -19,6 +19,19 @@ pub enum HexLine {
     Bytes(usize),
     WrongCharacter,
     WrongLength,
+}
+
+impl HexLine {
+    // The refusal's number, 0 for none.
+    pub fn number(self) -> u8
+        ensures { λ r. ⌜ r ≡ hexNumber self ⌝ }
+    {
+        match self {
+            HexLine::Bytes(_) => 0,
+            HexLine::WrongCharacter => 7,
+            HexLine::WrongLength => 8,
+        }
+    }
 }
 
 // What was seen so far of a line, which may be of any length.
@@ -304,8 +317,10 @@ fn put_line(
     put_numbers(out, place, numbers, widths)
 }
 
-// A record's line from its two words, 28 bytes. This and each line below is put into a block of output at a place, and the answer is the
-// place after it; a line that does not fit is not put, and the answer is the place that was given.
+// Each line below is put into a block of output at a place, and the answer is the place after it. Where the whole line does not fit, nothing is
+// put, and the answer is the place that was given.
+
+// A record's line from its two words. 28 bytes.
 pub fn record_line(out: &mut [u8], at: usize, head: u64, value: u64) -> usize
     ensures { λ r. ⌜ block (now (out .exit)) r ≡ putOf (now (out .entry)) at (recordLine head value) ⌝ }
 {
@@ -314,7 +329,7 @@ pub fn record_line(out: &mut [u8], at: usize, head: u64, value: u64) -> usize
     put_line(out, at, 28, b"", &numbers, &widths)
 }
 
-// A frame's line: ">", the digits of its bytes, two each, and a line feed.
+// A frame's line: ">", the digits of its bytes, two each, and a line feed. Two bytes more than the digits.
 pub fn frame_line(out: &mut [u8], at: usize, bytes: &[u8]) -> usize
     ensures { λ r. ⌜ block (now (out .exit)) r ≡ putOf (now (out .entry)) at (frameLine (now (bytes .entry))) ⌝ }
 {
@@ -330,7 +345,7 @@ pub fn frame_line(out: &mut [u8], at: usize, bytes: &[u8]) -> usize
     end + 1
 }
 
-// The line that a refused line prints, 13 bytes: the refusal's number, and the line's number from 1.
+// What a refused line prints: the refusal's number, and the line's number from 1. 13 bytes.
 pub fn refused_line(out: &mut [u8], at: usize, number: u8, line: u64) -> usize
     ensures { λ r. ⌜ block (now (out .exit)) r ≡ putOf (now (out .entry)) at (refusedLine number line) ⌝ }
 {

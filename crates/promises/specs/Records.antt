@@ -8,8 +8,8 @@ use mathlib.Core.List.{List, [], _∷_, _++_}
 use Prim.Native.Nat.{ℕ, _*_, _-_, _<_}
 use lib.Dec.{T}
 use lib.ListN.{length, take}
-use Rattle.model.specs.declared.Plan.{Plan}
-use Rattle.model.specs.Records.{isFrameHead}
+use Rattle.controller.specs.declared.Plan.{Plan}
+use Rattle.controller.specs.Records.{isFrameHead}
 use Rattle.decoder.specs.declared.Decoder.{Decoder}
 use Rattle.decoder.specs.declared.Ending.the-variants.{Done, Frame, ListFull}
 use Rattle.decoder.specs.Limits.{listUnit}

@@ -75,11 +75,11 @@ pub struct Recogniser {
     pub phase: Phase,
     // The window; in a body, Field 3 or Field 4, the bits received of it.
     pub shift: u8,
-    // The bits received of the present body or field.
-    pub count: u32,
     // Field 3 and Field 4, once they are whole.
     pub command: u8,
     pub address: u8,
+    // The bits received of the present body or field.
+    pub count: u32,
     // The bits kept of Field 5 so far.
     pub held: u32,
     // Front-end frames: the present group, and whether one of this frame was unsteady.

@@ -4,10 +4,10 @@ use mathlib.Core.Path.{refl}
 use Rattle.recogniser.specs.Step.{stepOf}
 use Rattle.recogniser.specs.Fit.{fitOf}
 use Rattle.frames.specs.Tray.{trayOf}
-use Rattle.model.specs.Plan.{planFits}
-use Rattle.model.specs.Sound.{everyFrom, pointersFit, missingZero}
-use Rattle.model.specs.Fifos.{writeOf}
-use Rattle.model.specs.Commands.{actOf}
+use Rattle.controller.specs.Plan.{planFits}
+use Rattle.controller.specs.Sound.{everyFrom, pointersFit, missingZero}
+use Rattle.controller.specs.Fifos.{writeOf}
+use Rattle.controller.specs.Commands.{actOf}
 use Rattle.decoder.specs.Opening.{openOf}
 use Rattle.decoder.specs.Sound.{soundOf}
 use Rattle.decoder.specs.Turn.{turnOf}

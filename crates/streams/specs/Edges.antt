@@ -12,10 +12,10 @@ use Rattle.recogniser.specs.declared.Recogniser.{Recogniser}
 use Rattle.recogniser.specs.Parts.{startOf}
 use Rattle.recogniser.specs.Fields.{lengthOf}
 use Rattle.recogniser.specs.Step.{stepOf}
-use Rattle.model.specs.Commands.{withRunning}
+use Rattle.controller.specs.Commands.{withRunning}
 use Rattle.frames.specs.Tray.{partOf}
-use Rattle.model.specs.Plan.{defaultPlan}
-use Rattle.model.specs.Records.{frameBitsOf}
+use Rattle.controller.specs.Plan.{defaultPlan}
+use Rattle.controller.specs.Records.{frameBitsOf}
 use Rattle.decoder.specs.declared.Decoder.{Decoder}
 use Rattle.decoder.specs.Limits.{clockLimit, storeLength, trayLength}
 use Rattle.decoder.specs.declared.Opening.the-variants.{Accepted}

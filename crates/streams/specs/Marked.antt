@@ -6,8 +6,8 @@ use mathlib.Core.List.{List, [], _∷_, _++_, map}
 use Prim.Native.Nat.{ℕ, zero, suc}
 use lib.ListN.{length, replicate, set, take, drop}
 use Rattle.bits.specs.Bits.{numberOf}
-use Rattle.model.specs.Plan.{defaultPlan}
-use Rattle.model.specs.Commands.{withRunning, withRegisters}
+use Rattle.controller.specs.Plan.{defaultPlan}
+use Rattle.controller.specs.Commands.{withRunning, withRegisters}
 use Rattle.decoder.specs.declared.Decoder.{Decoder}
 use Rattle.decoder.specs.declared.Ending.{Ending}
 use Rattle.decoder.specs.Limits.{storeLength, trayLength}

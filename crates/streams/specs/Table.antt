@@ -5,7 +5,7 @@ use Prim.Native.Nat.{ℕ, _+_, _*_}
 use Rattle.decoder.specs.declared.Ending.{Ending}
 use Rattle.decoder.specs.declared.Ending.the-variants.{Done, Frame}
 use Rattle.decoder.specs.Entries.{Entry, entry}
-use Rattle.model.specs.Records.{kindLv1, kindFast, kindBadFast, kindSlow, kindBadSlow}
+use Rattle.controller.specs.Records.{kindLv1, kindFast, kindBadFast, kindSlow, kindBadSlow}
 
 -- "exact at t" and "flip at t": an LV1 acted on and sent, with the trigger number and, from base 0, the bunch number t.
 abbrev pub exact : ℕ → ℕ → Entry

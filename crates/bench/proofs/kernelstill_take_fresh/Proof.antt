@@ -1,7 +1,7 @@
 -- The exported function is `take` on a fresh opening.
 -- Assumes nothing.
 use mathlib.Core.Path.{_∙_, ap}
-use Rattle.model.specs.declared.Plan.{Plan}
+use Rattle.controller.specs.declared.Plan.{Plan}
 use Rattle.decoder.specs.declared.Opened.{Opened}
 use Rattle.decoder.specs.Opening.{openOf}
 use Rattle.decoder.specs.Take.{Call, takeOf}

@@ -1,0 +1,162 @@
+-- What an event keeps of the store and the model, as "a sound state stays sound" cites it.
+-- Assumes nothing.
+use mathlib.Core.Bool.{Bool, true, false, _||_}
+use mathlib.Core.List.{List, [], _∷_}
+use mathlib.Core.Path.{_≡_, refl, ap, _∙_}
+use Prim.Native.Nat.{ℕ, zero, suc, _+_, _≤_}
+use native.Mathlib.Nat.{le-refl}
+use native.Mathlib.Omega.{arith}
+use lib.Dec.{ltb, eqb}
+use lib.ListN.{length, getD, set, replicate, length-set}
+use borrow.Author.Tests.{lt-ltb, eq-eqb}
+use Rattle.recogniser.specs.declared.Event.{Event}
+use Rattle.recogniser.specs.declared.Event.the-variants as event
+use Rattle.controller.specs.declared.Plan.{Plan}
+use Rattle.controller.specs.declared.Model.{Model}
+use Rattle.controller.specs.declared.Acted.{Acted}
+use Rattle.controller.specs.Plan.{existsAt}
+use Rattle.controller.specs.Registers.{cntOf}
+use Rattle.controller.specs.Fifos.{movedOn}
+use Rattle.controller.specs.Commands.{zeros16, actOf}
+use Rattle.controller.specs.Sound.{everyFrom, fitsAt, pointersFit, zeroAt, missingZero, changesRegisters, changesRunning}
+use Rattle.controller.proofs.Facts.{clash, and-true, or-left, or-right}
+use Rattle.controller.proofs.Cases.{split, write-keeps, slow-cases, act-keeps}
+
+-- The model after an event.
+abbrev pub after : Plan → Model → Event → ℕ → List ℕ → Model
+after plan m e time store = actOf plan m e time store .acted .model
+
+-- A test that is weaker at each number still passes.
+every-more : (n i : ℕ) (f g : ℕ → Bool) → ((k : ℕ) → f k ≡ true → g k ≡ true) → everyFrom n i f ≡ true → everyFrom n i g ≡ true
+unfolding everyFrom
+every-more zero i f g more h = h
+every-more (suc n) i f g more h =
+    let p = and-true (f i) (everyFrom n (i + 1) f) h in
+    rw (more i (p .0)) (every-more n (i + 1) f g more (p .1))
+
+-- An element after a store: the stored one, or what was there.
+set-case : (P : ℕ → Type 0) (l : List ℕ) (i k v : ℕ) → (k ≡ i → P v) → P (getD l k 0) → P (getD (set l i v) k 0)
+set-case P [] i k v p q = q
+set-case P (x ∷ xs) zero zero v p q = p refl
+set-case P (x ∷ xs) zero (suc k) v p q = q
+set-case P (x ∷ xs) (suc i) zero v p q = q
+set-case P (x ∷ xs) (suc i) (suc k) v p q = set-case P xs i k v (λ e. p (ap suc e)) q
+
+zeros-at : (n k : ℕ) → getD {A = ℕ} (replicate n 0) k 0 ≡ 0
+zeros-at zero k = refl
+zeros-at (suc n) zero = refl
+zeros-at (suc n) (suc k) = zeros-at n k
+
+moved-fits : (l : List ℕ) (n : ℕ) → pointersFit l ≡ true → pointersFit (set l n (movedOn (getD l n 0))) ≡ true
+unfolding pointersFit
+moved-fits l n =
+    every-more 16 0 (fitsAt l) (fitsAt (set l n (movedOn (getD l n 0))))
+    (λ k. set-case (λ x. ltb x 128 ≡ true) l n k (movedOn (getD l n 0)) (λ _. lt-ltb (movedOn (getD l n 0)) 128 (omega arith)))
+
+-- A fact of the registers, as `act-keeps` takes it.
+abbrev ZeroIn : Plan → List ℕ → Type 0
+ZeroIn plan registers = everyFrom 16 0 (zeroAt plan registers) ≡ true
+
+written-zero : (plan : Plan) (l : List ℕ) (address value : ℕ) → existsAt plan address ≡ true → ZeroIn plan l → ZeroIn plan (set l address value)
+written-zero plan l address value there =
+    every-more 16 0 (zeroAt plan l) (zeroAt plan (set l address value))
+    (λ k. set-case (λ x. (existsAt plan k || eqb x 0) ≡ true) l address k value (λ e. or-left (existsAt plan k) _ (rw e there)))
+
+zeros-zero : (plan : Plan) → ZeroIn plan zeros16
+unfolding everyFrom
+zeros-zero plan =
+    every-more 16 0 (λ _. true) (zeroAt plan zeros16)
+    (λ k _. or-right (existsAt plan k) _ (eq-eqb _ _ (zeros-at 16 k))) refl
+
+-- A model whose arrays are all 0, as at the opening.
+pub zeros-fit : pointersFit zeros16 ≡ true
+unfolding pointersFit everyFrom
+zeros-fit = refl
+
+pub zeros-missing : (plan : Plan) (m : Model) → m .registers ≡ zeros16 → missingZero plan m ≡ true
+unfolding missingZero
+zeros-missing plan m e = rw e (zeros-zero plan)
+
+-- What holds of the model before an event holds of it after.
+module _ (plan : Plan) (m : Model) (e : Event) (time : ℕ) (store : List ℕ) where
+  pub writes-fit : pointersFit (m .writes) ≡ true → pointersFit (after plan m e time store .writes) ≡ true
+  writes-fit h =
+      act-keeps (λ r w d b. pointersFit w ≡ true) plan m e time store h h zeros-fit (λ address value _ _. h)
+      (λ feen word. write-keeps (λ f. pointersFit (f .writes) ≡ true) (λ n word f. moved-fits (f .writes) n) 16 0 feen word _ h)
+      (λ n. h) (λ _. zeros-fit)
+
+  pub reads-fit : pointersFit (m .reads) ≡ true → pointersFit (after plan m e time store .reads) ≡ true
+  reads-fit h =
+      act-keeps (λ r w d b. pointersFit d ≡ true) plan m e time store h h zeros-fit (λ address value _ _. h) (λ feen word. h)
+      (λ n. moved-fits (m .reads) n h) (λ _. zeros-fit)
+
+  pub missing-zero : missingZero plan m ≡ true → missingZero plan (after plan m e time store) ≡ true
+  unfolding missingZero
+  missing-zero h =
+      act-keeps (λ r w d b. ZeroIn plan r) plan m e time store h h h
+      (λ address value there _. written-zero plan (m .registers) address _ there h)
+      (λ feen word. h) (λ n. h) (λ _. zeros-zero plan)
+
+  pub base-low : m .base ≤ time → after plan m e time store .base ≤ time
+  base-low h =
+      act-keeps (λ r w d b. b ≤ time) plan m e time store h (le-refl time) h (λ address value _ _. h) (λ feen word. h)
+      (λ n. h) (λ _. le-refl time)
+
+  pub registers-kept : changesRegisters e ≡ false → after plan m e time store .registers ≡ m .registers
+  registers-kept h =
+      act-keeps (λ r w d b. r ≡ m .registers) plan m e time store refl refl refl (λ address value _ t. clash t h)
+      (λ feen word. refl) (λ n. refl) (λ t. clash t h)
+
+  pub cnt-kept : changesRegisters e ≡ false → cntOf plan (after plan m e time store) ≡ cntOf plan m
+  cnt-kept h = ap (λ l. getD l (plan .cnt) 0) (registers-kept h)
+
+-- RunMode: ended by SlowBegins, started by EnDataTake, else as it was.
+pub begins-stops : (plan : Plan) (m : Model) (time : ℕ) (store : List ℕ) → after plan m event.SlowBegins time store .running ≡ false
+unfolding actOf
+begins-stops plan m time store = refl
+
+pub enable-runs : (plan : Plan) (m : Model) (address value time : ℕ) (store : List ℕ)
+    → after plan m (event.Slow 8 address value) time store .running ≡ true
+unfolding actOf
+enable-runs plan m address value time store = refl
+
+pub running-kept : (plan : Plan) (m : Model) (e : Event) (time : ℕ) (store : List ℕ)
+    → changesRunning e ≡ false → after plan m e time store .running ≡ m .running
+unfolding actOf
+running-kept plan m event.Nothing time store h = refl
+running-kept plan m (event.Lv1 flip) time store h = refl
+running-kept plan m (event.Fast body) time store h =
+    let P : Model → Type 0 = λ n. n .running ≡ m .running in
+    split P (m .running)
+    (λ _. split P (eqb body 0b0001) (λ _. refl) (λ _. split P (eqb body 0b0010) (λ _. refl) (λ _. refl)))
+    (λ _. refl)
+running-kept plan m (event.BadFast body) time store h = refl
+running-kept plan m event.SlowBegins time store h = clash refl h
+running-kept plan m (event.Slow command address value) time store h =
+    let P : Acted → Type 0 = λ a. a .model .running ≡ m .running in
+    slow-cases (λ f. P (f .acted)) plan m command address value time store
+    (λ _. split P (existsAt plan address) (λ _. refl) (λ _. refl))
+    (split P (existsAt plan address) (λ _. refl) (λ _. refl))
+    refl refl (λ t. clash t h) (λ _. refl) refl
+running-kept plan m (event.BadSlow command) time store h = refl
+running-kept plan m (event.FrameBit place bit) time store h = refl
+running-kept plan m (event.FrameEnd command unsteady) time store h = refl
+running-kept plan m (event.FrameEndBit command unsteady place bit) time store h = refl
+
+-- The store keeps its length.
+pub act-length : (plan : Plan) (m : Model) (e : Event) (time : ℕ) (store : List ℕ) → length (actOf plan m e time store .store) ≡ length store
+unfolding actOf
+act-length plan m event.Nothing time store = refl
+act-length plan m (event.Lv1 flip) time store = refl
+act-length plan m (event.Fast body) time store = refl
+act-length plan m (event.BadFast body) time store = refl
+act-length plan m event.SlowBegins time store = refl
+act-length plan m (event.Slow command address value) time store =
+    slow-cases (λ f. length (f .store) ≡ length store) plan m command address value time store
+    (λ _. refl) refl
+    (write-keeps (λ f. length (f .store) ≡ length store) (λ n word f h. length-set (f .store) _ _ ∙ h) 16 0 _ _ _ refl)
+    refl (λ _. refl) (λ _. refl) refl
+act-length plan m (event.BadSlow command) time store = refl
+act-length plan m (event.FrameBit place bit) time store = refl
+act-length plan m (event.FrameEnd command unsteady) time store = refl
+act-length plan m (event.FrameEndBit command unsteady place bit) time store = refl

@@ -1,0 +1,67 @@
+-- A record, document 01's term for a line of the listing as two words ("A record").
+-- Assumes nothing.
+use mathlib.Core.Bool.{Bool, cond, _&&_}
+use mathlib.Core.List.{List, [], _∷_}
+use Prim.Native.Nat.{ℕ, _+_, _*_, _/_, _%_}
+use lib.Dec.{leb, eqb}
+use Rattle.controller.specs.declared.Cycle.{Cycle}
+use Rattle.controller.specs.declared.Cycle.the-variants.{Nothing, Record}
+
+-- "time × 65,536 + kind × 256 + flags, then a value"
+abbrev pub recordOf : ℕ → ℕ → ℕ → ℕ → Cycle
+recordOf time kind flags value = Record (time * 65536 + kind * 256 + flags) value
+
+-- The fields of a record's first word.
+abbrev pub timeOf : ℕ → ℕ
+timeOf head = head / 65536
+
+abbrev pub kindOf : ℕ → ℕ
+kindOf head = head / 256 % 256
+
+abbrev pub flagsOf : ℕ → ℕ
+flagsOf head = head % 256
+
+-- What each case of a cycle's answer writes.
+abbrev pub wordsOf : Cycle → List ℕ
+wordsOf Nothing = []
+wordsOf (Record head value) = head ∷ value ∷ []
+
+-- Kinds: "01 LV1; 10 + body for a Fast; 1F bad Fast; 20 + Field 3 for a Slow; 2F bad Slow".
+abbrev pub kindLv1 : ℕ
+kindLv1 = 0x01
+
+abbrev pub kindFast : ℕ → ℕ
+kindFast body = 0x10 + body
+
+abbrev pub kindBadFast : ℕ
+kindBadFast = 0x1F
+
+abbrev pub kindSlow : ℕ → ℕ
+kindSlow command = 0x20 + command
+
+abbrev pub kindBadSlow : ℕ
+kindBadSlow = 0x2F
+
+-- Flags: "01 acted on, 02 with flip, 04 sent to the front ends, 08 missing register, 10 an unsteady group".
+abbrev pub flagActed : Bool → ℕ
+flagActed b = cond b 0x01 0
+
+abbrev pub flagFlip : Bool → ℕ
+flagFlip b = cond b 0x02 0
+
+abbrev pub flagSent : Bool → ℕ
+flagSent b = cond b 0x04 0
+
+abbrev pub flagMissing : Bool → ℕ
+flagMissing b = cond b 0x08 0
+
+abbrev pub flagUnsteady : Bool → ℕ
+flagUnsteady b = cond b 0x10 0
+
+-- "a record of kind 24, 25 or 26"
+abbrev pub isFrameHead : ℕ → Bool
+isFrameHead head = leb 0x24 (kindOf head) && leb (kindOf head) 0x26
+
+-- The frame's count of bits, off its record: "control bits × 65,536 + data bits; WrReceiver, the count of its bits".
+abbrev pub frameBitsOf : ℕ → ℕ → ℕ
+frameBitsOf kind value = cond (eqb kind 0x26) value (value / 65536 + value % 65536)
