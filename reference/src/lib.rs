@@ -8,16 +8,19 @@
 
 pub mod bench;
 pub mod cases;
+pub mod compare;
 pub mod compose;
 pub mod cycle;
 pub mod effect;
 pub mod generate;
+pub mod golden;
 pub mod group;
 pub mod hex;
 pub mod limits;
 pub mod listing;
 pub mod model;
 pub mod plan;
+pub mod printed;
 pub mod program;
 pub mod quiet;
 pub mod random;

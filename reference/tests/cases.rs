@@ -15,10 +15,11 @@ fn all() -> Vec<Case> {
 fn names_serve_as_file_names() {
     let mut names = HashSet::new();
     for case in all() {
-        assert!(case
-            .name
-            .bytes()
-            .all(|c| c.is_ascii_alphanumeric() || c == b'-'));
+        let mut parts = case.name.split('/');
+        assert!(parts.all(|part| {
+            let fit = |c: u8| c.is_ascii_alphanumeric() || c == b'-';
+            !part.is_empty() && part.bytes().all(fit)
+        }));
         // Also where upper and lower case are the same.
         assert!(names.insert(case.name.to_lowercase()), "{}", case.name);
     }
@@ -45,7 +46,7 @@ fn the_three_outputs_hang_together() {
         let state = three.strip_prefix(&two).unwrap();
         assert!(state.starts_with("register 0 "), "{}", case.name);
         if let Some(line) = two.lines().find(|line| line.starts_with('!')) {
-            assert!(case.name.starts_with("line-"), "{}", case.name);
+            assert!(case.name.starts_with("refusals/"), "{}", case.name);
             refused.insert(line[1..3].to_string());
         }
     }
@@ -70,11 +71,12 @@ fn marked_cases() {
         (14, "000000000027 24 01 00000000\n"),
     ];
     for (number, lines) in wanted {
-        let name = format!("marked-{number:02}-whole");
-        let case = kept().into_iter().find(|case| case.name == name).unwrap();
+        let start = format!("marked/{number:02}-");
+        let fits = |name: &str| name.starts_with(&start) && name.ends_with("-whole");
+        let case = kept().into_iter().find(|case| fits(&case.name)).unwrap();
         let mut out = Vec::new();
         station(&case.input[..], &mut out).unwrap();
         let wanted = format!("000000000010 28 01 00000000\n{lines}");
-        assert_eq!(String::from_utf8(out).unwrap(), wanted, "{name}");
+        assert_eq!(String::from_utf8(out).unwrap(), wanted, "{start}");
     }
 }

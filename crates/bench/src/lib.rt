@@ -1,8 +1,8 @@
 // The taking call for the benchmark: a fresh opening and one call, exported to the Rust program in bench/.
 ghost use mathlib.Core.Path.{_≡_};
 ghost use Rattle.bench.specs.Fresh.{freshOf, recordsOf};
-use decoder::Decoder;
 use controller::Plan;
+use decoder::Decoder;
 
 // Opens with the default plan at cycle 0 and takes `count` bits from bit `first` on; answers the records written.
 #[no_mangle]

@@ -1,9 +1,9 @@
 -- What commands do, and their records (document 01, "What commands do" and "A record").
 -- Assumes nothing.
-use mathlib.Core.Bool.{Bool, true, false, cond, not, _&&_, _||_}
+use mathlib.Core.Bool.{Bool, true, false, cond, _&&_, _||_}
 use mathlib.Core.List.{List}
 use Prim.Native.Nat.{ℕ, _+_, _*_, _-_, _/_, _%_, _^_}
-use lib.Dec.{leb, eqb}
+use lib.Dec.{eqb}
 use lib.ListN.{getD, set, replicate}
 use Rattle.recogniser.specs.Fields.{dataBits, controlBits, receiverBits}
 use Rattle.recogniser.specs.declared.Event.{Event}
@@ -12,10 +12,10 @@ use Rattle.controller.specs.declared.Plan.{Plan}
 use Rattle.controller.specs.declared.Model.{Model}
 use Rattle.controller.specs.declared.Acted.{Acted}
 use Rattle.controller.specs.declared.Cycle.{Cycle}
-use Rattle.controller.specs.declared.Cycle.the-variants.{Nothing, Record}
+use Rattle.controller.specs.declared.Cycle.the-variants.{Nothing}
 use Rattle.controller.specs.Plan.{existsAt}
 use Rattle.controller.specs.Registers.{registerOf, cntOf, feenOf, readOf, writtenOf}
-use Rattle.controller.specs.Fifos.{Fifos, movedOn, writeOf, readWordOf}
+use Rattle.controller.specs.Fifos.{movedOn, writeOf, readWordOf}
 use Rattle.controller.specs.Records.{recordOf, kindLv1, kindFast, kindBadFast, kindSlow, kindBadSlow, flagActed, flagFlip, flagSent, flagMissing, flagUnsteady}
 
 -- A model with some of its parts replaced.

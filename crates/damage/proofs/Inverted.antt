@@ -1,13 +1,13 @@
 -- One inverted bit in a clean stream: the recogniser shows what the damage table says.
 -- Assumes nothing.
-use mathlib.Core.Path.{_≡_, _∙_, refl, sym, ap}
-use mathlib.Core.Bool.{Bool, true, false, cond, not, _&&_}
+use mathlib.Core.Path.{_≡_, _∙_, refl, ap}
+use mathlib.Core.Bool.{Bool, true, false, cond, _&&_}
 use mathlib.Core.List.{List, [], _∷_, _++_, append-assoc}
-use Prim.Native.Nat.{ℕ, zero, suc, _+_, _-_, _<_, _≤_}
+use Prim.Native.Nat.{ℕ, zero, suc, _-_, _<_, _≤_}
 use native.Mathlib.Nat.{le-of-suc-le-suc, not-suc-le-zero, sub-zero, suc-sub-suc}
 use native.Mathlib.Omega.{arith}
 use lib.Dec.{ltb, leb, T, ltb→lt, nltb→le}
-use lib.ListN.{length, replicate, length-append, length-replicate}
+use lib.ListN.{length, length-append, length-replicate}
 use borrow.Author.Tests.{lt-leb}
 use Rattle.recogniser.specs.declared.Event.{Event}
 use Rattle.recogniser.specs.declared.Event.the-variants.{Nothing}
@@ -17,11 +17,11 @@ use Rattle.recogniser.specs.Parts.{idle, startOf}
 use Rattle.recogniser.specs.Step.{stepOf}
 use Rattle.damage.specs.Commands.{Command, lv1, bcr, ecr, cal, sync, codeOf, widthOf, isFastCommand}
 use Rattle.damage.specs.Streams.{Item, zeros, zerosBetween, itemBits, itemSize, streamBits, spaced, timed, inverted}
-use Rattle.damage.specs.Table.{Instead, damage, hitsFast, affected, bitHit, itself, insteadOf}
-use Rattle.damage.specs.Traces.{eventsOf, standsAfter, quiet, spread, commandTrace, itemTrace, cleanTrace, damagedItem, damagedTrace}
-use Rattle.damage.proofs.Computed.{below, below-at, each, each-at, by-test, and-right}
+use Rattle.damage.specs.Table.{Instead, damage, hitsFast, itself, insteadOf}
+use Rattle.damage.specs.Traces.{eventsOf, standsAfter, quiet, spread, itemTrace, cleanTrace, damagedItem, damagedTrace}
+use Rattle.damage.proofs.Computed.{below, below-at, each-at, by-test, and-right}
 use Rattle.damage.proofs.Trace.{Shows, chain, onward}
-use Rattle.damage.proofs.Resume.{Shown, shownBy, shouldShow, Resumes, Settles, empty-resumes, idling, trailing, late, clean-item, clean-run, resumed-run}
+use Rattle.damage.proofs.Resume.{shownBy, shouldShow, Resumes, Settles, empty-resumes, idling, trailing, late, clean-item, resumed-run}
 
 -- where the inverted bit lies
 pub inverted-left : (k : ℕ) (xs ys : List ℕ) → k < length xs → inverted k (xs ++ ys) ≡ inverted k xs ++ ys

@@ -1,8 +1,8 @@
 -- The two tables are whole: each pair of commands has one distance, and each bit of a command one row.
 -- Assumes nothing.
 use mathlib.Core.Path.{_≡_, refl}
-use mathlib.Core.List.{List, [], _∷_}
-use Prim.Native.Nat.{ℕ, suc}
+use mathlib.Core.List.{[], _∷_}
+use Prim.Native.Nat.{suc}
 use Rattle.damage.specs.Commands.{Command, bcr, ecr, cal, sync, widthOf}
 use Rattle.damage.specs.Streams.{zerosBetween, table13, distances}
 use Rattle.damage.specs.Table.{table, rowsFor}

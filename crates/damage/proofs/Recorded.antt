@@ -1,7 +1,7 @@
 -- The records of a trace: those of a clean trace are the paper's, those of a damaged one the table's.
 -- Assumes nothing.
 use mathlib.Core.Path.{_≡_, _∙_, refl, sym, ap}
-use mathlib.Core.Bool.{Bool, true, cond, _&&_}
+use mathlib.Core.Bool.{Bool, true, _&&_}
 use mathlib.Core.List.{List, [], _∷_, _++_, append-assoc}
 use Prim.Native.Nat.{ℕ, zero, suc, _+_, _-_, _<_, _≤_}
 use native.Mathlib.Omega.{arith}
@@ -9,13 +9,13 @@ use lib.Dec.{leb, ltb, T, leb→le, ltb→lt, nltb→le}
 use lib.ListN.{length}
 use Rattle.recogniser.specs.declared.Event.{Event}
 use Rattle.decoder.specs.Entries.{Entry}
-use Rattle.damage.specs.Commands.{Command, lv1, bcr, ecr, cal, sync, widthOf, eventOf}
+use Rattle.damage.specs.Commands.{Command, widthOf}
 use Rattle.damage.specs.Streams.{Item, itemSize}
 use Rattle.damage.specs.Table.{Instead, nothing, at, itself, damage, hitsFast, insteadOf}
 use Rattle.damage.specs.Traces.{quiet, spread, itemTrace, cleanTrace, damagedItem, damagedTrace}
 use Rattle.damage.specs.Records.{Counters, entriesOf, counted, itemEntries, itemCounted, cleanEntries, insteadEntries, insteadCounted, damagedEntries}
 use Rattle.damage.proofs.Inverted.{zeroDamage, instead-by}
-use Rattle.damage.proofs.Computed.{below, below-at, each, each-at, by-test, by-both, and-left, and-right}
+use Rattle.damage.proofs.Computed.{below, below-at, each-at, by-test, by-both, and-left, and-right}
 
 -- The records of a trace that begins at cycle n, and the counters after it.
 unfoldable pub performed : Bool → Counters → ℕ → List Event → List Entry

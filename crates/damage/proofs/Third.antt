@@ -1,39 +1,38 @@
 -- Lists of taking calls over a clean or damaged stream write the records of its trace.
 -- Assumes nothing.
 use mathlib.Core.Path.{_≡_, _∙_, refl, sym, ap, ap₂}
-use mathlib.Core.Bool.{Bool, true, false, cond, not, _&&_}
+use mathlib.Core.Bool.{Bool, true, false, _&&_}
 use mathlib.Core.List.{List, [], _∷_, _++_, append-nil}
 use Prim.Native.Nat.{ℕ, zero, suc, _+_, _*_, _-_, _/_, _%_, _^_, _<_, _≤_}
 use native.Mathlib.Omega.{arith}
 use lib.Dec.{eqb, ltb, T, ltb→lt, nltb→le}
-use lib.ListN.{length, take, getD, length-append}
+use lib.ListN.{length, getD, length-append}
 use Rattle.recogniser.specs.declared.Phase.the-variants.{Hunt}
 use Rattle.recogniser.specs.declared.Event.{Event}
 use Rattle.recogniser.specs.declared.Recogniser.{Recogniser}
 use Rattle.recogniser.specs.declared.Heard.{Heard}
 use Rattle.recogniser.specs.Parts.{idle}
 use Rattle.recogniser.specs.Step.{stepOf}
-use Rattle.controller.specs.declared.Plan.{Plan}
 use Rattle.controller.specs.Registers.{cntOf}
 use Rattle.controller.specs.Records.{wordsOf}
 use Rattle.decoder.specs.declared.Decoder.{Decoder}
 use Rattle.decoder.specs.Entries.{Entry, entryWords}
 use Rattle.decoder.specs.Run.{stateAfter, wordsAfter}
-use Rattle.decoder.specs.Turn.{World, turnOf, turned, heardOf, effectOf}
+use Rattle.decoder.specs.Turn.{World, turnOf}
 use Rattle.decoder.specs.Take.{Call, takeOf, worldOf}
-use Rattle.decoder.specs.Calls.{bitsTaken, wordsStanding, worldLeft, allBits, allWords}
-use Rattle.decoder.proofs.Calls.{Kept, call-kept}
+use Rattle.decoder.specs.Calls.{bitsTaken, wordsStanding, allBits, allWords}
+use Rattle.decoder.proofs.Calls.{call-kept}
 use Rattle.damage.specs.Commands.{Command, widthOf}
 use Rattle.damage.specs.Streams.{Item, itemSize, streamBits, timed, inverted}
 use Rattle.damage.specs.Table.{damage, hitsFast, itself, insteadOf}
 use Rattle.damage.specs.Traces.{eventsOf, standsAfter, quiet, spread, commandTrace, itemTrace, cleanTrace, damagedItem, damagedTrace}
-use Rattle.damage.specs.Records.{Counters, countersOf, sendsOf, entriesOf, counted, cleanEntries, damagedEntries}
-use Rattle.damage.proofs.Computed.{below, below-at, each, each-at, by-test, and-left, and-right}
+use Rattle.damage.specs.Records.{countersOf, sendsOf, entriesOf, counted, cleanEntries, damagedEntries}
+use Rattle.damage.proofs.Computed.{below, below-at, each-at, by-test, and-left, and-right}
 use Rattle.damage.proofs.Trace.{events-append, stands-append, length-events}
 use Rattle.damage.proofs.Resume.{clean-run}
 use Rattle.damage.proofs.Inverted.{zeroDamage, instead-by, damaged-run}
 use Rattle.damage.proofs.Recorded.{performed, counting, performed-append, counting-append, performed-clean, performed-damaged}
-use Rattle.damage.proofs.Acts.{quick, calm, step-any-cnt, step-stays, from-empty, Does, does}
+use Rattle.damage.proofs.Acts.{quick, calm, step-any-cnt, step-stays, from-empty, does}
 
 -- no event of a trace leads into a Slow command
 abbrev calmly : List Event → Bool

@@ -9,7 +9,7 @@ use Rattle.bits.specs.Bits.{numberOf}
 use Rattle.recogniser.specs.declared.Event.{Event}
 use Rattle.recogniser.specs.declared.Event.the-variants.{Lv1, BadFast}
 use Rattle.damage.specs.Commands.{Command, lv1, bcr, ecr, cal, sync, fasts, among, codeOf, widthOf, isFastCommand, eventOf}
-use Rattle.damage.specs.Streams.{Item, itemSize, inverted}
+use Rattle.damage.specs.Streams.{Item, inverted}
 
 -- What the table's right column says: "flip at 5" and the like, "bad Fast, at 9", or "none".
 pub data Outcome : Type 0 where

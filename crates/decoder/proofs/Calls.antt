@@ -6,7 +6,7 @@ use mathlib.Core.List.{List, [], _∷_, _++_, append-assoc}
 use Prim.Native.Nat.{ℕ, _+_, _*_, _-_, _/_, _≤_}
 use native.Mathlib.Omega.{arith}
 use lib.ListN.{length, take, drop}
-use lib.Seq.{sets, sets-eq, length-sets, length-take-le, drop-at, take-at}
+use lib.Seq.{sets, sets-eq, length-take-le, drop-at, take-at}
 use Rattle.decoder.specs.declared.Decoder.{Decoder}
 use Rattle.decoder.specs.declared.Ending.{Ending}
 use Rattle.decoder.specs.declared.Ending.the-variants.{Unsound, WrongBuffers, WrongRange, ClockOver}
@@ -14,9 +14,9 @@ use Rattle.decoder.specs.Limits.{listUnit}
 use Rattle.decoder.specs.Run.{Run, runOf, stateAfter, wordsAfter}
 use Rattle.decoder.specs.Sound.{soundOf}
 use Rattle.decoder.specs.Turn.{World, turnOf}
-use Rattle.decoder.specs.Take.{Call, Left, offered, worldOf, refused, finished, buffersFit, rangeFits, clockFits, takenOf, takeOf}
-use Rattle.decoder.specs.Calls.{Request, bitsTaken, wordsStanding, callOf, leftOf, worldLeft, carriedBits, carriedWords, carriedWorld}
-use Rattle.decoder.proofs.Runs.{Faithful, run-faithful, state-append, words-append}
+use Rattle.decoder.specs.Take.{Call, Left, offered, worldOf, refused, buffersFit, rangeFits, clockFits, takenOf, takeOf}
+use Rattle.decoder.specs.Calls.{Request, bitsTaken, callOf, leftOf, worldLeft, carriedBits, carriedWords, carriedWorld}
+use Rattle.decoder.proofs.Runs.{run-faithful, state-append, words-append}
 
 -- the words of a run stand in the list where it was lent
 module _ (words list : List ℕ) (free : ℕ) (whole : length words / 2 * 2 ≡ length words) where

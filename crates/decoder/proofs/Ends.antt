@@ -72,8 +72,8 @@ module _ {W : Type 0} (turn : W → ℕ → Turned W) where
     done = f .done;
     full = λ e. let g = f .full e in (g .0, omega arith);
     framed = λ e.
-      let l = f .framed e in
-      record { before = head ∷ value ∷ l .before; head = l .head; value = l .value; parts = ap (λ (t : List ℕ). head ∷ value ∷ t) (l .parts); frame = l .frame };
+        let l = f .framed e in
+        record { before = head ∷ value ∷ l .before; head = l .head; value = l .value; parts = ap (λ (t : List ℕ). head ∷ value ∷ t) (l .parts); frame = l .frame };
     fits = f .fits;
   }
 

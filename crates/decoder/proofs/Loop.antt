@@ -2,8 +2,8 @@
 -- Assumes nothing.
 use mathlib.Core.Path.{_≡_, _∙_, refl, sym, ap}
 use mathlib.Core.Bool.{true, false, cond}
-use mathlib.Core.List.{List, [], _∷_, _++_}
-use Prim.Native.Nat.{ℕ, zero, suc, _+_, _*_, _-_, _/_, _<_, _≤_}
+use mathlib.Core.List.{List, _∷_, _++_}
+use Prim.Native.Nat.{ℕ, zero, suc, _+_, _-_, _/_, _<_, _≤_}
 use native.Mathlib.Nat.{add-zero}
 use native.Mathlib.Omega.{arith}
 use borrow.Author.Tests.{lt-ltb}
@@ -18,7 +18,6 @@ use Rattle.recogniser.proofs.Stretches.{Passes, ends, last, more, stretch-passe
 use Rattle.frames.specs.Tray.{trayOf}
 use Rattle.controller.specs.declared.Model.{Model}
 use Rattle.controller.specs.declared.Acted.{Acted}
-use Rattle.controller.specs.declared.Cycle.{Cycle}
 use Rattle.controller.specs.declared.Cycle.the-variants.{Nothing, Record}
 use Rattle.controller.specs.Registers.{cntOf}
 use Rattle.controller.specs.Records.{isFrameHead}
@@ -28,10 +27,10 @@ use Rattle.controller.proofs.Heard.{heard-fits}
 use Rattle.decoder.specs.declared.Decoder.{Decoder}
 use Rattle.decoder.specs.declared.Ending.{Ending}
 use Rattle.decoder.specs.declared.Ending.the-variants.{Done, Frame, ListFull}
-use Rattle.decoder.specs.Run.{Turned, Run, ended, oneBit, oneRecord, afterCycle, runOf}
+use Rattle.decoder.specs.Run.{Run, ended, oneBit, oneRecord, afterCycle, runOf}
 use Rattle.decoder.specs.Turn.{World, turnOf}
 use Rattle.decoder.specs.Take.{Call, Left, finished, takenOf}
-use Rattle.decoder.proofs.Stretched.{effectAt, landed, bitsAhead, run-stretch}
+use Rattle.decoder.proofs.Stretched.{landed, bitsAhead, run-stretch}
 
 -- The world that the loop's locals make up, and the bits that are left.
 abbrev pub worldAt : Decoder → List ℕ → List ℕ → Recogniser → Model → ℕ → World

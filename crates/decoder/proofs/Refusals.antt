@@ -14,7 +14,7 @@ use Rattle.decoder.specs.declared.Ending.the-variants.{Unsound, WrongBuf
 use Rattle.decoder.specs.Limits.{clockLimit, storeLength, trayLength, inputLimit}
 use Rattle.decoder.specs.Sound.{soundOf}
 use Rattle.decoder.specs.Take.{Call, Left, refused, buffersFit, rangeFits, clockFits, takenOf, takeOf}
-use Rattle.decoder.proofs.Soundness.{Sound, sound-parts}
+use Rattle.decoder.proofs.Soundness.{sound-parts}
 
 -- The tests of a call.
 abbrev pub buffers : Call → Bool

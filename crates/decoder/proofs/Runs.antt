@@ -1,18 +1,17 @@
 -- A run writes what its bits say, and nothing else, wherever it stops.
 -- Assumes nothing.
-use mathlib.Core.Path.{_≡_, _∙_, refl, sym, ap, ap₂}
+use mathlib.Core.Path.{_≡_, _∙_, refl, sym, ap}
 use mathlib.Core.Bool.{Bool, true, false, cond, not}
 use mathlib.Core.List.{List, [], _∷_, _++_, append-assoc}
-use Prim.Native.Nat.{ℕ, zero, suc, _+_, _*_, _-_, _/_, _<_, _≤_}
+use Prim.Native.Nat.{ℕ, _*_, _-_, _/_, _≤_}
 use native.Mathlib.Omega.{arith}
 use lib.Dec.{ltb, T, nltb→le}
-use lib.ListN.{length, take, drop, length-append}
+use lib.ListN.{length, take}
 use Rattle.controller.specs.declared.Cycle.{Cycle}
 use Rattle.controller.specs.declared.Cycle.the-variants.{Nothing, Record}
 use Rattle.controller.specs.Records.{wordsOf, isFrameHead}
 use Rattle.decoder.specs.declared.Ending.{Ending}
 use Rattle.decoder.specs.declared.Ending.the-variants.{Done, Frame, ListFull}
-use Rattle.decoder.specs.Limits.{listUnit}
 use Rattle.decoder.specs.Run.{Turned, Run, ended, oneBit, oneRecord, afterCycle, runOf, stateAfter, wordsAfter}
 
 module _ {W : Type 0} (turn : W → ℕ → Turned W) where

@@ -106,6 +106,7 @@ impl Decoder {
     pub const CLOCK_LIMIT: u64 = 281474976710656;
     // The words of the FIFO store, and the bytes of the tray.
     pub const STORE_LENGTH: usize = 2048;
+
     pub const TRAY_LENGTH: usize = 8192;
     // The words of a record in the list.
     pub const LIST_UNIT: usize = 2;

@@ -1,21 +1,19 @@
 -- The second demand, proved.
 -- Assumes nothing.
 use mathlib.Core.Path.{_≡_, _∙_, sym, ap}
-use mathlib.Core.List.{List}
-use Prim.Native.Nat.{ℕ, _+_, _*_, _-_, _/_}
+use Prim.Native.Nat.{_+_, _-_}
 use native.Mathlib.Omega.{arith}
-use lib.ListN.{length, take}
+use lib.ListN.{length}
 use Rattle.decoder.specs.declared.Decoder.{Decoder}
 use Rattle.decoder.specs.Run.{Run, runOf, stateAfter, wordsAfter}
 use Rattle.decoder.specs.Turn.{World, turnOf}
 use Rattle.decoder.specs.Take.{Call, offered, worldOf, takenOf}
-use Rattle.decoder.specs.Calls.{Request, carriedBits}
 use Rattle.decoder.proofs.Runs.{run-faithful}
 use Rattle.decoder.proofs.Ends.{run-ended}
 use Rattle.decoder.proofs.Calls.{call-kept, carried-words, carried-world}
 use Rattle.decoder.proofs.Loop.{length-bits}
 use Rattle.decoder.proofs.Stays.{start-sound, take-sound}
-use Rattle.promises.specs.Records.{Exact, Ends, LastIsFrame, Cuts, SecondDemand}
+use Rattle.promises.specs.Records.{Exact, Ends, Cuts, SecondDemand}
 
 exact : (d : Decoder) (c : Call) → Exact d c
 exact d c = let k = call-kept d c in record { state = k .world; words = k .words }
@@ -35,8 +33,8 @@ module _ (d : Decoder) (c : Call) where
         done = λ h. let g = e .done h in omega arith;
         full = λ h. let g = e .full h in let w = f .whole in (omega arith, omega arith);
         frame = λ h.
-          let g = e .framed h in
-          record { before = g .before; head = g .head; value = g .value; parts = rw z (sym (f .words) ∙ g .parts); frame = g .frame };
+            let g = e .framed h in
+            record { before = g .before; head = g .head; value = g .value; parts = rw z (sym (f .words) ∙ g .parts); frame = g .frame };
       }
 
 cuts : (w : World) → Cuts w

@@ -6,7 +6,7 @@ use Prim.Native.Nat.{ℕ, _+_, _*_, _-_, _^_}
 use native.Mathlib.Omega.{arith}
 use lib.Dec.{leb, ltb, eqb}
 use lib.ListN.{length}
-use borrow.Author.Tests.{le-leb, lt-leb, lt-ltb, le-ltb, ltb-true, ltb-false}
+use borrow.Author.Tests.{le-leb, lt-leb, ltb-true, ltb-false}
 use Rattle.controller.specs.declared.Plan.{Plan}
 use Rattle.controller.specs.Plan.{existsAt, planFits}
 use Rattle.decoder.specs.declared.Decoder.{Decoder}
@@ -15,10 +15,10 @@ use Rattle.decoder.specs.declared.Ending.the-variants.{Unsound, WrongBuffers, W
 use Rattle.decoder.specs.Opening.{openOf}
 use Rattle.decoder.specs.Sound.{soundOf}
 use Rattle.decoder.specs.Turn.{turnOf}
-use Rattle.decoder.specs.Take.{Call, Left, offered, worldOf, refused, buffersFit, rangeFits, clockFits, takenOf, takeOf, endingNumber}
+use Rattle.decoder.specs.Take.{Call, Left, offered, worldOf, refused, clockFits, takenOf, takeOf, endingNumber}
 use Rattle.decoder.proofs.Ends.{run-ended}
 use Rattle.decoder.proofs.Refusals.{buffers, range, unsound, wrong-buffers, wrong-range, clock-over, taken}
-use Rattle.promises.specs.Refusals.{firstOf, threeInMask, threeDiffer, openingRows, takingRows, Opens, Takes, FirstDemand}
+use Rattle.promises.specs.Refusals.{firstOf, threeInMask, threeDiffer, takingRows, Opens, Takes, FirstDemand}
 
 -- tests turned round
 not-leb-by : (a b : ℕ) (t : Bool) → ltb b a ≡ t → not (leb a b) ≡ ltb b a

@@ -1,14 +1,14 @@
 -- The third demand: one claim about two lists of taking calls, a clean run and the same bits with one inverted (document 01, "The damage table").
 -- Assumes nothing.
 use mathlib.Core.Path.{_≡_}
-use mathlib.Core.Bool.{Bool, true}
+use mathlib.Core.Bool.{true}
 use mathlib.Core.List.{List}
 use Prim.Native.Nat.{ℕ, _<_}
 use lib.Dec.{T}
 use lib.ListN.{length}
 use Rattle.recogniser.specs.declared.Phase.the-variants.{Hunt}
 use Rattle.decoder.specs.declared.Decoder.{Decoder}
-use Rattle.decoder.specs.Entries.{Entry, entryWords}
+use Rattle.decoder.specs.Entries.{entryWords}
 use Rattle.decoder.specs.Sound.{soundOf}
 use Rattle.decoder.specs.Take.{Call}
 use Rattle.decoder.specs.Calls.{allBits, allWords}

@@ -1,6 +1,6 @@
 -- The fields of a Slow command and their lengths (document 01, "Slow commands").
 -- Assumes nothing.
-use mathlib.Core.Bool.{Bool, true, false, cond, _&&_, _||_}
+use mathlib.Core.Bool.{Bool, false, cond, _&&_, _||_}
 use Prim.Native.Nat.{ℕ, _+_, _*_, _/_, _%_, _^_}
 use lib.Dec.{ltb, leb, eqb}
 use Rattle.recogniser.specs.declared.Phase.the-variants.{Field4, Field5}

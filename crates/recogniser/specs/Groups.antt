@@ -1,6 +1,6 @@
 -- Frame bits and groups of eight cycles (document 01, "What commands do").
 -- Assumes nothing.
-use mathlib.Core.Bool.{Bool, true, false, cond, not, _||_}
+use mathlib.Core.Bool.{Bool, true, false, cond, not}
 use Prim.Native.Nat.{ℕ, _+_, _/_, _%_}
 use lib.Dec.{eqb}
 use Rattle.recogniser.specs.declared.Event.{Event}

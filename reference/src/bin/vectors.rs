@@ -1,9 +1,13 @@
 //! Writes each case's input and what the three programs print for it:
-//! `vectors <folder> [--generated N]`.
+//! `vectors FOLDER [--golden | --generated N]`.
+//!
+//! With `--golden` only the cases whose files are kept, and files of cases
+//! that are no more are removed.
 
 #![forbid(unsafe_code)]
 
-use reference::cases::{generated, kept, Case};
+use reference::cases::{generated, golden, kept, Case};
+use reference::golden::{strays, write};
 use std::fs;
 use std::io;
 use std::path::Path;
@@ -12,17 +16,16 @@ use std::process::ExitCode;
 fn main() -> ExitCode {
     let arguments: Vec<String> = std::env::args().skip(1).collect();
     let arguments: Vec<&str> = arguments.iter().map(String::as_str).collect();
-    let (folder, count) = match arguments[..] {
-        [folder] => (folder, Some(0)),
-        [folder, "--generated", count] => (folder, count.parse().ok()),
-        _ => ("", None),
+    let written = match arguments[..] {
+        [folder] if !folder.starts_with("--") => write_all(Path::new(folder), kept()),
+        [folder, "--golden"] => write_golden(Path::new(folder)),
+        [folder, "--generated", count] => match count.parse() {
+            Ok(count) => write_all(Path::new(folder), [kept(), generated(count)].concat()),
+            Err(_) => return usage(),
+        },
+        _ => return usage(),
     };
-    let Some(count) = count else {
-        eprintln!("vectors <folder> [--generated N]");
-        return ExitCode::FAILURE;
-    };
-    let cases = kept().into_iter().chain(generated(count));
-    match write_all(Path::new(folder), cases) {
+    match written {
         Ok(written) => {
             println!("{written} cases");
             ExitCode::SUCCESS
@@ -34,25 +37,23 @@ fn main() -> ExitCode {
     }
 }
 
-fn write_all(folder: &Path, cases: impl Iterator<Item = Case>) -> io::Result<usize> {
-    fs::create_dir_all(folder)?;
-    let mut written = 0;
-    for case in cases {
-        write_case(folder, &case)?;
-        written += 1;
-    }
-    Ok(written)
+fn usage() -> ExitCode {
+    eprintln!("vectors FOLDER [--golden | --generated N]");
+    ExitCode::FAILURE
 }
 
-fn write_case(folder: &Path, case: &Case) -> io::Result<()> {
-    let input = &case.input[..];
-    let (mut station, mut reading, mut model) = (Vec::new(), Vec::new(), Vec::new());
-    reference::station(input, &mut station)?;
-    reference::reading(input, &mut reading)?;
-    reference::model(input, &mut model)?;
-    let path = |end: &str| folder.join(format!("{}.{end}", case.name));
-    fs::write(path("in"), input)?;
-    fs::write(path("station"), station)?;
-    fs::write(path("reading"), reading)?;
-    fs::write(path("model"), model)
+fn write_all(folder: &Path, cases: Vec<Case>) -> io::Result<usize> {
+    for case in &cases {
+        write(folder, case)?;
+    }
+    Ok(cases.len())
+}
+
+fn write_golden(folder: &Path) -> io::Result<usize> {
+    let cases = golden();
+    fs::create_dir_all(folder)?;
+    for stray in strays(folder, &cases)? {
+        fs::remove_file(folder.join(stray))?;
+    }
+    write_all(folder, cases)
 }

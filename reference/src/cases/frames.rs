@@ -6,6 +6,9 @@ use crate::generate;
 use crate::random::Random;
 use crate::slow;
 
+/// Longest frame, in bits, whose files are kept.
+const GOLDEN_BITS: u32 = 64;
+
 /// Name and CNT of a front-end frame.
 const FRONT_END: [(&str, u16); 9] = [
     ("0", 0),
@@ -36,16 +39,20 @@ pub fn cases() -> Vec<Case> {
             let length = slow::data_bits(cnt) + slow::control_bits(cnt);
             let frame = generate::bits(&mut random, length);
             let stream = with_cnt(cnt).front_end(field3, &frame).lv1();
-            cases.push(Case::stream(format!("frame-{kind}-{name}"), &stream));
+            let case = Case::stream(format!("frames/{kind}-{name}"), &stream);
+            cases.push(case.golden_if(length <= GOLDEN_BITS));
         }
         cases.extend((0..16).map(|wrong| unsteady(kind, field3, wrong)));
     }
     for (name, cnt) in RECEIVER {
-        let frame = generate::bits(&mut random, slow::receiver_bits(cnt));
+        let length = slow::receiver_bits(cnt);
+        let frame = generate::bits(&mut random, length);
         let stream = with_cnt(cnt).wr_receiver(&frame).lv1();
-        cases.push(Case::stream(format!("frame-receiver-{name}"), &stream));
+        let case = Case::stream(format!("frames/receiver-{name}"), &stream);
+        cases.push(case.golden_if(length <= GOLDEN_BITS));
     }
-    cases.push(Case::stream("frame-long-then-short", &long_then_short()));
+    let case = Case::stream("frames/long-then-short", &long_then_short());
+    cases.push(case.golden_if(true));
     cases
 }
 
@@ -59,7 +66,9 @@ fn unsteady(kind: &str, field3: u8, wrong: usize) -> Case {
     let first = stream.bits.len() - 16;
     stream.bits[first + wrong] ^= true;
     let stream = stream.front_end(field3, &[false, true]);
-    Case::stream(format!("frame-{kind}-unsteady-{wrong:02}"), &stream)
+    let case = Case::stream(format!("frames/{kind}-unsteady-{wrong:02}"), &stream);
+    // A group's first cycle, whose bit is taken, and another.
+    case.golden_if([0, 9].contains(&wrong))
 }
 
 /// A short frame after a long one: nothing of the long one may remain.

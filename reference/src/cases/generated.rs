@@ -48,7 +48,7 @@ fn one(number: u64) -> Case {
         generate::flip_some(&mut stream, &mut random, rate);
     }
     let input = random_lines(&stream.bytes(), &mut random);
-    Case::new(format!("generated-{number:03}"), input)
+    Case::new(format!("generated/{number:03}"), input)
 }
 
 /// Lines of random lengths, empty ones too; now and then no last line feed.

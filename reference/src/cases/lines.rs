@@ -2,13 +2,17 @@
 
 use super::Case;
 
-/// Name and input; each but the first few ends at a refused line.
-const SHORT: [(&str, &[u8]); 26] = [
+/// Name and input.
+const FIT: [(&str, &[u8]); 5] = [
     ("empty-input", b""),
     ("empty-lines", b"\n\nB5C074\n\nE0B080\n\n"),
     ("line-feeds-only", b"\n\n\n"),
     ("no-last-line-feed", b"B5C074\nE0B080"),
     ("all-digits", b"0123456789ABCDEF\n"),
+];
+
+/// Name and input, which ends at a refused line.
+const REFUSED: [(&str, &[u8]); 21] = [
     ("lower-case", b"B5C074\ne0b080\n"),
     ("lower-case-last-digit", b"B5C074\nE0B08a\n"),
     ("after-f", b"B5C074\nE0B08G\n"),
@@ -33,7 +37,7 @@ const SHORT: [(&str, &[u8]); 26] = [
 ];
 
 /// Digits and what follows them in the line.
-const LONG: [(usize, &str); 10] = [
+const DIGITS: [(usize, &str); 10] = [
     (64, ""),
     (65, ""),
     (66, ""),
@@ -47,22 +51,37 @@ const LONG: [(usize, &str); 10] = [
 ];
 
 pub fn cases() -> Vec<Case> {
-    let mut cases: Vec<Case> = SHORT
-        .iter()
-        .map(|(name, input)| Case::new(format!("line-{name}"), *input))
-        .collect();
-    for (digits, end) in LONG {
-        let wrong = if end.is_empty() { "" } else { "-and-wrong" };
-        // LV1 after LV1, so that a digit taken would show.
-        let line = "EF7BDEF7BD".repeat(digits / 10 + 1);
-        let input = format!("B5C074\n{}{end}\n", &line[..digits]);
-        cases.push(Case::new(format!("line-{digits}-digits{wrong}"), input));
-    }
+    let fit = FIT.map(|(name, input)| Case::new(format!("lines/{name}"), input));
+    let refused = REFUSED.map(|(name, input)| Case::new(format!("refusals/{name}"), input));
+    let mut cases: Vec<Case> = fit.into_iter().chain(refused).collect();
+    cases.extend(DIGITS.map(|(digits, end)| many_digits(digits, end)));
     for (name, end) in [("odd", "A\n"), ("wrong", "0x\n"), ("odd-no-line-feed", "A")] {
         for ahead in [255, 65_535, 65_540] {
             let input = format!("{}{end}", "\n".repeat(ahead));
-            cases.push(Case::new(format!("line-{}-{name}", ahead + 1), input));
+            cases.push(Case::new(
+                format!("refusals/line-{}-{name}", ahead + 1),
+                input,
+            ));
         }
     }
-    cases
+    cases.into_iter().map(golden_if_short_text).collect()
+}
+
+fn many_digits(digits: usize, end: &str) -> Case {
+    let subject = if digits == 64 && end.is_empty() {
+        "lines"
+    } else {
+        "refusals"
+    };
+    let wrong = if end.is_empty() { "" } else { "-and-wrong" };
+    // LV1 after LV1, so that a digit taken would show.
+    let line = "EF7BDEF7BD".repeat(digits / 10 + 1);
+    let input = format!("B5C074\n{}{end}\n", &line[..digits]);
+    Case::new(format!("{subject}/{digits}-digits{wrong}"), input)
+}
+
+fn golden_if_short_text(case: Case) -> Case {
+    let text = |&c: &u8| (b' '..=b'~').contains(&c) || b"\n\r\t".contains(&c);
+    let golden = case.input.len() < 100 && case.input.iter().all(text);
+    case.golden_if(golden)
 }

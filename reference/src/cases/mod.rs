@@ -1,6 +1,7 @@
 //! Cases for comparison with another reader: names and input lines.
 
 mod commands;
+mod controller;
 mod frames;
 mod generated;
 mod lines;
@@ -11,11 +12,14 @@ pub use paper::RECEIVED;
 
 use crate::compose::Stream;
 
-/// One input of the programs, under a name that serves as a file's name.
+/// One input of the programs.
 #[derive(Clone, Debug)]
 pub struct Case {
+    /// Serves as a path: folders by subject, then a file's name.
     pub name: String,
     pub input: Vec<u8>,
+    /// Whether its files are kept for a reviewer to read.
+    pub golden: bool,
 }
 
 impl Case {
@@ -23,12 +27,18 @@ impl Case {
         Case {
             name: name.into(),
             input: input.into(),
+            golden: false,
         }
     }
 
     /// A stream as hexadecimal lines, its last byte filled up with zeros.
     fn stream(name: impl Into<String>, stream: &Stream) -> Case {
         Case::new(name, stream.lines())
+    }
+
+    fn golden_if(mut self, golden: bool) -> Case {
+        self.golden = golden;
+        self
     }
 }
 
@@ -38,7 +48,13 @@ pub fn kept() -> Vec<Case> {
     cases.extend(lines::cases());
     cases.extend(frames::cases());
     cases.extend(commands::cases());
+    cases.extend(controller::cases());
     cases
+}
+
+/// The cases whose files are kept: short ones, in text.
+pub fn golden() -> Vec<Case> {
+    kept().into_iter().filter(|case| case.golden).collect()
 }
 
 /// A stream ahead of which RunMode is on or off.

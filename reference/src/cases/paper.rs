@@ -136,24 +136,35 @@ pub const RECEIVED: [(u8, &[&str]); 6] = [
 ];
 
 pub fn cases() -> Vec<Case> {
-    let mut cases = vec![Case::new("listing", "B5C074\nE0B080\n")];
+    let mut cases = vec![Case::new("paper/listing", "B5C074\nE0B080\n").golden_if(true)];
     for (number, bits) in (1..).zip(MARKED) {
-        let stream = in_run_mode(true).pattern(bits);
-        cases.push(Case::stream(format!("marked-{number:02}"), &stream));
-        // The zeros that fill up the last byte can complete a pattern, as
-        // after 11110; zeros ahead instead leave the stream as it is.
-        let ahead = stream.bits.len().wrapping_neg() % 8;
-        let stream = in_run_mode(true).zeros(ahead).pattern(bits);
-        cases.push(Case::stream(format!("marked-{number:02}-whole"), &stream));
+        cases.extend(marked(number, bits));
     }
     for (table, rows) in RECEIVED {
         for (row, bits) in (1..).zip(rows) {
-            for run_mode in [true, false] {
-                let name = format!("table-1-{table}-row-{row:02}-{}", run_mode_name(run_mode));
-                let stream = in_run_mode(run_mode).pattern(bits);
-                cases.push(Case::stream(name, &stream));
-            }
+            cases.extend([true, false].map(|run_mode| received(table, row, bits, run_mode)));
         }
     }
     cases
+}
+
+/// The zeros that fill up the last byte can complete a pattern, as after
+/// 11110; zeros ahead instead leave the stream as it is.
+fn marked(number: u8, bits: &str) -> [Case; 2] {
+    let name = format!("marked/{number:02}-{bits}");
+    let filled = in_run_mode(true).pattern(bits);
+    let ahead = filled.bits.len().wrapping_neg() % 8;
+    let whole = in_run_mode(true).zeros(ahead).pattern(bits);
+    [
+        Case::stream(format!("{name}-whole"), &whole).golden_if(true),
+        Case::stream(name, &filled).golden_if(true),
+    ]
+}
+
+/// A row of a table; kept in RunMode, where its records say more.
+fn received(table: u8, row: u8, bits: &str, run_mode: bool) -> Case {
+    let mode = run_mode_name(run_mode);
+    let digits = bits.replace(['_', '.'], "-");
+    let name = format!("tables/1-{table}/row-{row:02}-{digits}-{mode}");
+    Case::stream(name, &in_run_mode(run_mode).pattern(bits)).golden_if(run_mode)
 }

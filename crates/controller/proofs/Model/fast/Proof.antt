@@ -28,9 +28,12 @@ answer-requires-3 c κs = search needs
 returns-3 : tie.Need-returns-3
 returns-3 c =
     let d = c .before .before .before in
-    simp
-    (not-false (d .before .before .args .self .running) (d .if1 .left), ne-eqb _ _ (c .before .before .if2 .left),
-    eq-eqb _ _ (c .before .if3 .taken), c .answer3 .ensures)
+    simp (
+      not-false (d .before .before .args .self .running) (d .if1 .left),
+      ne-eqb _ _ (c .before .before .if2 .left),
+      eq-eqb _ _ (c .before .if3 .taken),
+      c .answer3 .ensures,
+    )
 
 answer-requires-4 : tie.Need-answer-requires-4
 answer-requires-4 c κs = search needs
@@ -38,9 +41,12 @@ answer-requires-4 c κs = search needs
 returns-4 : tie.Need-returns-4
 returns-4 c =
     let d = c .before .before .before in
-    simp
-    (not-false (d .before .before .args .self .running) (d .if1 .left), ne-eqb _ _ (c .before .before .if2 .left),
-    ne-eqb _ _ (c .before .if3 .left), c .answer4 .ensures)
+    simp (
+      not-false (d .before .before .args .self .running) (d .if1 .left),
+      ne-eqb _ _ (c .before .before .if2 .left),
+      ne-eqb _ _ (c .before .if3 .left),
+      c .answer4 .ensures,
+    )
 
 pub fast-spec : {M : Type 1} → statement M
 fast-spec =

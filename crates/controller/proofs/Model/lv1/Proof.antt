@@ -15,9 +15,13 @@ answer-requires c κs = search needs
 returns : tie.Need-returns
 returns c =
     let d = c .before .before .before in
-    simp
-    (not-true (d .before .before .args .self .running) (c .before .if1 .taken), c .answer .ensures, d .flag .ensures .0,
-    zero-add, add-zero)
+    simp (
+      not-true (d .before .before .args .self .running) (c .before .if1 .taken),
+      c .answer .ensures,
+      d .flag .ensures .0,
+      zero-add,
+      add-zero,
+    )
 
 register-requires : tie.Need-register-requires
 register-requires c κs = search needs
@@ -59,9 +63,14 @@ returns-2 : tie.Need-returns-2
 returns-2 c =
     let d = c .before .before .before .before in
     let s = d .before .before .before .before in
-    simp
-    (not-false (s .before .before .args .self .running) (d .before .before .if1 .left), c .answer2 .ensures, s .flag .ensures .0,
-    d .flag2 .ensures .0, d .before .register .ensures, c .before .before .bunch .ensures)
+    simp (
+      not-false (s .before .before .args .self .running) (d .before .before .if1 .left),
+      c .answer2 .ensures,
+      s .flag .ensures .0,
+      d .flag2 .ensures .0,
+      d .before .register .ensures,
+      c .before .before .bunch .ensures,
+    )
 
 pub lv1-spec : {M : Type 1} → statement M
 lv1-spec =

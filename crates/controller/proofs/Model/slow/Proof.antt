@@ -53,9 +53,15 @@ reset-front-ends-requires c κs = search needs
 returns-7 : tie.Need-returns-7
 returns-7 c =
     let d = c .before .before .before in
-    simp
-    (ne-eqb _ _ (d .before .before .before .if1 .left), ne-eqb _ _ (d .before .before .if2 .left), ne-eqb _ _ (d .before .if3 .left),
-    ne-eqb _ _ (d .if4 .left), ne-eqb _ _ (c .before .before .if5 .left), ne-eqb _ _ (c .before .if6 .left), c .reset-front-ends .ensures)
+    simp (
+      ne-eqb _ _ (d .before .before .before .if1 .left),
+      ne-eqb _ _ (d .before .before .if2 .left),
+      ne-eqb _ _ (d .before .if3 .left),
+      ne-eqb _ _ (d .if4 .left),
+      ne-eqb _ _ (c .before .before .if5 .left),
+      ne-eqb _ _ (c .before .if6 .left),
+      c .reset-front-ends .ensures,
+    )
 
 pub slow-spec : {M : Type 1} → statement M
 slow-spec =

@@ -70,7 +70,12 @@ add-taken : tie.Need-add-taken Inv-loop μ-loop
 add-taken c =
     let c5 = c .before .before .before .before .before in
     let c10 = c5 .before .before .before .before .before in
-    let m = moved (c5 .loop .inv) (c .before .before .before .before .loop-test .taken) (c .before .before .before .if1 .left) (c .before .before .stretch .result) (c .before .before .stretch .ensures) in omega (arith, c5, c10 .before .before .before .before)
+    let g = c5 .loop .inv in
+    let more = c .before .before .before .before .loop-test .taken in
+    let room = c .before .before .before .if1 .left in
+    let s = c .before .before .stretch in
+    let m = moved g more room (s .result) (s .ensures) in
+    omega (arith, c5, c10 .before .before .before .before)
 
 enum-told : tie.Need-enum-told Inv-loop μ-loop
 enum-told c = search needs
@@ -80,12 +85,21 @@ loop-less c =
     let c5 = c .before .before .before .before .before in
     let c10 = c5 .before .before .before .before .before in
     let c15 = c10 .before .before .before .before .before in
-    let m = moved (c5 .before .before .loop .inv) (c5 .before .loop-test .taken) (c5 .if1 .left) (c .before .before .before .before .stretch .result) (c .before .before .before .before .stretch .ensures) in omega (arith, c5 .before .before, c15 .before)
+    let g = c5 .before .before .loop .inv in
+    let more = c5 .before .loop-test .taken in
+    let room = c5 .if1 .left in
+    let s = c .before .before .before .before .stretch in
+    let m = moved g more room (s .result) (s .ensures) in
+    omega (arith, c5 .before .before, c15 .before)
 
 loop-again : tie.Need-loop-again Inv-loop μ-loop
 loop-again c =
     let c5 = c .before .before .before .before .before in
-    quiet (c5 .before .before .loop .inv) (c5 .before .loop-test .taken) (c5 .if1 .left) (c .before .before .before .before .stretch .result) (c .before .before .before .before .stretch .ensures) (c .enum-told .given .1)
+    let g = c5 .before .before .loop .inv in
+    let more = c5 .before .loop-test .taken in
+    let room = c5 .if1 .left in
+    let s = c .before .before .before .before .stretch in
+    quiet g more room (s .result) (s .ensures) (c .enum-told .given .1)
 
 keep-requires : tie.Need-keep-requires Inv-loop μ-loop
 keep-requires c κs = search needs
@@ -95,14 +109,24 @@ add-act c =
     let c5 = c .before .before .before .before .before in
     let c10 = c5 .before .before .before .before .before in
     let c15 = c10 .before .before .before .before .before in
-    let m = moved (c10 .loop .inv) (c5 .before .before .before .before .loop-test .taken) (c5 .before .before .before .if1 .left) (c5 .before .before .stretch .result) (c5 .before .before .stretch .ensures) in omega (arith, c10, c15 .before .before .before .before)
+    let g = c10 .loop .inv in
+    let more = c5 .before .before .before .before .loop-test .taken in
+    let room = c5 .before .before .before .if1 .left in
+    let s = c5 .before .before .stretch in
+    let m = moved g more room (s .result) (s .ensures) in
+    omega (arith, c10, c15 .before .before .before .before)
 
 sub-act : tie.Need-sub-act Inv-loop μ-loop
 sub-act c =
     let c5 = c .before .before .before .before .before in
     let c10 = c5 .before .before .before .before .before in
     let c15 = c10 .before .before .before .before .before in
-    let m = moved (c10 .loop .inv) (c5 .before .before .before .before .loop-test .taken) (c5 .before .before .before .if1 .left) (c5 .before .before .stretch .result) (c5 .before .before .stretch .ensures) in omega (arith, c10, c15 .before .before .before .before)
+    let g = c10 .loop .inv in
+    let more = c5 .before .before .before .before .loop-test .taken in
+    let room = c5 .before .before .before .if1 .left in
+    let s = c5 .before .before .stretch in
+    let m = moved g more room (s .result) (s .ensures) in
+    omega (arith, c10, c15 .before .before .before .before)
 
 act-requires : tie.Need-act-requires Inv-loop μ-loop
 act-requires c κs =
@@ -110,7 +134,12 @@ act-requires c κs =
     let c10 = c5 .before .before .before .before .before in
     let c15 = c10 .before .before .before .before .before in
     let c20 = c15 .before .before .before .before .before in
-    let m = moved (c10 .before .loop .inv) (c10 .loop-test .taken) (c5 .before .before .before .before .if1 .left) (c5 .before .before .before .stretch .result) (c5 .before .before .before .stretch .ensures) in (omega (arith, c10 .before, c20), (c10 .before .loop .inv .long ∙ c20 .pre .0 .1), stretched-fits (c10 .before .loop .inv) (c10 .loop-test .taken) (c5 .before .before .before .before .if1 .left) (c5 .before .before .before .stretch .result) (c5 .before .before .before .stretch .ensures))
+    let g = c10 .before .loop .inv in
+    let more = c10 .loop-test .taken in
+    let room = c5 .before .before .before .before .if1 .left in
+    let s = c5 .before .before .before .stretch in
+    let m = moved g more room (s .result) (s .ensures) in
+    (omega (arith, c10 .before, c20), (g .long ∙ c20 .pre .0 .1), stretched-fits g more room (s .result) (s .ensures))
 
 cnt-requires-2 : tie.Need-cnt-requires-2 Inv-loop μ-loop
 cnt-requires-2 c κs = search needs
@@ -128,14 +157,28 @@ loop-less-2 c =
     let c15 = c10 .before .before .before .before .before in
     let c20 = c15 .before .before .before .before .before in
     let c25 = c20 .before .before .before .before .before in
-    let m = moved (c15 .before .before .before .loop .inv) (c15 .before .before .loop-test .taken) (c15 .before .if1 .left) (c15 .stretch .result) (c15 .stretch .ensures) in omega (arith, c15 .before .before .before, c25 .before .before)
+    let g = c15 .before .before .before .loop .inv in
+    let more = c15 .before .before .loop-test .taken in
+    let room = c15 .before .if1 .left in
+    let s = c15 .stretch in
+    let m = moved g more room (s .result) (s .ensures) in
+    omega (arith, c15 .before .before .before, c25 .before .before)
 
 loop-again-2 : tie.Need-loop-again-2 Inv-loop μ-loop
 loop-again-2 c =
     let c5 = c .before .before .before .before .before in
     let c10 = c5 .before .before .before .before .before in
     let c15 = c10 .before .before .before .before .before in
-    silent (c15 .before .before .before .loop .inv) (c15 .before .before .loop-test .taken) (c15 .before .if1 .left) (c15 .stretch .result) (c15 .stretch .ensures) _ _ _ (c5 .before .act .ensures) (c10 .keep .ensures) (c5 .store .given) (c5 .before .before .before .before .tray .given) _ (c .before .before .cnt2 .ensures) (c .enum-told2 .given .1)
+    let g = c15 .before .before .before .loop .inv in
+    let more = c15 .before .before .loop-test .taken in
+    let room = c15 .before .if1 .left in
+    let s = c15 .stretch in
+    let act = c5 .before .act .ensures in
+    let put = c10 .keep .ensures in
+    let store = c5 .store .given in
+    let tray = c5 .before .before .before .before .tray .given in
+    let cnt = c .before .before .cnt2 .ensures in
+    silent g more room (s .result) (s .ensures) _ _ _ act put store tray _ cnt (c .enum-told2 .given .1)
 
 mul-write-record : tie.Need-mul-write-record Inv-loop μ-loop
 mul-write-record c =
@@ -184,7 +227,12 @@ add-joined-2 c =
     let c20 = c15 .before .before .before .before .before in
     let c25 = c20 .before .before .before .before .before in
     let c30 = c25 .before .before .before .before .before in
-    let m = moved (c25 .loop .inv) (c20 .before .before .before .before .loop-test .taken) (c20 .before .before .before .if1 .left) (c20 .before .before .stretch .result) (c20 .before .before .stretch .ensures) in omega (arith, c25, c30 .before .before .before .before)
+    let g = c25 .loop .inv in
+    let more = c20 .before .before .before .before .loop-test .taken in
+    let room = c20 .before .before .before .if1 .left in
+    let s = c20 .before .before .stretch in
+    let m = moved g more room (s .result) (s .ensures) in
+    omega (arith, c25, c30 .before .before .before .before)
 
 joined-requires-2 : tie.Need-joined-requires-2 Inv-loop μ-loop
 joined-requires-2 c κs = search needs
@@ -237,7 +285,19 @@ returns-2 c =
     let c15 = c10 .before .before .before .before .before in
     let c20 = c15 .before .before .before .before .before in
     let c25 = c20 .before .before .before .before .before in
-    rw (c .told2 .ensures, c .before .joined2 .ensures) (framed (c25 .before .before .loop .inv) (c25 .before .loop-test .taken) (c25 .if1 .left) (c20 .before .before .before .before .stretch .result) (c20 .before .before .before .before .stretch .ensures) _ _ _ (c15 .act .ensures) (c15 .before .before .before .before .keep .ensures) (c10 .before .before .before .before .store .given) (c15 .before .before .before .tray .given) _ (c10 .before .cnt2 .ensures) _ _ (c5 .before .before .before .before .cycle .given .1) _ (rw (c5 .before .write-record .ensures) (two-put (c25 .before .before .loop .list) (c25 .before .before .loop .at) _ _ (c25 .if1 .left))) (sym (c .before .before .before .is-frame-head .ensures) ∙ c .before .before .if2 .taken))
+    let g = c25 .before .before .loop .inv in
+    let more = c25 .before .loop-test .taken in
+    let room = c25 .if1 .left in
+    let s = c20 .before .before .before .before .stretch in
+    let act = c15 .act .ensures in
+    let put = c15 .before .before .before .before .keep .ensures in
+    let store = c10 .before .before .before .before .store .given in
+    let tray = c15 .before .before .before .tray .given in
+    let cnt = c10 .before .cnt2 .ensures in
+    let is = c5 .before .before .before .before .cycle .given .1 in
+    let head = sym (c .before .before .before .is-frame-head .ensures) in
+    rw (c .told2 .ensures, c .before .joined2 .ensures)
+    (framed g more room (s .result) (s .ensures) _ _ _ act put store tray _ cnt _ _ is _ (rw (c5 .before .write-record .ensures) (two-put (c25 .before .before .loop .list) (c25 .before .before .loop .at) _ _ room)) (head ∙ c .before .before .if2 .taken))
 
 loop-less-3 : tie.Need-loop-less-3 Inv-loop μ-loop
 loop-less-3 c =
@@ -247,7 +307,12 @@ loop-less-3 c =
     let c20 = c15 .before .before .before .before .before in
     let c25 = c20 .before .before .before .before .before in
     let c30 = c25 .before .before .before .before .before in
-    let m = moved (c25 .loop .inv) (c20 .before .before .before .before .loop-test .taken) (c20 .before .before .before .if1 .left) (c20 .before .before .stretch .result) (c20 .before .before .stretch .ensures) in omega (arith, c25, c30 .before .before .before .before)
+    let g = c25 .loop .inv in
+    let more = c20 .before .before .before .before .loop-test .taken in
+    let room = c20 .before .before .before .if1 .left in
+    let s = c20 .before .before .stretch in
+    let m = moved g more room (s .result) (s .ensures) in
+    omega (arith, c25, c30 .before .before .before .before)
 
 loop-again-3 : tie.Need-loop-again-3 Inv-loop μ-loop
 loop-again-3 c =
@@ -256,7 +321,18 @@ loop-again-3 c =
     let c15 = c10 .before .before .before .before .before in
     let c20 = c15 .before .before .before .before .before in
     let c25 = c20 .before .before .before .before .before in
-    again (c25 .loop .inv) (c20 .before .before .before .before .loop-test .taken) (c20 .before .before .before .if1 .left) (c20 .before .before .stretch .result) (c20 .before .before .stretch .ensures) _ _ _ (c10 .before .before .before .act .ensures) (c15 .before .before .keep .ensures) (c10 .before .before .store .given) (c15 .before .tray .given) _ (c5 .before .before .before .before .cnt2 .ensures) _ _ (c5 .before .before .cycle .given .1) _ (rw (c .before .before .before .before .write-record .ensures) (two-put (c25 .loop .list) (c25 .loop .at) _ _ (c20 .before .before .before .if1 .left))) (sym (c .before .is-frame-head .ensures) ∙ c .if2 .left)
+    let g = c25 .loop .inv in
+    let more = c20 .before .before .before .before .loop-test .taken in
+    let room = c20 .before .before .before .if1 .left in
+    let s = c20 .before .before .stretch in
+    let act = c10 .before .before .before .act .ensures in
+    let put = c15 .before .before .keep .ensures in
+    let store = c10 .before .before .store .given in
+    let tray = c15 .before .tray .given in
+    let cnt = c5 .before .before .before .before .cnt2 .ensures in
+    let is = c5 .before .before .cycle .given .1 in
+    let head = sym (c .before .is-frame-head .ensures) in
+    again g more room (s .result) (s .ensures) _ _ _ act put store tray _ cnt _ _ is _ (rw (c .before .before .before .before .write-record .ensures) (two-put (c25 .loop .list) (c25 .loop .at) _ _ room)) (head ∙ c .if2 .left)
 
 add-joined-3 : tie.Need-add-joined-3 Inv-loop μ-loop
 add-joined-3 c = search needs
