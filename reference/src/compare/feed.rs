@@ -16,7 +16,7 @@ pub enum Way {
 }
 
 /// Longest input that is written a byte at a time, which takes long.
-const BY_BYTES: usize = 2_500;
+const BY_BYTES: usize = 2900;
 
 impl Way {
     pub const ALL: [Way; 3] = [Way::File, Way::Pipe, Way::PipeByBytes];
