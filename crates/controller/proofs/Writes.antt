@@ -13,7 +13,8 @@ use Rattle.controller.specs.declared.Model.{Model}
 use Rattle.controller.specs.Registers.{feenOf}
 use Rattle.controller.specs.Fifos.{Fifos, pushOf, pushIf, writeOf}
 use Rattle.controller.specs.Records.{flagActed}
-use Rattle.controller.specs.Commands.{effect, acted, withPointers, slowRecord, writeFifoOf}
+use Rattle.controller.specs.Parts.{withPointers}
+use Rattle.controller.specs.Commands.{effect, acted, slowRecord, writeFifoOf}
 
 abbrev pub fifos : List ℕ → List ℕ → Fifos
 fifos writes store = record { writes = writes; store = store }

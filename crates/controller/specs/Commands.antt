@@ -13,89 +13,11 @@ use Rattle.controller.specs.declared.Model.{Model}
 use Rattle.controller.specs.declared.Acted.{Acted}
 use Rattle.controller.specs.declared.Cycle.{Cycle}
 use Rattle.controller.specs.declared.Cycle.the-variants.{Nothing}
+use Rattle.controller.specs.Parts.{withRunning, withL1id, withBase, withWarned, withRegisters, withPointers}
 use Rattle.controller.specs.Plan.{existsAt}
 use Rattle.controller.specs.Registers.{registerOf, cntOf, feenOf, readOf, writtenOf}
 use Rattle.controller.specs.Fifos.{movedOn, writeOf, readWordOf}
 use Rattle.controller.specs.Records.{recordOf, kindLv1, kindFast, kindBadFast, kindSlow, kindBadSlow, flagActed, flagFlip, flagSent, flagMissing, flagUnsteady}
-
--- A model with some of its parts replaced.
-abbrev pub withRunning : Bool → Model → Model
-withRunning b m = record {
-  running = b;
-  l1id = m .l1id;
-  base = m .base;
-  wlv1 = m .wlv1;
-  wfst = m .wfst;
-  wslw = m .wslw;
-  registers = m .registers;
-  writes = m .writes;
-  reads = m .reads;
-}
-
-abbrev pub withL1id : ℕ → Model → Model
-withL1id n m = record {
-  running = m .running;
-  l1id = n;
-  base = m .base;
-  wlv1 = m .wlv1;
-  wfst = m .wfst;
-  wslw = m .wslw;
-  registers = m .registers;
-  writes = m .writes;
-  reads = m .reads;
-}
-
-abbrev pub withBase : ℕ → Model → Model
-withBase n m = record {
-  running = m .running;
-  l1id = m .l1id;
-  base = n;
-  wlv1 = m .wlv1;
-  wfst = m .wfst;
-  wslw = m .wslw;
-  registers = m .registers;
-  writes = m .writes;
-  reads = m .reads;
-}
-
-abbrev pub withWarned : Bool → Bool → Bool → Model → Model
-withWarned lv1 fst slw m = record {
-  running = m .running;
-  l1id = m .l1id;
-  base = m .base;
-  wlv1 = lv1;
-  wfst = fst;
-  wslw = slw;
-  registers = m .registers;
-  writes = m .writes;
-  reads = m .reads;
-}
-
-abbrev pub withRegisters : List ℕ → Model → Model
-withRegisters l m = record {
-  running = m .running;
-  l1id = m .l1id;
-  base = m .base;
-  wlv1 = m .wlv1;
-  wfst = m .wfst;
-  wslw = m .wslw;
-  registers = l;
-  writes = m .writes;
-  reads = m .reads;
-}
-
-abbrev pub withPointers : List ℕ → List ℕ → Model → Model
-withPointers writes reads m = record {
-  running = m .running;
-  l1id = m .l1id;
-  base = m .base;
-  wlv1 = m .wlv1;
-  wfst = m .wfst;
-  wslw = m .wslw;
-  registers = m .registers;
-  writes = writes;
-  reads = reads;
-}
 
 abbrev pub acted : Model → Cycle → Acted
 acted m cycle = record { model = m; cycle = cycle }

@@ -1,4 +1,5 @@
 pub mod Plan
+pub mod Parts
 pub mod Registers
 pub mod Fifos
 pub mod Records

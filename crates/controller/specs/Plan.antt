@@ -9,7 +9,7 @@ use Rattle.controller.specs.declared.Plan.{Plan}
 abbrev pub existsAt : Plan → ℕ → Bool
 existsAt plan address = ltb address 16 && eqb (plan .mask / 2 ^ address % 2) 1
 
--- Refusal 1's condition, turned round: CSR, FEEN and CNT are "three different ones in the mask".
+-- Number 1 does not apply: CSR, FEEN and CNT are "three different ones in the mask".
 unfoldable pub planFits : Plan → Bool
 planFits plan =
     existsAt plan (plan .csr)

@@ -20,7 +20,8 @@ use Rattle.controller.specs.declared.Plan.{Plan}
 use Rattle.controller.specs.declared.Model.{Model}
 use Rattle.controller.specs.Records.{wordsOf}
 use Rattle.controller.specs.Registers.{registerOf}
-use Rattle.controller.specs.Commands.{actOf, fastEffect, withBase, withL1id, withPointers, zeros16}
+use Rattle.controller.specs.Parts.{withBase, withL1id, withPointers}
+use Rattle.controller.specs.Commands.{actOf, fastEffect, zeros16}
 use Rattle.decoder.specs.Entries.{entryWords}
 use Rattle.damage.specs.Records.{Counters, counters, entriesOf, counted}
 use Rattle.damage.proofs.Computed.{by-test}

@@ -26,18 +26,19 @@ pub record Call : Type 0 where
   pub list : List ℕ
   pub free : ℕ
 
+-- The bits of the call's range.
 abbrev pub offered : Call → List ℕ
 offered c = bitsOf (c .input) (c .first) (c .count)
 
--- Refusal 4, turned round, of the lengths of store, tray and list, and the first free word: it is not past the list's end.
+-- Number 4 does not apply, by the lengths of store, tray and list, and the first free word: it is not past the list's end.
 abbrev pub buffersFit : ℕ → ℕ → ℕ → ℕ → Bool
 buffersFit store tray list free = eqb store storeLength && (eqb tray trayLength && leb free list)
 
--- Refusal 5, turned round, of the input's length and the range.
+-- Number 5 does not apply, by the input's length and the range.
 abbrev pub rangeFits : ℕ → ℕ → ℕ → Bool
 rangeFits input first count = leb input inputLimit && leb (first + count) (8 * input)
 
--- Refusal 6, turned round, of the next cycle and the count.
+-- Number 6 does not apply, by the next cycle and the count.
 abbrev pub clockFits : ℕ → ℕ → Bool
 clockFits next count = leb (next + count) clockLimit
 

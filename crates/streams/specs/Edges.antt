@@ -12,7 +12,7 @@ use Rattle.recogniser.specs.declared.Recogniser.{Recogniser}
 use Rattle.recogniser.specs.Parts.{startOf}
 use Rattle.recogniser.specs.Fields.{lengthOf}
 use Rattle.recogniser.specs.Step.{stepOf}
-use Rattle.controller.specs.Commands.{withRunning}
+use Rattle.controller.specs.Parts.{withRunning}
 use Rattle.frames.specs.Tray.{partOf}
 use Rattle.controller.specs.Plan.{defaultPlan}
 use Rattle.controller.specs.Records.{frameBitsOf}

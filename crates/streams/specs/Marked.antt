@@ -7,7 +7,7 @@ use Prim.Native.Nat.{ℕ, zero, suc}
 use lib.ListN.{length, replicate, set, take, drop}
 use Rattle.bits.specs.Bits.{numberOf}
 use Rattle.controller.specs.Plan.{defaultPlan}
-use Rattle.controller.specs.Commands.{withRunning, withRegisters}
+use Rattle.controller.specs.Parts.{withRunning, withRegisters}
 use Rattle.decoder.specs.declared.Decoder.{Decoder}
 use Rattle.decoder.specs.declared.Ending.{Ending}
 use Rattle.decoder.specs.Limits.{storeLength, trayLength}
