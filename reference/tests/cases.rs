@@ -1,7 +1,8 @@
 //! The cases for comparison: names, repeatability, and how the outputs of
 //! the three programs hang together.
 
-use reference::cases::{generated, kept, Case};
+use reference::cases::{generated, golden, kept, Case};
+use reference::printed::Program;
 use reference::{model, reading, station};
 use std::collections::HashSet;
 
@@ -45,10 +46,10 @@ fn the_three_outputs_hang_together() {
         assert!(records.eq(two.lines()), "{}", case.name);
         let state = three.strip_prefix(&two).unwrap();
         assert!(state.starts_with("register 0 "), "{}", case.name);
-        if let Some(line) = two.lines().find(|line| line.starts_with('!')) {
-            assert!(case.name.starts_with("refusals/"), "{}", case.name);
-            refused.insert(line[1..3].to_string());
-        }
+        let refusal = two.lines().find(|line| line.starts_with('!'));
+        let named = case.name.starts_with("refusals/");
+        assert_eq!(refusal.is_some(), named, "{}", case.name);
+        refused.extend(refusal.map(|line| line[1..3].to_string()));
     }
     assert_eq!(refused, HashSet::from(["07".to_string(), "08".to_string()]));
 }
@@ -78,5 +79,54 @@ fn marked_cases() {
         station(&case.input[..], &mut out).unwrap();
         let wanted = format!("000000000010 28 01 00000000\n{lines}");
         assert_eq!(String::from_utf8(out).unwrap(), wanted, "{start}");
+    }
+}
+
+#[test]
+fn cases_cover_what_they_should() {
+    let names: Vec<String> = kept().into_iter().map(|case| case.name).collect();
+    let count = |start: &str| names.iter().filter(|name| name.starts_with(start)).count();
+    assert_eq!(count("marked/"), 28);
+    for (table, rows) in [(4, 10), (5, 14), (6, 14), (7, 14), (8, 14), (9, 14)] {
+        // In and out of RunMode.
+        assert_eq!(count(&format!("tables/1-{table}/")), 2 * rows);
+    }
+    for name in ["0", "1", "7", "8", "9", "8247"] {
+        for kind in ["wr", "rd"] {
+            assert!(names.contains(&format!("frames/{kind}-{name}")));
+        }
+    }
+    assert!(names.contains(&"frames/receiver-65528".to_string()));
+    let lines = |case: &Case| case.input.iter().filter(|&&byte| byte == b'\n').count();
+    let long = generated(400)
+        .iter()
+        .filter(|case| lines(case) > 300)
+        .count();
+    assert!(long >= 40, "{long}");
+}
+
+/// Golden files are few kilobytes of text, and have each number of a line.
+#[test]
+fn golden_files_are_short() {
+    let mut refused = Vec::new();
+    for case in golden() {
+        for program in Program::ALL {
+            let printed = String::from_utf8(program.prints(&case.input)).unwrap();
+            assert!(printed.len() < 3_000, "{}", case.name);
+            refused.extend(
+                printed
+                    .lines()
+                    .filter_map(|line| line.strip_prefix('!'))
+                    .map(|line| line[..2].to_string()),
+            );
+        }
+        assert!(
+            case.input.is_ascii() && case.input.len() < 1_000,
+            "{}",
+            case.name
+        );
+    }
+    for number in ["07", "08"] {
+        assert!(refused.iter().any(|refused| refused == number));
     }
 }

@@ -1,5 +1,6 @@
 //! Cases for comparison with another reader: names and input lines.
 
+mod capture;
 mod commands;
 mod controller;
 mod frames;
@@ -49,6 +50,7 @@ pub fn kept() -> Vec<Case> {
     cases.extend(frames::cases());
     cases.extend(commands::cases());
     cases.extend(controller::cases());
+    cases.extend(capture::cases());
     cases
 }
 

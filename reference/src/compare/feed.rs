@@ -16,7 +16,7 @@ pub enum Way {
 }
 
 /// Longest input that is written a byte at a time, which takes long.
-const BY_BYTES: usize = 2900;
+const BY_BYTES: usize = 2_900;
 
 impl Way {
     pub const ALL: [Way; 3] = [Way::File, Way::Pipe, Way::PipeByBytes];
@@ -43,8 +43,7 @@ impl Way {
     }
 
     /// Writes the input into a pipe and closes it, while the program reads.
-    /// A program that ends ahead of its input is no fault of its own, so a
-    /// failed write only ends the writing.
+    /// A program may end ahead of its input, so a failed write is no fault.
     pub fn feed(self, mut pipe: ChildStdin, input: &Arc<[u8]>) {
         let input = Arc::clone(input);
         thread::spawn(move || match self {
@@ -54,11 +53,13 @@ impl Way {
     }
 }
 
+/// Writes bytes one by one, with time enough for the program to have begun
+/// to read, and then to read each byte alone.
 fn write_bytes(mut pipe: ChildStdin, input: &[u8]) -> io::Result<()> {
+    thread::sleep(Duration::from_millis(3));
     for byte in input.chunks(1) {
         pipe.write_all(byte)?;
         pipe.flush()?;
-        // Time enough for the program to read this byte alone.
         thread::sleep(Duration::from_micros(1));
     }
     Ok(())

@@ -1,0 +1,190 @@
+//! The comparison passes the programs themselves and turns wrong ones away.
+
+use reference::cases::{kept, Case};
+use reference::compare::case;
+use reference::compare::fault::Fault;
+use reference::compare::live;
+use reference::compare::scratch::Scratch;
+use reference::compare::tally::Tally;
+use reference::compare::tested::Tested;
+use reference::printed::Program;
+use std::fs::{self, Permissions};
+use std::os::unix::fs::PermissionsExt;
+use std::path::{Path, PathBuf};
+use std::sync::OnceLock;
+use std::time::{Duration, Instant};
+
+/// Scripts that stand in for all three programs; REAL is the program itself.
+const SCRIPTS: [(&str, &str); 9] = [
+    ("real", "exec REAL"),
+    ("drops-a-line", "REAL | sed 2d"),
+    ("hangs", "exec sleep 1000"),
+    ("hangs-after-its-output", "REAL; exec sleep 1000 >&-"),
+    ("prints-for-ever", "exec yes"),
+    (
+        "reads-all-first",
+        "d=$(cat; echo x); printf %s \"${d%x}\" | REAL",
+    ),
+    ("reads-after-a-refusal", "REAL; exec cat"),
+    ("crashes", "REAL; kill -SEGV $$"),
+    ("fails", "REAL; exit 3"),
+];
+
+/// Their folders. All are written ahead of the first start of a program: a
+/// file open for writing cannot be run, not even by another thread.
+fn scripts() -> &'static Path {
+    static FOLDER: OnceLock<PathBuf> = OnceLock::new();
+    FOLDER.get_or_init(|| {
+        let folder = Path::new(env!("CARGO_TARGET_TMPDIR")).join("scripts");
+        let real = Path::new(env!("CARGO_BIN_EXE_station")).parent().unwrap();
+        for (name, script) in SCRIPTS {
+            fs::create_dir_all(folder.join(name)).unwrap();
+            for program in Program::ALL.map(Program::name) {
+                let path = folder.join(name).join(program);
+                let real = real.join(program).display().to_string();
+                let script = script.replace("REAL", &format!("'{real}'"));
+                fs::write(&path, format!("#!/bin/sh\n{script}\n")).unwrap();
+                fs::set_permissions(&path, Permissions::from_mode(0o755)).unwrap();
+            }
+        }
+        folder
+    })
+}
+
+fn tested(script: &str) -> Tested {
+    Tested::new(&scripts().join(script))
+}
+
+/// With limits that a right program keeps to all the same.
+fn impatient(script: &str) -> Tested {
+    let mut tested = tested(script);
+    tested.run_limit = Duration::from_millis(400);
+    tested.line_limit = Duration::from_millis(400);
+    tested
+}
+
+fn named(name: &str) -> Case {
+    kept().into_iter().find(|case| case.name == name).unwrap()
+}
+
+fn faults(tested: &Tested, name: &str) -> Vec<Option<Fault>> {
+    let scratch = Scratch::new().unwrap();
+    let checks = case::check(tested, &named(name), &scratch);
+    checks.into_iter().map(|check| check.fault).collect()
+}
+
+fn live_faults(tested: &Tested) -> Vec<Option<Fault>> {
+    let checks = live::cases()
+        .into_iter()
+        .flat_map(|live| live::check(tested, &live));
+    checks.map(|check| check.fault).collect()
+}
+
+#[test]
+fn the_programs_themselves_pass() {
+    for folder in ["real", "fails"] {
+        let tested = tested(folder);
+        for name in [
+            "paper/listing",
+            "frames/wr-9",
+            "refusals/odd",
+            "lines/empty-input",
+        ] {
+            let faults = faults(&tested, name);
+            // Three programs, three ways.
+            assert_eq!(faults, vec![None; 9], "{folder}, {name}");
+        }
+        assert!(live_faults(&tested).iter().all(Option::is_none), "{folder}");
+    }
+    // Long inputs are not written a byte at a time.
+    assert_eq!(
+        faults(&tested("real"), "refusals/200000-digits"),
+        vec![None; 6]
+    );
+    assert_eq!(
+        faults(&tested("real"), "frames/receiver-65528"),
+        vec![None; 6]
+    );
+}
+
+#[test]
+fn wrong_output_is_told_with_its_place() {
+    let tested = tested("drops-a-line");
+    let scratch = Scratch::new().unwrap();
+    let checks = case::check(&tested, &named("paper/listing"), &scratch);
+    assert_eq!(checks.len(), 9);
+    let mut tally = Tally::default();
+    tally.add(checks);
+    let first = "FAILED station, paper/listing, as a file: differs at byte 40, line 2: \
+                 wanted \"000000000015 01 05 00000015\\n\", got \"00000000001C 01 07 0000011C\\n\"";
+    let text = tally.to_string();
+    assert_eq!(text.lines().next(), Some(first));
+    assert!(text.ends_with("\n0 passed, 9 failed"));
+}
+
+#[test]
+fn output_without_end_is_cut_off() {
+    let begun = Instant::now();
+    for fault in faults(&tested("prints-for-ever"), "paper/listing") {
+        assert!(matches!(fault, Some(Fault::Differs(_))), "{fault:?}");
+    }
+    assert!(begun.elapsed() < Duration::from_secs(8));
+}
+
+#[test]
+fn a_program_that_hangs_is_killed_and_given_up() {
+    let mut tested = impatient("hangs");
+    tested.run_limit = Duration::from_millis(100);
+    for fault in faults(&tested, "paper/listing") {
+        assert!(matches!(fault, Some(Fault::Hangs(Some(_)))), "{fault:?}");
+    }
+    let again = Some(Fault::GivenUp);
+    assert_eq!(faults(&tested, "frames/wr-9"), vec![again; 9]);
+}
+
+#[test]
+fn a_program_that_hangs_after_its_output_is_killed_too() {
+    for fault in faults(&impatient("hangs-after-its-output"), "paper/listing") {
+        assert_eq!(fault, Some(Fault::Hangs(None)));
+    }
+}
+
+#[test]
+fn a_crash_shows() {
+    let faults = faults(&tested("crashes"), "paper/listing");
+    assert_eq!(faults, vec![Some(Fault::Crashes); 9]);
+}
+
+#[test]
+fn a_program_that_is_not_there_shows() {
+    for fault in faults(&tested("none"), "paper/listing") {
+        assert!(matches!(fault, Some(Fault::NotStarted(_))), "{fault:?}");
+    }
+}
+
+/// One that reads all its input first is right on files and closed pipes.
+#[test]
+fn a_lagging_program_fails_on_a_live_pipe_only() {
+    let tested = impatient("reads-all-first");
+    let listing = &live::cases()[0];
+    for check in live::check(&tested, listing) {
+        assert_eq!(check.fault, Some(Fault::LagsAtLine(1)), "{}", check.name);
+    }
+    let tested = self::tested("reads-all-first");
+    assert_eq!(faults(&tested, "refusals/odd"), vec![None; 9]);
+}
+
+/// A refused line ends the run, though the pipe stays open.
+#[test]
+fn reading_on_after_a_refused_line_fails_on_a_live_pipe() {
+    for live in live::cases() {
+        let (make, wanted) = if live.left_open {
+            (impatient as fn(&str) -> Tested, Some(Fault::Hangs(None)))
+        } else {
+            (tested as fn(&str) -> Tested, None)
+        };
+        for check in live::check(&make("reads-after-a-refusal"), &live) {
+            assert_eq!(check.fault, wanted, "{}", check.name);
+        }
+    }
+}
