@@ -5,53 +5,15 @@
 mod plain;
 mod streams;
 
+use bench::{take_fresh, Buffers};
 use reference::{open, take, Plan};
 use std::time::Instant;
-
-extern "C" {
-    /// Opens with the default plan at cycle 0 and takes bits; answers the
-    /// records written. A slice passes as a pointer and then a length.
-    fn kernelstill_take_fresh(
-        input: *const u8,
-        input_length: usize,
-        first: usize,
-        count: usize,
-        store: *mut u32,
-        store_length: usize,
-        tray: *mut u8,
-        tray_length: usize,
-        list: *mut u64,
-        list_length: usize,
-        free: usize,
-    ) -> usize;
-}
 
 const CALL: usize = 65_536;
 const TURNS: usize = 40;
 
-struct Buffers {
-    store: Vec<u32>,
-    tray: Vec<u8>,
-    list: Vec<u64>,
-}
-
 fn proved(input: &[u8], b: &mut Buffers) -> usize {
-    // Each slice is lent for this call only, and no two overlap.
-    unsafe {
-        kernelstill_take_fresh(
-            input.as_ptr(),
-            input.len(),
-            0,
-            8 * input.len(),
-            b.store.as_mut_ptr(),
-            b.store.len(),
-            b.tray.as_mut_ptr(),
-            b.tray.len(),
-            b.list.as_mut_ptr(),
-            b.list.len(),
-            0,
-        )
-    }
+    take_fresh(input, 0, 8 * input.len(), b, 0)
 }
 
 fn separate(input: &[u8], b: &mut Buffers) -> usize {
