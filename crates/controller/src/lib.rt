@@ -7,7 +7,7 @@ ghost use lib.ListN.{length};
 ghost use Rattle.controller.specs.Plan.{existsAt, planFits, defaultPlan};
 ghost use Rattle.controller.specs.Registers.{registerOf, cntOf, warningsOf, withWarnings, readOf};
 ghost use Rattle.controller.specs.Fifos.{movedOn, writeOf, readWordOf};
-ghost use Rattle.controller.specs.Records.{recordOf, isFrameHead};
+ghost use Rattle.controller.specs.Records.{kindOf, recordOf, isFrameHead, frameBitsOf};
 ghost use Rattle.controller.specs.Commands.{acted, bunchOf, lv1Of, fastOf, badFastOf, leaveOf, writeRegisterOf, readRegisterOf, writeFifoOf, readFifoOf, enableOf, resetOf, resetFrontEndsOf, badSlowOf, frameValueOf, frameOf, slowOf, actOf};
 ghost use Rattle.controller.specs.Sound.{eventFits, pointersFit, missingZero};
 use recogniser::Event;
@@ -116,6 +116,16 @@ pub fn is_frame_head(head: u64) -> bool
 {
     let kind = head / 256 % 256;
     (0x24 <= kind) & (kind <= 0x26)
+}
+
+// A frame's count of bits, off the two words of its record.
+pub fn frame_bits(head: u64, value: u64) -> usize
+    ensures { λ r. ⌜ r ≡ frameBitsOf (kindOf head) value ⌝ }
+{
+    if head / 256 % 256 == 0x26 {
+        return value as usize;
+    }
+    (value / 65536 + value % 65536) as usize
 }
 
 // Bits 8, 9 and 10 of a number replaced.
@@ -269,7 +279,7 @@ impl Model {
     }
 
     // A register as it reads: CSR with the warnings in it.
-    fn read(self, plan: Plan, address: u8) -> u16
+    pub fn read(self, plan: Plan, address: u8) -> u16
         ensures { λ r. ⌜ r ≡ readOf plan self address ⌝ }
     {
         let value = self.register(address);

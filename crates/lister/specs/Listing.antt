@@ -1,0 +1,74 @@
+-- The listing: what a program prints for the lines of its input (document 01, "Streams with their records": the station program).
+-- Assumes nothing.
+use mathlib.Core.Bool.{Bool, cond, _&&_}
+use mathlib.Core.List.{List, [], _∷_, _++_}
+use Prim.Native.Nat.{ℕ, _+_, _*_, _%_, _^_}
+use lib.Dec.{eqb}
+use lib.ListN.{length}
+use Rattle.bits.specs.Bits.{bitsOf}
+use Rattle.frames.specs.Tray.{partOf}
+use Rattle.controller.specs.declared.Cycle.{Cycle}
+use Rattle.controller.specs.declared.Cycle.the-variants.{Nothing, Record}
+use Rattle.controller.specs.Records.{kindOf, isFrameHead, frameBitsOf}
+use Rattle.decoder.specs.Run.{stateAfter}
+use Rattle.decoder.specs.Turn.{World, turnOf}
+use Rattle.decoder.specs.Take.{clockFits}
+use Rattle.listing.specs.Line.{Hex}
+use Rattle.listing.specs.Records.{recordLine, refusedLine, frameLine}
+
+-- "after a frame of at least one bit, ">" and its bytes"; a program may leave the frames out.
+abbrev pub frameText : Bool → List ℕ → ℕ → ℕ → List ℕ
+frameText frames tray head value =
+    let bits = frameBitsOf (kindOf head) value in
+    cond (frames && isFrameHead head) (cond (eqb bits 0) [] (frameLine (partOf tray bits))) []
+
+-- "a line a record"
+unfoldable pub recordText : Bool → List ℕ → ℕ → ℕ → List ℕ
+recordText frames tray head value = recordLine head value ++ frameText frames tray head value
+
+-- The records of a taking call, from their words. A frame's record is the last, so that the tray still holds the frame.
+unfoldable pub wordsText : Bool → List ℕ → List ℕ → List ℕ
+wordsText frames tray [] = []
+wordsText frames tray (head ∷ []) = []
+wordsText frames tray (head ∷ value ∷ words) = recordText frames tray head value ++ wordsText frames tray words
+
+-- The same cycle by cycle, whatever the taking calls are.
+abbrev pub cycleText : Bool → World → Cycle → List ℕ
+cycleText frames w Nothing = []
+cycleText frames w (Record head value) = recordText frames (w .tray) head value
+
+unfoldable pub bitsText : Bool → World → List ℕ → List ℕ
+bitsText frames w [] = []
+bitsText frames w (bit ∷ bits) =
+    let t = turnOf w bit in
+    cycleText frames (t .state) (t .cycle) ++ bitsText frames (t .state) bits
+
+-- All that a run prints, and the state, store and tray that it leaves.
+pub record Outcome : Type 0 where
+  pub text : List ℕ
+  pub world : World
+
+abbrev pub outcome : List ℕ → World → Outcome
+outcome text w = record { text = text; world = w }
+
+abbrev pub printed : List ℕ → Outcome → Outcome
+printed text o = outcome (text ++ o .text) (o .world)
+
+-- A line's bits, and then the rest of the run, given at each state. At the clock's end they are turned away by number 6, and the run ends.
+abbrev pub bitsThen : Bool → World → List ℕ → (World → Outcome) → Outcome
+bitsThen frames w bits rest =
+    cond (clockFits (w .decoder .next) (length bits))
+    (printed (bitsText frames w bits) (rest (stateAfter turnOf w bits)))
+    (outcome [] w)
+
+-- "the line's number from 1", counted in 64 bits.
+abbrev pub lineAfter : ℕ → ℕ
+lineAfter n = (n + 1) % 2 ^ 64
+
+-- The lines by what they say, after so many that have ended: "A refused line prints .. and ends the run."
+unfoldable pub listingOf : Bool → World → ℕ → List Hex → Outcome
+listingOf frames w n [] = outcome [] w
+listingOf frames w n (hex ∷ hexes) =
+    cond (eqb (hex .number) 0)
+    (bitsThen frames w (bitsOf (hex .bytes) 0 (8 * length (hex .bytes))) (λ v. listingOf frames v (lineAfter n) hexes))
+    (outcome (refusedLine (hex .number) (lineAfter n)) w)
