@@ -210,7 +210,8 @@ fn put_bytes(out: &mut [u8], at: usize, bytes: &[u8]) -> usize
 }
 
 // Reads a hexadecimal line, which has no line feed, into the start of a lent buffer. A refused line changes nothing.
-pub fn hex_line(line: &[u8], bytes: &mut [u8; 32]) -> HexLine
+pub fn read_line(line: &[u8], bytes: &mut [u8]) -> HexLine
+    requires { ⌜ 32 ≤ length (now bytes) ⌝ }
     ensures { λ r. ⌜ readAs r (now (bytes .exit)) ≡ readOf (now (line .entry)) (now (bytes .entry)) ⌝ }
 {
     let seen = Seen::fresh().with_all(line);
@@ -224,6 +225,13 @@ pub fn hex_line(line: &[u8], bytes: &mut [u8; 32]) -> HexLine
         HexLine::WrongCharacter => HexLine::WrongCharacter,
         HexLine::WrongLength => HexLine::WrongLength,
     }
+}
+
+// The same into a buffer of the longest line's bytes.
+pub fn hex_line(line: &[u8], bytes: &mut [u8; 32]) -> HexLine
+    ensures { λ r. ⌜ readAs r (now (bytes .exit)) ≡ readOf (now (line .entry)) (now (bytes .entry)) ⌝ }
+{
+    read_line(line, bytes)
 }
 
 // A number's digits at a place of a buffer, as many as the width says; the last is written first.

@@ -1,0 +1,52 @@
+-- `fits` writes the state that the words read as, and compares.
+-- Assumes nothing.
+use mathlib.Core.Bool.{true, _&&_}
+use mathlib.Core.List.{List}
+use mathlib.Core.Path.{sym, ap, _∙_}
+use Prim.Native.Nat.{ℕ}
+use lib.ListN.{length}
+use borrow.Author.Needs.{needs}
+use borrow.Author.Tests.{eq-eqb, ne-eqb}
+use Rattle.decoder.specs.declared.Decoder.{Decoder}
+use Rattle.image.specs.Image.{imageLength, imageOf, sameWords, imageFits}
+use Rattle.image.proofs.fits.Statement.{statement}
+use Rattle.image.proofs.fits.Tie as tie
+
+returns : tie.Need-returns
+unfolding imageFits
+returns c = let image = c .before .before .args .image .now in simp (ne-eqb (length image) imageLength (c .if1 .taken))
+
+read-requires : tie.Need-read-requires
+read-requires c κs = search needs
+
+slice-aggregate-write : tie.Need-slice-aggregate-write
+slice-aggregate-write c = search needs
+
+write-requires : tie.Need-write-requires
+write-requires c κs = search needs
+
+slice-aggregate-same : tie.Need-slice-aggregate-same
+slice-aggregate-same c = search needs
+
+same-requires : tie.Need-same-requires
+same-requires c κs = search needs
+
+returns-2 : tie.Need-returns-2
+unfolding imageFits
+returns-2 c =
+    let c5 = c .before .before .before .before .before in
+    let image = c5 .before .before .before .args .image .now in
+    simp (eq-eqb (length image) imageLength (c5 .before .if1 .left))
+    (c .same .ensures ∙ ap (λ (w : List ℕ). sameWords w image) (c .before .before .before .write .ensures .0 ∙ ap imageOf (c5 .read .ensures)))
+
+pub fits-spec : {M : Type 1} → statement M
+fits-spec =
+    tie.close
+    (tie.spec
+    returns
+    read-requires
+    slice-aggregate-write
+    write-requires
+    slice-aggregate-same
+    same-requires
+    returns-2)

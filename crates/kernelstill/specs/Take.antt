@@ -1,0 +1,70 @@
+-- A taking call on an image: the call on the state that the image reads as.
+-- Assumes nothing.
+use mathlib.Core.Bool.{Bool, cond, _&&_}
+use mathlib.Core.List.{List, [], _∷_}
+use Prim.Native.Nat.{ℕ}
+use lib.Dec.{eqb}
+use lib.ListN.{length}
+use Rattle.decoder.specs.declared.Ending.{Ending}
+use Rattle.decoder.specs.declared.Ending.the-variants.{Done, Frame, ListFull, Unsound, WrongBuffers, WrongRange, ClockOver}
+use Rattle.decoder.specs.declared.Told.{Told}
+use Rattle.decoder.specs.Sound.{soundOf}
+use Rattle.decoder.specs.Take.{Call, Left, takeOf, endingNumber}
+use Rattle.image.specs.Image.{imageOf, stateOf, imageFits}
+
+-- A refusal number, 0 for none, and each buffer's later contents.
+pub record TakeLeft : Type 0 where
+  pub number : ℕ
+  pub image : List ℕ
+  pub told : List ℕ
+  pub store : List ℕ
+  pub tray : List ℕ
+  pub list : List ℕ
+
+-- The three endings of a call that is not refused; a refusal has its number instead.
+abbrev pub endingCode : Ending → ℕ
+endingCode Done = 0
+endingCode Frame = 1
+endingCode ListFull = 2
+endingCode Unsound = 0
+endingCode WrongBuffers = 0
+endingCode WrongRange = 0
+endingCode ClockOver = 0
+
+abbrev pub toldLength : ℕ
+toldLength = 3
+
+-- What a call tells: "bits taken, records written, and one ending".
+abbrev pub wordsTold : Told → List ℕ
+wordsTold t = t .bits ∷ t .records ∷ endingCode (t .ending) ∷ []
+
+-- Turned away: every buffer as it was lent.
+abbrev pub turnedAway : ℕ → List ℕ → List ℕ → Call → TakeLeft
+turnedAway number image told c =
+    record { number = number; image = image; told = told; store = c .store; tray = c .tray; list = c .list }
+
+-- What a call on the state left: where it is not refused, the next state as an image, and what it tells.
+abbrev pub handedOn : List ℕ → List ℕ → Left → TakeLeft
+handedOn image told l =
+    let number = endingNumber (l .taken .told .ending) in
+    let fit = eqb number 0 in
+    record {
+      number = number;
+      image = cond fit (imageOf (l .taken .decoder)) image;
+      told = cond fit (wordsTold (l .taken .told)) told;
+      store = l .store;
+      tray = l .tray;
+      list = l .list;
+    }
+
+-- Number 3 does not apply: the words are the image of a sound state.
+abbrev pub soundImage : List ℕ → Bool
+soundImage image = imageFits image && soundOf (stateOf image)
+
+-- Number 3 also for an image that is malformed, number 4 also where there are not three words for what is told.
+unfoldable pub takeLeftOf : List ℕ → List ℕ → Call → TakeLeft
+takeLeftOf image told c =
+    cond (soundImage image)
+    (cond (eqb (length told) toldLength) (handedOn image told (takeOf (stateOf image) c))
+    (turnedAway 4 image told c))
+    (turnedAway 3 image told c)

@@ -1,0 +1,223 @@
+// The library for hosts that are not written in Rattle: the public calls on numbers and slices, with the state as an image in words.
+// include/kernelstill.h declares these functions. None asks anything of its caller.
+ghost use mathlib.Core.Path.{_≡_};
+ghost use lib.ListN.{length};
+ghost use Rattle.controller.specs.Records.{kindOf, frameBitsOf};
+ghost use Rattle.decoder.specs.Opening.{openingNumber};
+ghost use Rattle.decoder.specs.Take.{endingNumber};
+ghost use Rattle.frames.specs.Tray.{partOf};
+ghost use Rattle.kernelstill.specs.Open.{emptyPlan, planOf, openLeftOf};
+ghost use Rattle.kernelstill.specs.Take.{endingCode, wordsTold, soundImage, takeLeftOf};
+ghost use Rattle.kernelstill.specs.Lines.{hexLeftOf, recordLeftOf};
+use controller::Plan;
+use decoder::Decoder;
+use decoder::Ending;
+use decoder::Opening;
+use decoder::Told;
+
+// The words that a taking call tells.
+const TOLD_WORDS: usize = 3;
+
+// Refusal numbers that the wrapped calls do not answer by themselves.
+const UNSOUND: u64 = 3;
+
+const WRONG_BUFFERS: u64 = 4;
+
+// The plan without a register, which does not open.
+fn empty_plan() -> Plan
+    ensures { λ r. ⌜ r ≡ emptyPlan ⌝ }
+{
+    Plan {
+        mask: 0,
+        csr: 0,
+        feen: 0,
+        cnt: 0,
+    }
+}
+
+// The plan of numbers of any size; numbers wider than a plan's make the empty one.
+fn plan_of(mask: u64, csr: u64, feen: u64, cnt: u64) -> Plan
+    ensures { λ r. ⌜ r ≡ planOf mask csr feen cnt ⌝ }
+{
+    if 65536 <= mask {
+        return empty_plan();
+    }
+    if 256 <= csr {
+        return empty_plan();
+    }
+    if 256 <= feen {
+        return empty_plan();
+    }
+    if 256 <= cnt {
+        return empty_plan();
+    }
+    Plan {
+        mask: mask as u16,
+        csr: csr as u8,
+        feen: feen as u8,
+        cnt: cnt as u8,
+    }
+}
+
+fn opening_number(opening: Opening) -> u64
+    ensures { λ r. ⌜ r ≡ openingNumber opening ⌝ }
+{
+    match opening {
+        Opening::Accepted => 0,
+        Opening::WrongPlan => 1,
+        Opening::WrongCycle => 2,
+    }
+}
+
+fn ending_number(ending: Ending) -> u64
+    ensures { λ r. ⌜ r ≡ endingNumber ending ⌝ }
+{
+    match ending {
+        Ending::Done => 0,
+        Ending::Frame => 0,
+        Ending::ListFull => 0,
+        Ending::Unsound => 3,
+        Ending::WrongBuffers => 4,
+        Ending::WrongRange => 5,
+        Ending::ClockOver => 6,
+    }
+}
+
+fn ending_code(ending: Ending) -> u64
+    ensures { λ r. ⌜ r ≡ endingCode ending ⌝ }
+{
+    match ending {
+        Ending::Done => 0,
+        Ending::Frame => 1,
+        Ending::ListFull => 2,
+        Ending::Unsound => 0,
+        Ending::WrongBuffers => 0,
+        Ending::WrongRange => 0,
+        Ending::ClockOver => 0,
+    }
+}
+
+// Opening: the start state's image, and the refusal number.
+#[no_mangle]
+pub extern "C" fn kernelstill_open(
+    mask: u64,
+    csr: u64,
+    feen: u64,
+    cnt: u64,
+    cycle: u64,
+    image: &mut [u64],
+) -> u64
+    ensures { λ r. ⌜ (record { number = r; image = now (image .exit) }) ≡ openLeftOf mask csr feen cnt cycle (now (image .entry)) ⌝ }
+{
+    let plan = plan_of(mask, csr, feen, cnt);
+    let opened = Decoder::start(plan, cycle);
+    let opening = opened.opening;
+    let number = opening_number(opening);
+    if image.len() != image::WORDS {
+        if number == 0 {
+            return UNSOUND;
+        }
+        return number;
+    }
+    let decoder = opened.decoder;
+    image::write(decoder, image);
+    number
+}
+
+// Whether the words are the image of a sound state.
+fn sound_image(image: &[u64]) -> bool
+    ensures { λ r. ⌜ r ≡ soundImage (now (image .entry)) ⌝ }
+{
+    if !image::fits(image) {
+        return false;
+    }
+    let decoder = image::read(image);
+    decoder.sound()
+}
+
+// What a taking call tells, in three words.
+fn tell(told: &mut [u64], answer: Told)
+    requires { ⌜ length (now told) ≡ 3 ⌝ }
+    ensures { λ _. ⌜ now (told .exit) ≡ wordsTold answer ⌝ }
+{
+    let ending = answer.ending;
+    told[0] = answer.bits as u64;
+    told[1] = answer.records as u64;
+    told[2] = ending_code(ending);
+}
+
+// Taking bits: the image, the store and the tray move on, records go into the list, and what the call tells into three words.
+#[no_mangle]
+pub extern "C" fn kernelstill_take(
+    image: &mut [u64],
+    input: &[u8],
+    first: usize,
+    count: usize,
+    store: &mut [u32],
+    tray: &mut [u8],
+    list: &mut [u64],
+    free: usize,
+    told: &mut [u64],
+) -> u64
+    ensures { λ r. ⌜ (record { number = r; image = now (image .exit); told = now (told .exit); store = now (store .exit); tray = now (tray .exit); list = now (list .exit) }) ≡ takeLeftOf (now (image .entry)) (now (told .entry)) (record { input = now (input .entry); first = first; count = count; store = now (store .entry); tray = now (tray .entry); list = now (list .entry); free = free }) ⌝ }
+{
+    if !sound_image(image) {
+        return UNSOUND;
+    }
+    if told.len() != TOLD_WORDS {
+        return WRONG_BUFFERS;
+    }
+    let decoder = image::read(image);
+    let taken = decoder.take(input, first, count, store, tray, list, free);
+    let answer = taken.told;
+    let ending = answer.ending;
+    let number = ending_number(ending);
+    if number != 0 {
+        return number;
+    }
+    tell(told, answer);
+    let next = taken.decoder;
+    image::write(next, image);
+    0
+}
+
+// A frame's count of bits, off the two words of its record.
+#[no_mangle]
+pub extern "C" fn kernelstill_frame_bits(head: u64, value: u64) -> u64
+    ensures { λ r. ⌜ r ≡ frameBitsOf (kindOf head) value ⌝ }
+{
+    controller::frame_bits(head, value) as u64
+}
+
+// How many bytes of the tray a frame of so many bits fills.
+#[no_mangle]
+pub extern "C" fn kernelstill_frame_part(tray: &[u8], bits: usize) -> usize
+    ensures { λ r. ⌜ r ≡ length (partOf (now (tray .entry)) bits) ⌝ }
+{
+    let part = frames::frame_part(tray, bits);
+    part.len()
+}
+
+// A hexadecimal line's bytes, and the refusal number.
+#[no_mangle]
+pub extern "C" fn kernelstill_hex_line(line: &[u8], bytes: &mut [u8]) -> u64
+    ensures { λ r. ⌜ (record { number = r; bytes = now (bytes .exit) }) ≡ hexLeftOf (now (line .entry)) (now (bytes .entry)) ⌝ }
+{
+    if bytes.len() < 32 {
+        return WRONG_BUFFERS;
+    }
+    let answer = listing::read_line(line, bytes);
+    answer.number() as u64
+}
+
+// The bytes of a record's line, and the refusal number.
+#[no_mangle]
+pub extern "C" fn kernelstill_record_line(line: &mut [u8], head: u64, value: u64) -> u64
+    ensures { λ r. ⌜ (record { number = r; bytes = now (line .exit) }) ≡ recordLeftOf head value (now (line .entry)) ⌝ }
+{
+    let end = listing::record_line(line, 0, head, value);
+    if end == 0 {
+        return WRONG_BUFFERS;
+    }
+    0
+}

@@ -1,0 +1,183 @@
+/*
+ * Kernelstill: a verified reader of the command line of the MCC-I2.1, the
+ * controller chip of pixel-detector modules. For C and C++.
+ *
+ * kernelstill_open opens, kernelstill_take takes bits and writes records; the
+ * other functions help to read what they wrote. Each is proved to meet its
+ * contract (crates/kernelstill) for every argument that keeps these rules,
+ * which no function can check:
+ *
+ * - A slice passes as a pointer and then a length, counted in elements. The
+ *   pointer is aligned for its element and good for that many of them. At
+ *   length 0 it is not followed.
+ * - A slice that is not const overlaps no other slice of the same call.
+ *
+ * All else is checked. An unfit call is turned away by its number and changes
+ * nothing, but for a refused opening, which gives the default start state.
+ * Where several numbers apply, the lowest is answered.
+ *
+ * Nothing is kept between calls and there are no globals: all that a reader
+ * remembers stands in the image, the store and the tray that the caller
+ * lends. Calls on different buffers may run at once.
+ */
+#ifndef KERNELSTILL_H
+#define KERNELSTILL_H
+
+#include <stddef.h>
+#include <stdint.h>
+
+#ifdef __cplusplus
+extern "C" {
+#endif
+
+/* The elements of each slice, and the limits of a call. */
+#define KERNELSTILL_IMAGE_WORDS 68       /* the state, exactly */
+#define KERNELSTILL_STORE_WORDS 2048     /* the FIFO words, exactly */
+#define KERNELSTILL_TRAY_BYTES 8192      /* the frame bits, exactly */
+#define KERNELSTILL_TOLD_WORDS 3         /* what a taking call tells, exactly */
+#define KERNELSTILL_INPUT_BYTES 65536    /* the input of a call, at most */
+#define KERNELSTILL_RECORD_WORDS 2       /* a record in the list */
+#define KERNELSTILL_RECORD_LINE_BYTES 28 /* a record's line, with its line feed */
+#define KERNELSTILL_LINE_BYTES 32        /* the bytes of a hexadecimal line, at most */
+#define KERNELSTILL_CLOCK_LIMIT (UINT64_C(1) << 48) /* cycles are below it */
+
+/* The default register plan: addresses 0 to 6 exist. */
+#define KERNELSTILL_DEFAULT_MASK 0x007F
+#define KERNELSTILL_DEFAULT_CSR 0
+#define KERNELSTILL_DEFAULT_FEEN 2
+#define KERNELSTILL_DEFAULT_CNT 5
+
+/* The refusal numbers; 0 is none. */
+#define KERNELSTILL_FIT 0
+#define KERNELSTILL_WRONG_PLAN 1      /* CSR, FEEN and CNT are not three different addresses in the mask */
+#define KERNELSTILL_WRONG_CYCLE 2     /* the opening cycle is 2^48 or more */
+#define KERNELSTILL_UNSOUND 3         /* the image has another length, is malformed, or its state is unsound */
+#define KERNELSTILL_WRONG_BUFFERS 4   /* a slice has another length, or the first free word is past the list's end */
+#define KERNELSTILL_WRONG_RANGE 5     /* the input is too long, or the range passes its end */
+#define KERNELSTILL_CLOCK_OVER 6      /* next cycle + count exceeds 2^48 */
+#define KERNELSTILL_WRONG_CHARACTER 7 /* a character of a hexadecimal line is not 0-9 or A-F */
+#define KERNELSTILL_WRONG_LENGTH 8    /* its digits are odd in number, or above 64 */
+
+/* What a taking call tells, by place. */
+#define KERNELSTILL_TOLD_BITS 0    /* the bits taken */
+#define KERNELSTILL_TOLD_RECORDS 1 /* the records written */
+#define KERNELSTILL_TOLD_ENDING 2  /* how it ended, one of the next three */
+
+#define KERNELSTILL_DONE 0      /* every bit of the count is taken */
+#define KERNELSTILL_FRAME 1     /* the last record is a frame's; its bits stand in the tray */
+#define KERNELSTILL_LIST_FULL 2 /* bits remain, and fewer than two words of the list are free */
+
+/*
+ * The image: the state as plain words, which a host may store and go on with
+ * after a restart, together with the store and the tray. Word 0 is the
+ * layout's number; an image of another layout is malformed, and so is one
+ * with a word beyond its width. Nothing else about an image is malformed.
+ *
+ * Words 7 to 13 are the recogniser's. Those that the present phase does not
+ * use are 0, but for word 12, which also changes, without a meaning, inside
+ * a WrReceiver.
+ */
+#define KERNELSTILL_LAYOUT 1
+#define KERNELSTILL_AT_LAYOUT 0    /* KERNELSTILL_LAYOUT */
+#define KERNELSTILL_AT_MASK 1      /* the plan: the addresses that exist, 16 bits; bit n for address n */
+#define KERNELSTILL_AT_CSR 2       /* the address of CSR, 8 bits */
+#define KERNELSTILL_AT_FEEN 3      /* the address of FEEN, 8 bits */
+#define KERNELSTILL_AT_CNT 4       /* the address of CNT, 8 bits */
+#define KERNELSTILL_AT_NEXT 5      /* the number of the next cycle, 64 bits */
+#define KERNELSTILL_AT_PHASE 6     /* 0 hunting, 1 in a header's body, 2 in Field 3, 3 in Field 4, 4 in Field 5 */
+#define KERNELSTILL_AT_SHIFT 7     /* hunting, the window; in a body, Field 3 or 4, the bits received of it; 8 bits */
+#define KERNELSTILL_AT_COMMAND 8   /* in Fields 4 and 5, Field 3; 8 bits */
+#define KERNELSTILL_AT_ADDRESS 9   /* in Field 5, Field 4; 8 bits */
+#define KERNELSTILL_AT_COUNT 10    /* how many bits of the present body or field are received, 32 bits */
+#define KERNELSTILL_AT_HELD 11     /* in Field 5 of WrRegister, WrFifo and GlobalResetFE, its bits so far; 32 bits */
+#define KERNELSTILL_AT_FIRST 12    /* in a front-end frame, the first bit of the last group begun; 0 or 1 */
+#define KERNELSTILL_AT_UNSTEADY 13 /* in a front-end frame, whether one of its groups was unsteady; 0 or 1 */
+#define KERNELSTILL_AT_RUN_MODE 14 /* RunMode, 0 or 1 */
+#define KERNELSTILL_AT_L1ID 15     /* the trigger number, 8 bits */
+#define KERNELSTILL_AT_BASE 16     /* the cycle from which the bunch number counts, 64 bits */
+#define KERNELSTILL_AT_WLV1 17     /* the warning of an LV1 with flip, CSR bit 8; 0 or 1 */
+#define KERNELSTILL_AT_WFST 18     /* the warning of a bad Fast, CSR bit 9; 0 or 1 */
+#define KERNELSTILL_AT_WSLW 19     /* the warning of a bad Slow, CSR bit 10; 0 or 1 */
+#define KERNELSTILL_AT_REGISTERS 20 /* 16 words: the registers as stored, 16 bits each */
+#define KERNELSTILL_AT_WRITES 36   /* 16 words: the FIFOs' write pointers, 8 bits each */
+#define KERNELSTILL_AT_READS 52    /* 16 words: the FIFOs' read pointers, 8 bits each */
+
+/*
+ * Opens with a register plan at a cycle: writes the start state into the
+ * image and answers 0. Refused with 1 or 2, it answers the number and writes
+ * the default plan's start state at cycle 0. Where the image has another
+ * length, it answers 1, 2 or else 3, and writes nothing.
+ */
+uint64_t kernelstill_open(
+    uint64_t mask, uint64_t csr, uint64_t feen, uint64_t cnt,
+    uint64_t cycle,
+    uint64_t *image, size_t image_length);
+
+/*
+ * Takes `count` bits of the input from bit `first` on, the highest of byte 0
+ * being bit 0, one a clock cycle, and answers 0. It moves the image, the
+ * store and the tray on, writes the records into the list from word `free`
+ * on, and tells the bits taken, the records written and how it ended. It
+ * stops after a frame's record, since the next frame uses the tray anew, and
+ * where fewer than two words of the list are free; go on with the bits that
+ * remain. Refused with 3, 4, 5 or 6, it answers the number and changes
+ * nothing.
+ *
+ * Wherever a stream is cut into calls, the records are the same, as long as
+ * image, store and tray go from each call to the next. At the first call the
+ * store may hold anything; a module's words start at 0.
+ *
+ * A record is two words of the list: time x 65536 + kind x 256 + flags, and
+ * the value.
+ */
+uint64_t kernelstill_take(
+    uint64_t *image, size_t image_length,
+    const uint8_t *input, size_t input_length,
+    size_t first, size_t count,
+    uint32_t *store, size_t store_length,
+    uint8_t *tray, size_t tray_length,
+    uint64_t *list, size_t list_length,
+    size_t free,
+    uint64_t *told, size_t told_length);
+
+/*
+ * The count of bits of a frame, from the two words of its record, which has
+ * kind 0x24, 0x25 or 0x26.
+ */
+uint64_t kernelstill_frame_bits(uint64_t head, uint64_t value);
+
+/*
+ * How many bytes of the tray, from its first on, a frame of so many bits
+ * fills. The unused end of the last is 0. Beyond the tray's bits it is 0.
+ */
+size_t kernelstill_frame_part(const uint8_t *tray, size_t tray_length, size_t bits);
+
+/*
+ * Reads a line of hexadecimal digits, given without its line feed, into the
+ * start of `bytes`, half as many as there are digits, and answers 0. `bytes`
+ * has 32 elements or more, whatever the line. Refused with 4, 7 or 8, it
+ * answers the number and changes nothing.
+ */
+uint64_t kernelstill_hex_line(
+    const uint8_t *line, size_t line_length,
+    uint8_t *bytes, size_t bytes_length);
+
+/*
+ * Writes a record's line of the listing into the first 28 elements of `line`,
+ * the last of them its line feed, and answers 0. Refused with 4 where `line`
+ * is shorter, it changes nothing.
+ */
+uint64_t kernelstill_record_line(
+    uint8_t *line, size_t line_length,
+    uint64_t head, uint64_t value);
+
+/* The fields of a record's first word. */
+static inline uint64_t kernelstill_time(uint64_t head) { return head >> 16; }
+static inline uint64_t kernelstill_kind(uint64_t head) { return head >> 8 & 0xFF; }
+static inline uint64_t kernelstill_flags(uint64_t head) { return head & 0xFF; }
+
+#ifdef __cplusplus
+}
+#endif
+
+#endif

@@ -1,0 +1,502 @@
+"""Kernelstill: a verified reader of the command line of the MCC-I2.1, the
+controller chip of pixel-detector modules.
+
+A `Decoder` takes the line's bits, one a clock cycle, and gives a `Record` for
+each command or error. Wherever the bits are cut into calls, the records are
+the same. Here the first call ends inside the second trigger:
+
+>>> from kernelstill import Decoder, Refused, hex_line
+>>> capture = hex_line("B5C074") + hex_line("E0B080")
+>>> decoder = Decoder()
+>>> for record in decoder.take(capture, 0, 26) + decoder.take(capture, 26):
+...     print(record, record.name)
+000000000010 28 01 00000000 EnDataTake
+000000000015 01 05 00000015 LV1
+00000000001C 01 07 0000011C LV1
+000000000028 11 01 00000000 BCR
+
+What the commands leave behind:
+
+>>> state = decoder.state
+>>> state.next_cycle, state.phase.name, state.run_mode, state.l1id, state.base
+(48, 'HUNTING', True, 2, 40)
+>>> state.warnings
+Warnings(wlv1=True, wfst=False, wslw=False)
+
+A frame comes as bytes; this one is cut by the lines:
+
+>>> decoder = Decoder()
+>>> for line in "B58280015AD829", "70C0":
+...     for record in decoder.take(hex_line(line)):
+...         print(record.time, record.name, record.frame_bits, record.frame)
+32 WrRegister 0 b''
+65 WrReceiver 16 b'\\xa5\\xc3'
+
+A refusal is an exception with its number, and leaves all as it was:
+
+>>> for unfit in lambda: hex_line("b5c0"), lambda: decoder.take(b"", 0, 1):
+...     try:
+...         unfit()
+...     except Refused as refused:
+...         print(refused.number, "-", refused)
+7 - refused with 7: a character is not 0-9 or A-F
+5 - refused with 5: the input is too long, or the range passes its end
+
+The library is the file that KERNELSTILL_LIBRARY names, or else
+lib/libkernelstill.so beside this module's folder, where host/build puts it.
+"""
+
+from __future__ import annotations
+
+import ctypes
+import enum
+import operator
+import os
+import pathlib
+import struct
+from dataclasses import dataclass
+from typing import Any, BinaryIO, Iterator, List, NamedTuple, Optional, Tuple, Union
+
+__all__ = [
+    "CLOCK_LIMIT",
+    "INPUT_BYTES",
+    "KINDS",
+    "REFUSALS",
+    "BytesLike",
+    "Decoder",
+    "Phase",
+    "Plan",
+    "Record",
+    "Refused",
+    "State",
+    "Warnings",
+    "hex_line",
+]
+
+# As kernelstill.h has them.
+CLOCK_LIMIT = 1 << 48
+INPUT_BYTES = 65_536
+_LAYOUT = 1
+_IMAGE_WORDS = 68
+_STORE_WORDS = 2_048
+_TRAY_BYTES = 8_192
+_TOLD_WORDS = 3
+_RECORD_LINE_BYTES = 28
+_LINE_BYTES = 32
+_DONE, _FRAME = 0, 1
+
+_FIFOS = 16
+_FIFO_WORDS = _STORE_WORDS // _FIFOS
+
+# Records that one call of the library can write; fewer only cost more calls.
+_LIST_RECORDS = 512
+
+# The image's words, the store's words and the tray.
+_SAVED = struct.Struct(f"<{_IMAGE_WORDS}Q{_STORE_WORDS}I{_TRAY_BYTES}s")
+
+KINDS = {
+    0x01: "LV1",
+    0x11: "BCR",
+    0x12: "ECR",
+    0x14: "CAL",
+    0x18: "SYNC",
+    0x1F: "bad Fast",
+    0x20: "WrRegister",
+    0x21: "RdRegister",
+    0x22: "WrFifo",
+    0x23: "RdFifo",
+    0x24: "WrFrontEnd",
+    0x25: "RdFrontEnd",
+    0x26: "WrReceiver",
+    0x28: "EnDataTake",
+    0x29: "GlobalResetMCC",
+    0x2A: "GlobalResetFE",
+    0x2F: "bad Slow",
+}
+_FRAME_KINDS = (0x24, 0x25, 0x26)
+
+REFUSALS = {
+    1: "CSR, FEEN and CNT are not three different addresses in the mask",
+    2: "the opening cycle is 2^48 or more",
+    3: "the image has another length, is malformed, or its state is unsound",
+    4: "a slice has another length, or the first free word is past the list's end",
+    5: "the input is too long, or the range passes its end",
+    6: "next cycle + count exceeds 2^48",
+    7: "a character is not 0-9 or A-F",
+    8: "the count of digits is odd, or above 64",
+}
+
+# Any other object with a buffer will do too.
+BytesLike = Union[bytes, bytearray, memoryview]
+
+
+class Plan(NamedTuple):
+    """The register plan: a mask of the addresses that exist (bit n for
+    address n), and the addresses of CSR, FEEN and CNT."""
+
+    mask: int = 0x007F
+    csr: int = 0
+    feen: int = 2
+    cnt: int = 5
+
+
+class Refused(Exception):
+    """An unfit call was turned away, by its `number`; nothing has changed."""
+
+    def __init__(self, number: int) -> None:
+        super().__init__(number)
+        self.number = number
+
+    def __str__(self) -> str:
+        return f"refused with {self.number}: {REFUSALS.get(self.number, 'an unknown number')}"
+
+
+def _check(number: int) -> None:
+    if number != 0:
+        raise Refused(number)
+
+
+def _load() -> ctypes.CDLL:
+    """The library, with the types of its functions declared."""
+    u64, size = ctypes.c_uint64, ctypes.c_size_t
+    u64s, u32s, u8s = map(ctypes.POINTER, (u64, ctypes.c_uint32, ctypes.c_uint8))
+    signatures = {
+        "kernelstill_open": (u64, [u64, u64, u64, u64, u64, u64s, size]),
+        # The input as void *, for which ctypes passes bytes without a copy.
+        "kernelstill_take": (
+            u64,
+            [u64s, size, ctypes.c_void_p, size, size, size]
+            + [u32s, size, u8s, size, u64s, size, size, u64s, size],
+        ),
+        "kernelstill_frame_bits": (u64, [u64, u64]),
+        "kernelstill_frame_part": (size, [u8s, size, size]),
+        "kernelstill_hex_line": (u64, [ctypes.c_void_p, size, u8s, size]),
+        "kernelstill_record_line": (u64, [u8s, size, u64, u64]),
+    }
+    beside = pathlib.Path(__file__).resolve().parent.parent / "lib" / "libkernelstill.so"
+    path = os.environ.get("KERNELSTILL_LIBRARY") or str(beside)
+    try:
+        library = ctypes.CDLL(path)
+        for name, (answer, arguments) in signatures.items():
+            function = getattr(library, name)
+            function.restype, function.argtypes = answer, arguments
+    except (OSError, AttributeError) as error:
+        raise ImportError(
+            f"no Kernelstill library at {path} ({error}): build it with host/build,"
+            " or name it in KERNELSTILL_LIBRARY"
+        ) from error
+    # The state is read by its places in the image.
+    image = (u64 * _IMAGE_WORDS)()
+    if library.kernelstill_open(*Plan(), 0, image, _IMAGE_WORDS) or image[0] != _LAYOUT:
+        raise ImportError(f"the Kernelstill library at {path} is of another layout")
+    return library
+
+
+_library = _load()
+
+
+def _unsigned(value: Any, name: str, bits: int = 64) -> int:
+    """The integer, checked, since ctypes would cut it to its width in silence."""
+    number = operator.index(value)
+    if number < 0 or number >> bits:
+        raise OverflowError(f"{name} is not an unsigned number of {bits} bits: {number}")
+    return number
+
+
+def _lent(data: Any) -> Tuple[Any, int]:
+    """What ctypes passes for a bytes-like object, and its length in bytes.
+
+    No copy is made of bytes, nor of a writable buffer in one piece.
+    """
+    if isinstance(data, bytes):
+        return data, len(data)
+    view = memoryview(data)
+    if view.readonly or not view.c_contiguous:
+        return view.tobytes(), view.nbytes
+    return (ctypes.c_uint8 * view.nbytes).from_buffer(view), view.nbytes
+
+
+def hex_line(text: Union[str, BytesLike]) -> bytes:
+    """The bytes of a line of hexadecimal digits, given without its line feed.
+
+    At most 64 digits, upper case; refused with 7 or 8.
+    """
+    if isinstance(text, str):
+        # A character beyond ASCII becomes bytes that are no digits either.
+        line = text.encode("utf-8", "surrogatepass")
+    else:
+        line = memoryview(text).tobytes()
+    octets = (ctypes.c_uint8 * _LINE_BYTES)()
+    _check(_library.kernelstill_hex_line(line, len(line), octets, _LINE_BYTES))
+    return bytes(octets)[: len(line) // 2]
+
+
+class Record(NamedTuple):
+    """A command or error recognised. `str` gives its part of the listing."""
+
+    time: int  # the cycle of its last bit
+    kind: int  # KINDS has the names
+    flags: int
+    value: int
+    frame: bytes = b""  # of a frame's record; unused bits of the last byte are 0
+
+    @property
+    def name(self) -> str:
+        return KINDS.get(self.kind, f"kind {self.kind:02X}")
+
+    @property
+    def acted_on(self) -> bool:
+        return bool(self.flags & 0x01)
+
+    @property
+    def flip(self) -> bool:
+        """An LV1 with one bit inverted."""
+        return bool(self.flags & 0x02)
+
+    @property
+    def sent(self) -> bool:
+        """An LV1 sent to the front ends."""
+        return bool(self.flags & 0x04)
+
+    @property
+    def missing(self) -> bool:
+        """A register command whose register does not exist."""
+        return bool(self.flags & 0x08)
+
+    @property
+    def unsteady(self) -> bool:
+        """A front-end frame with a bit that differed within its eight cycles."""
+        return bool(self.flags & 0x10)
+
+    @property
+    def frame_bits(self) -> int:
+        """The count of the frame's bits; 0 where the record is of no frame."""
+        if self.kind not in _FRAME_KINDS:
+            return 0
+        return _library.kernelstill_frame_bits(*self._words())
+
+    def line(self) -> str:
+        """The record's line of the listing, without its line feed."""
+        line = (ctypes.c_uint8 * _RECORD_LINE_BYTES)()
+        _check(_library.kernelstill_record_line(line, _RECORD_LINE_BYTES, *self._words()))
+        return bytes(line)[:-1].decode("ascii")
+
+    def __str__(self) -> str:
+        return f"{self.line()}\n>{self.frame.hex().upper()}" if self.frame else self.line()
+
+    def _words(self) -> Tuple[int, int]:
+        time = _unsigned(self.time, "time", 48)
+        kind = _unsigned(self.kind, "kind", 8)
+        flags = _unsigned(self.flags, "flags", 8)
+        return time << 16 | kind << 8 | flags, _unsigned(self.value, "value", 32)
+
+
+class Phase(enum.IntEnum):
+    """Where in a command the next bit belongs."""
+
+    HUNTING = 0
+    BODY = 1  # the four bits after a header
+    FIELD_3 = 2
+    FIELD_4 = 3
+    FIELD_5 = 4
+
+
+class Warnings(NamedTuple):
+    """What CSR bits 8, 9 and 10 read as."""
+
+    wlv1: bool  # an LV1 with flip was seen
+    wfst: bool  # a bad Fast
+    wslw: bool  # a bad Slow
+
+
+@dataclass(frozen=True)
+class State:
+    """A decoder's state at one moment. `str` gives the lines of the program
+    `model`."""
+
+    plan: Plan
+    next_cycle: int
+    phase: Phase
+    shift: int  # hunting, the window; in a body, Field 3 or 4, its bits so far
+    field3: int  # in Fields 4 and 5
+    field4: int  # in Field 5
+    received: int  # bits of the present body or field
+    held: int  # in Field 5 of WrRegister, WrFifo and GlobalResetFE, its bits so far
+    first: bool  # in a front-end frame, the first bit of the last group begun
+    unsteady: bool  # in a front-end frame, whether a group was unsteady
+    run_mode: bool
+    l1id: int  # the next trigger's number
+    base: int  # the cycle from which the bunch number counts
+    warnings: Warnings
+    registers: Tuple[int, ...]  # 16, as stored
+    write_pointers: Tuple[int, ...]  # 16, a FIFO each
+    read_pointers: Tuple[int, ...]
+
+    @property
+    def window(self) -> Optional[int]:
+        """The last five bits, while hunting."""
+        return self.shift if self.phase is Phase.HUNTING else None
+
+    def register(self, address: int) -> int:
+        """A register as RdRegister gives it: CSR with the warnings, 0 where
+        it does not exist."""
+        address = _unsigned(address, "address", 4)
+        stored = self.registers[address]
+        if address != self.plan.csr:
+            return stored
+        wlv1, wfst, wslw = self.warnings
+        return stored & ~0x0700 | wlv1 << 8 | wfst << 9 | wslw << 10
+
+    def __str__(self) -> str:
+        exist = (n for n in range(len(self.registers)) if self.plan.mask >> n & 1)
+        pointers = enumerate(zip(self.write_pointers, self.read_pointers))
+        return "\n".join(
+            [f"register {n:X} {self.register(n):04X}" for n in exist]
+            + [f"l1id {self.l1id:02X}", f"base {self.base:012X}", f"runmode {self.run_mode:d}"]
+            + [f"pointers {n:X} {write:02X} {read:02X}" for n, (write, read) in pointers]
+        )
+
+
+class Decoder:
+    """A reader of the command line, for one thread at a time.
+
+    It opens with a register plan, out of RunMode and with all registers and
+    FIFO words 0; its first bit has the number `cycle`. Refused with 1 or 2.
+    """
+
+    __slots__ = ("_image", "_store", "_tray", "_list", "_told")
+
+    def __init__(self, plan: Plan = Plan(), cycle: int = 0) -> None:
+        self._image = (ctypes.c_uint64 * _IMAGE_WORDS)()
+        self._store = (ctypes.c_uint32 * _STORE_WORDS)()
+        self._tray = (ctypes.c_uint8 * _TRAY_BYTES)()
+        self._list = (ctypes.c_uint64 * (2 * _LIST_RECORDS))()
+        self._told = (ctypes.c_uint64 * _TOLD_WORDS)()
+        mask, csr, feen, cnt = (_unsigned(n, name) for n, name in zip(plan, Plan._fields))
+        cycle = _unsigned(cycle, "cycle")
+        _check(_library.kernelstill_open(mask, csr, feen, cnt, cycle, self._image, _IMAGE_WORDS))
+
+    def take(self, data: BytesLike, first: int = 0, count: Optional[int] = None) -> List[Record]:
+        """Takes `count` bits from bit `first` on, or all from there, the
+        highest of each byte first, and gives their records.
+
+        At most 65,536 bytes; `read` takes more. Refused with 5 or 6.
+        """
+        first = _unsigned(first, "first")
+        if count is not None:
+            count = _unsigned(count, "count")
+        records: List[Record] = []
+        lent, length = _lent(data)
+        if count is None:
+            count = max(8 * length - first, 0)
+        # Only the first call can be refused, so that a refusal changes nothing.
+        while True:
+            number = _library.kernelstill_take(
+                self._image,
+                _IMAGE_WORDS,
+                lent,
+                length,
+                first,
+                count,
+                self._store,
+                _STORE_WORDS,
+                self._tray,
+                _TRAY_BYTES,
+                self._list,
+                len(self._list),
+                0,
+                self._told,
+                _TOLD_WORDS,
+            )
+            if number != 0:
+                break
+            bits, written, ending = self._told
+            self._add_records(records, written, ending == _FRAME)
+            if ending == _DONE:
+                break
+            first += bits
+            count -= bits
+        # Else the exception would hold the caller's buffer.
+        del lent
+        _check(number)
+        return records
+
+    def _add_records(self, records: List[Record], written: int, last_is_frame: bool) -> None:
+        words = self._list[: 2 * written]
+        records += [
+            Record(head >> 16, head >> 8 & 0xFF, head & 0xFF, value)
+            for head, value in zip(words[::2], words[1::2])
+        ]
+        if last_is_frame:
+            bits = _library.kernelstill_frame_bits(words[-2], words[-1])
+            part = _library.kernelstill_frame_part(self._tray, _TRAY_BYTES, bits)
+            records[-1] = records[-1]._replace(frame=ctypes.string_at(self._tray, part))
+
+    def read(self, file: BinaryIO) -> Iterator[Record]:
+        """Takes the bytes of a binary file to its end and yields the records.
+
+        It moves on a block at a time, as the records are asked for. From a
+        live pipe it takes what there is.
+        """
+        block = getattr(file, "read1", file.read)
+        for data in iter(lambda: block(INPUT_BYTES), b""):
+            yield from self.take(data)
+
+    @property
+    def state(self) -> State:
+        # By the places that kernelstill.h gives.
+        image = self._image[:]
+        return State(
+            plan=Plan(*image[1:5]),
+            next_cycle=image[5],
+            phase=Phase(image[6]),
+            shift=image[7],
+            field3=image[8],
+            field4=image[9],
+            received=image[10],
+            held=image[11],
+            first=bool(image[12]),
+            unsteady=bool(image[13]),
+            run_mode=bool(image[14]),
+            l1id=image[15],
+            base=image[16],
+            warnings=Warnings(*map(bool, image[17:20])),
+            registers=tuple(image[20:36]),
+            write_pointers=tuple(image[36:52]),
+            read_pointers=tuple(image[52:68]),
+        )
+
+    def fifo(self, number: int) -> Tuple[int, ...]:
+        """The 128 words of FIFO `number`, 0 to 15, from place 0 on."""
+        start = _unsigned(number, "FIFO number", 4) * _FIFO_WORDS
+        return tuple(self._store[start : start + _FIFO_WORDS])
+
+    def save(self) -> bytes:
+        """All that the decoder remembers, for `resume`.
+
+        16,928 bytes, little-endian: the image's 68 words of 64 bits, the
+        store's 2,048 words of 32 bits, the tray's 8,192 bytes.
+        """
+        return _SAVED.pack(*self._image, *self._store, bytes(self._tray))
+
+    @classmethod
+    def resume(cls, saved: BytesLike) -> Decoder:
+        """A decoder that goes on where `save` was called; refused with 3."""
+        try:
+            words = _SAVED.unpack(saved)
+        except struct.error:
+            raise Refused(3) from None
+        decoder = cls()
+        decoder._image[:] = words[:_IMAGE_WORDS]
+        decoder._store[:] = words[_IMAGE_WORDS:-1]
+        decoder._tray[:] = words[-1]
+        # Takes nothing, but is refused if the state is unsound.
+        decoder.take(b"")
+        return decoder
+
+    def __reduce__(self) -> Tuple[Any, ...]:
+        # A copy, or a pickle, has buffers of its own.
+        return type(self).resume, (self.save(),)
+
+    def __repr__(self) -> str:
+        return f"<Decoder, next cycle {self._image[5]}, {Phase(self._image[6]).name}>"

@@ -1,0 +1,365 @@
+"""Tests of the Python module: cuts, refusals, frames, state, save and resume."""
+
+import array
+import copy
+import ctypes
+import dataclasses
+import io
+import mmap
+import pathlib
+import pickle
+import random
+import struct
+import unittest
+
+import kernelstill
+from kernelstill import CLOCK_LIMIT, INPUT_BYTES, Decoder, Phase, Plan, Record, Refused, hex_line
+
+ROOT = pathlib.Path(__file__).resolve().parent.parent
+EXAMPLE = [hex_line(line) for line in (ROOT / "examples/capture.hex").read_text().splitlines()]
+LISTING = (ROOT / "examples/capture.listing").read_text()
+CAPTURE = b"".join(EXAMPLE)
+
+
+def listing(records):
+    return "".join(f"{record}\n" for record in records)
+
+
+def packed(bits):
+    """A string of 0 and 1 as bytes, the last filled up with zeros."""
+    size = (len(bits) + 7) // 8
+    return int(bits.ljust(8 * size, "0"), 2).to_bytes(size, "big")
+
+
+def at_bit_0(*commands):
+    """What `take` is given for strings of 0 and 1."""
+    bits = "".join(commands)
+    return packed(bits), 0, len(bits)
+
+
+def slow(field3, field4, field5=""):
+    return f"101101011{field3:04b}{field4:04b}{field5}"
+
+
+def wr_register(address, value):
+    return slow(0, address, f"{value:016b}")
+
+
+class Cuts(unittest.TestCase):
+    def test_lines(self):
+        decoder = Decoder()
+        self.assertEqual(listing(r for line in EXAMPLE for r in decoder.take(line)), LISTING)
+
+    def test_whole(self):
+        self.assertEqual(listing(Decoder().take(CAPTURE)), LISTING)
+
+    def test_at_every_bit(self):
+        whole = Decoder()
+        records = whole.take(CAPTURE)
+        for cut in range(8 * len(CAPTURE) + 1):
+            decoder = Decoder()
+            taken = decoder.take(CAPTURE, 0, cut) + decoder.take(CAPTURE, cut)
+            self.assertEqual(taken, records, cut)
+            self.assertEqual(decoder.save(), whole.save(), cut)
+
+    def test_bit_by_bit(self):
+        decoder = Decoder()
+        taken = [r for bit in range(8 * len(CAPTURE)) for r in decoder.take(CAPTURE, bit, 1)]
+        self.assertEqual(listing(taken), LISTING)
+
+    def test_many_records_in_a_call(self):
+        # The library's list is filled many times over.
+        records = Decoder().take(*at_bit_0(slow(8, 0), "11101" * 8000))
+        self.assertEqual([r.time for r in records], [16] + [21 + 5 * n for n in range(8000)])
+        self.assertTrue(all(r.acted_on and r.sent and not r.flip for r in records[1:]))
+
+    def test_file(self):
+        self.assertEqual(listing(Decoder().read(io.BytesIO(CAPTURE))), LISTING)
+        size = 3 * INPUT_BYTES + 7
+        data = random.Random(1).getrandbits(8 * size).to_bytes(size, "big")
+        decoder, by_blocks = Decoder(), Decoder()
+        taken = [r for at in range(0, len(data), 999) for r in decoder.take(data[at : at + 999])]
+        self.assertEqual(list(by_blocks.read(io.BytesIO(data))), taken)
+        self.assertEqual(by_blocks.save(), decoder.save())
+
+    def test_bytes_like(self):
+        room = mmap.mmap(-1, len(CAPTURE))
+        room[:] = CAPTURE
+        spread = bytes(byte for octet in CAPTURE for byte in (octet, 0xFF))
+        for data in (
+            bytearray(CAPTURE),
+            memoryview(CAPTURE),
+            memoryview(bytearray(CAPTURE)),
+            memoryview(spread)[::2],
+            memoryview(bytearray(spread))[::2],
+            array.array("B", CAPTURE),
+            array.array("H", CAPTURE),
+            (ctypes.c_uint8 * len(CAPTURE)).from_buffer_copy(CAPTURE),
+            room,
+        ):
+            self.assertEqual(listing(Decoder().take(data)), LISTING, type(data))
+        for nothing in (b"", bytearray(), memoryview(b"")):
+            self.assertEqual(Decoder().take(nothing), [])
+
+
+class Golden(unittest.TestCase):
+    def test_programs(self):
+        """As the programs `station` and `model` do it."""
+        inputs = sorted((ROOT / "tests/golden").glob("*/*.in"))
+        self.assertTrue(inputs)
+        for path in inputs:
+            with self.subTest(path.stem):
+                decoder, station, reading = Decoder(), "", ""
+                *lines, rest = path.read_bytes().split(b"\n")
+                for number, line in enumerate(lines + [rest] if rest else lines, 1):
+                    try:
+                        records = decoder.take(hex_line(line))
+                    except Refused as refused:
+                        station += f"!{refused.number:02X} {number:08X}\n"
+                        reading += f"!{refused.number:02X} {number:08X}\n"
+                        break
+                    station += listing(records)
+                    reading += "".join(f"{record.line()}\n" for record in records)
+                model = f"{reading}{decoder.state}\n"
+                for n in range(16):
+                    for place, word in enumerate(decoder.fifo(n)):
+                        model += f"word {n:X} {place:02X} {word:08X}\n" if word else ""
+                self.assertEqual(station, path.with_suffix(".station").read_text())
+                self.assertEqual(reading, path.with_suffix(".reading").read_text())
+                self.assertEqual(model, path.with_suffix(".model").read_text())
+
+
+class Refusals(unittest.TestCase):
+    def refused(self, number, call, *arguments, **named):
+        with self.assertRaises(Refused) as caught:
+            call(*arguments, **named)
+        self.assertEqual(caught.exception.number, number)
+        self.assertIn(kernelstill.REFUSALS[number], str(caught.exception))
+
+    def unchanged(self, decoder, number, *arguments):
+        before = decoder.save()
+        self.refused(number, decoder.take, *arguments)
+        self.assertEqual(decoder.save(), before)
+
+    def test_plan(self):
+        for wrong in ({"csr": 2}, {"feen": 5}, {"cnt": 7}, {"cnt": 16}, {"csr": 256}, {"mask": 0}):
+            self.refused(1, Decoder, Plan(**wrong))
+        self.refused(1, Decoder, Plan(csr=2), CLOCK_LIMIT)
+        self.assertEqual(Decoder(Plan(0xE000, 13, 14, 15)).state.plan, (0xE000, 13, 14, 15))
+
+    def test_cycle(self):
+        self.refused(2, Decoder, cycle=CLOCK_LIMIT)
+        self.refused(2, Decoder, cycle=2**64 - 1)
+        self.assertEqual(Decoder(cycle=CLOCK_LIMIT - 1).state.next_cycle, CLOCK_LIMIT - 1)
+
+    def test_unsound(self):
+        saved = Decoder().save()
+        # Layout, CSR's address that of FEEN, CNT's missing, next cycle, phase, window.
+        unsound = [(0, 2), (2, 2), (4, 9), (5, CLOCK_LIMIT + 1), (6, 5), (7, 32)]
+        # RunMode, L1ID, base, a missing register, a write and a read pointer.
+        unsound += [(14, 2), (15, 256), (16, 1), (27, 1), (36, 128), (67, 128)]
+        for place, word in unsound:
+            image = bytearray(saved)
+            struct.pack_into("<Q", image, 8 * place, word)
+            self.refused(3, Decoder.resume, image)
+        for other in (b"", saved[:-1], saved + b"\0"):
+            self.refused(3, Decoder.resume, other)
+
+    def test_buffers(self):
+        # The module lends buffers that fit; this calls past it.
+        line = (ctypes.c_uint8 * 27)()
+        number = kernelstill._library.kernelstill_record_line(line, 27, 0, 0)
+        self.refused(4, kernelstill._check, number)
+        self.assertEqual(bytes(line), bytes(27))
+
+    def test_range(self):
+        decoder = Decoder()
+        decoder.take(CAPTURE, 0, 1000)
+        self.unchanged(decoder, 5, b"", 0, 1)
+        self.unchanged(decoder, 5, b"", 1)
+        self.unchanged(decoder, 5, CAPTURE, 1, 8 * len(CAPTURE))
+        self.unchanged(decoder, 5, CAPTURE, 8 * len(CAPTURE) + 1, 0)
+        self.unchanged(decoder, 5, CAPTURE, 2**64 - 1, 2**64 - 1)
+        self.unchanged(decoder, 5, bytes(INPUT_BYTES + 1), 0, 1)
+        self.assertEqual(decoder.take(bytes(INPUT_BYTES), 8 * INPUT_BYTES), [])
+        self.assertEqual(decoder.state.next_cycle, 1000)
+
+    def test_clock(self):
+        decoder = Decoder(cycle=CLOCK_LIMIT - 1)
+        self.unchanged(decoder, 6, b"\xff", 0, 2)
+        # The lowest number wins.
+        self.unchanged(decoder, 5, b"\xff", 0, 9)
+        self.assertEqual(decoder.take(b"\xff", 0, 1), [])
+        self.assertEqual(decoder.state.next_cycle, CLOCK_LIMIT)
+        self.unchanged(decoder, 6, b"\xff", 0, 1)
+        self.assertEqual(decoder.take(b"\xff", 8), [])
+
+    def test_clock_behind_frames(self):
+        # A range that passes the clock's end is not taken up to its frames either.
+        latest = CLOCK_LIMIT - 8 * len(CAPTURE)
+        self.unchanged(Decoder(cycle=latest + 1), 6, CAPTURE)
+        self.assertEqual(len(Decoder(cycle=latest).take(CAPTURE)), len(Decoder().take(CAPTURE)))
+
+    def test_line(self):
+        self.assertEqual(hex_line(""), b"")
+        self.assertEqual(hex_line("0123456789ABCDEF"), bytes.fromhex("0123456789abcdef"))
+        self.assertEqual(hex_line(b"5A" * 32), b"Z" * 32)
+        self.assertEqual(hex_line(memoryview(b"5A")), b"Z")
+        wrong = ["b5", "B5\n", "B5\r", " B5", "0x", "G0", "/0", ":0", "@0", "\0\0", "x" * 65]
+        for text in wrong + ["\u0665\u0665", "\ud800"]:
+            self.refused(7, hex_line, text)
+        for text in ("B", "B5C", "A" * 65, "A" * 66, b"0"):
+            self.refused(8, hex_line, text)
+
+    def test_integers(self):
+        decoder = Decoder()
+        for wrong in (-1, -(2**64), 2**64, 2**64 + 1):
+            self.assertRaises(OverflowError, Decoder, cycle=wrong)
+            self.assertRaises(OverflowError, decoder.take, b"\xff", wrong)
+            self.assertRaises(OverflowError, decoder.take, b"\xff", 0, wrong)
+            self.assertRaises(OverflowError, decoder.fifo, wrong)
+            for place in range(4):
+                plan = Plan()[:place] + (wrong,) + Plan()[place + 1 :]
+                self.assertRaises(OverflowError, Decoder, Plan(*plan))
+        self.assertRaises(OverflowError, decoder.fifo, 16)
+        for words in ((2**48, 1, 0, 0), (0, 256, 0, 0), (0, 1, -1, 0), (0, 1, 0, 2**32)):
+            self.assertRaises(OverflowError, Record(*words).line)
+        for wrong in (1.0, "1", None):
+            self.assertRaises(TypeError, decoder.take, b"\xff", wrong)
+            self.assertRaises(TypeError, Decoder, cycle=wrong)
+        self.assertEqual(decoder.state, Decoder().state)
+
+    def test_input_of_another_type(self):
+        for wrong in (None, 5, "B5", [1]):
+            self.assertRaises(TypeError, Decoder().take, wrong)
+        for wrong in (None, 5, [1]):
+            self.assertRaises(TypeError, hex_line, wrong)
+
+    def test_buffer_is_given_back(self):
+        data = bytearray(b"\xff")
+        try:
+            Decoder().take(data, 0, 9)
+        except Refused:
+            data.extend(b"\xff")
+        self.assertEqual(len(data), 2)
+
+
+class Frames(unittest.TestCase):
+    def test_longest(self):
+        bits = f"{random.Random(2).getrandbits(8247):08247b}"
+        groups = "".join(8 * bit for bit in bits)
+        record = Decoder().take(*at_bit_0(wr_register(5, 0xFFFF), slow(4, 0, groups)))[-1]
+        self.assertEqual((record.name, record.unsteady), ("WrFrontEnd", False))
+        self.assertEqual((record.value, record.frame_bits), (0x00381FFF, 8247))
+        self.assertEqual((record.frame, len(record.frame)), (packed(bits), 1031))
+
+    def test_empty(self):
+        (record,) = Decoder().take(*at_bit_0(slow(4, 0)))
+        self.assertEqual(record, (16, 0x24, 1, 0, b""))
+        self.assertEqual((record.frame_bits, str(record)), (0, "000000000010 24 01 00000000"))
+
+    def test_frames_end_to_end(self):
+        # Each goes into the tray anew, in one call of the module.
+        frames = ["10100101", "01011010", "11111111"]
+        parts = [wr_register(5, 1)] + [slow(6, 0, frame) for frame in frames]
+        records = Decoder().take(*at_bit_0(*parts))
+        self.assertEqual([r.frame for r in records], [b"", b"\xa5", b"\x5a", b"\xff"])
+
+
+class States(unittest.TestCase):
+    def test_start(self):
+        state = Decoder(Plan(0x00FF, 1, 3, 7), 12).state
+        self.assertEqual(state.plan, Plan(0x00FF, 1, 3, 7))
+        self.assertEqual((state.next_cycle, state.base), (12, 12))
+        self.assertEqual((state.phase, state.window), (Phase.HUNTING, 0))
+        self.assertEqual((state.run_mode, state.l1id), (False, 0))
+        self.assertEqual(state.warnings, (False, False, False))
+        for sixteen in (state.registers, state.write_pointers, state.read_pointers):
+            self.assertEqual(sixteen, (0,) * 16)
+
+    def test_phases(self):
+        decoder, phases = Decoder(), []
+        for bit in wr_register(5, 0x1234):
+            phases.append(decoder.state.phase)
+            decoder.take(*at_bit_0(bit))
+        lengths = zip(Phase, (5, 4, 4, 4, 16))
+        self.assertEqual(phases, [phase for phase, length in lengths for _ in range(length)])
+        self.assertEqual(decoder.state.phase, Phase.HUNTING)
+
+    def test_inside_a_command(self):
+        decoder = Decoder()
+        data = packed(wr_register(5, 0x1234))
+        decoder.take(data, 0, 4)
+        self.assertEqual(decoder.state.window, 0b01011)
+        decoder.take(data, 4, 23)
+        state = decoder.state
+        self.assertEqual((state.phase, state.window), (Phase.FIELD_5, None))
+        self.assertEqual((state.field3, state.field4), (0, 5))
+        self.assertEqual((state.received, state.held), (10, 0x1234 >> 6))
+        self.assertEqual((state.next_cycle, state.registers[5]), (27, 0))
+
+    def test_end_of_the_capture(self):
+        decoder = Decoder()
+        decoder.take(CAPTURE)
+        state = decoder.state
+        self.assertEqual(state.next_cycle, 8 * len(CAPTURE))
+        self.assertEqual(state.warnings, (True, True, True))
+        self.assertEqual((state.register(0), state.register(2), state.register(5)), (0x0700, 3, 2))
+        self.assertEqual((state.l1id, state.base, state.run_mode), (6, 0x8EA, False))
+        self.assertEqual(decoder.fifo(0)[:3], (0x0000ABCD, 0x07FF0001, 0))
+        self.assertEqual(len(decoder.fifo(15)), 128)
+
+    def test_read_only_and_readable(self):
+        decoder = Decoder()
+        state = decoder.state
+        with self.assertRaises(dataclasses.FrozenInstanceError):
+            state.l1id = 1
+        decoder.take(CAPTURE)
+        self.assertEqual(state, Decoder().state)
+        self.assertIn("phase=<Phase.HUNTING: 0>", repr(state))
+        self.assertEqual(repr(decoder), f"<Decoder, next cycle {8 * len(CAPTURE)}, HUNTING>")
+
+    def test_names(self):
+        names = {record.name for record in Decoder().take(CAPTURE)}
+        self.assertEqual(names, set(kernelstill.KINDS.values()))
+        self.assertEqual(Record(0, 0x77, 0, 0).name, "kind 77")
+
+
+class Saving(unittest.TestCase):
+    def test_at_every_byte(self):
+        """Commands and frames are cut at all their bytes."""
+        whole = Decoder()
+        records = whole.take(CAPTURE)
+        for cut in range(len(CAPTURE) + 1):
+            decoder = Decoder()
+            taken = decoder.take(CAPTURE[:cut])
+            resumed = Decoder.resume(decoder.save())
+            self.assertEqual(resumed.state, decoder.state)
+            self.assertEqual(taken + resumed.take(CAPTURE[cut:]), records, cut)
+            self.assertEqual(resumed.save(), whole.save(), cut)
+
+    def test_form(self):
+        decoder = Decoder(cycle=258)
+        decoder.take(CAPTURE)
+        saved = decoder.save()
+        self.assertEqual(len(saved), 8 * 68 + 4 * 2048 + 8192)
+        self.assertEqual(int.from_bytes(saved[:8], "little"), 1)
+        self.assertEqual(int.from_bytes(saved[40:48], "little"), 258 + 8 * len(CAPTURE))
+        self.assertEqual(struct.unpack_from("<128I", saved, 544), decoder.fifo(0))
+        self.assertEqual(saved[544 + 8192 :][:2], b"\xa5\xc3")
+
+    def test_copies_are_apart(self):
+        decoder = Decoder()
+        decoder.take(CAPTURE, 0, 1001)
+        pickled = pickle.loads(pickle.dumps(decoder))
+        for other in (copy.copy(decoder), copy.deepcopy(decoder), pickled):
+            before = decoder.save()
+            self.assertEqual(other.save(), before)
+            other.take(CAPTURE, 1001)
+            self.assertEqual(decoder.save(), before)
+        refused = pickle.loads(pickle.dumps(Refused(5)))
+        self.assertEqual((refused.number, str(refused)), (5, str(Refused(5))))
+
+
+if __name__ == "__main__":
+    unittest.main()
