@@ -67,15 +67,41 @@ extern "C" {
 #define KERNELSTILL_FRAME 1     /* the last record is a frame's; its bits stand in the tray */
 #define KERNELSTILL_LIST_FULL 2 /* bits remain, and fewer than two words of the list are free */
 
+/* The kinds of a record. */
+#define KERNELSTILL_KIND_LV1 0x01
+#define KERNELSTILL_KIND_BCR 0x11
+#define KERNELSTILL_KIND_ECR 0x12
+#define KERNELSTILL_KIND_CAL 0x14
+#define KERNELSTILL_KIND_SYNC 0x18
+#define KERNELSTILL_KIND_BAD_FAST 0x1F
+#define KERNELSTILL_KIND_WR_REGISTER 0x20
+#define KERNELSTILL_KIND_RD_REGISTER 0x21
+#define KERNELSTILL_KIND_WR_FIFO 0x22
+#define KERNELSTILL_KIND_RD_FIFO 0x23
+#define KERNELSTILL_KIND_WR_FRONT_END 0x24
+#define KERNELSTILL_KIND_RD_FRONT_END 0x25
+#define KERNELSTILL_KIND_WR_RECEIVER 0x26
+#define KERNELSTILL_KIND_EN_DATA_TAKE 0x28
+#define KERNELSTILL_KIND_GLOBAL_RESET_MCC 0x29
+#define KERNELSTILL_KIND_GLOBAL_RESET_FE 0x2A
+#define KERNELSTILL_KIND_BAD_SLOW 0x2F
+
+/* The flags of a record, added up. */
+#define KERNELSTILL_FLAG_ACTED 0x01    /* acted on */
+#define KERNELSTILL_FLAG_FLIP 0x02     /* an LV1 with flip */
+#define KERNELSTILL_FLAG_SENT 0x04     /* sent to the front ends */
+#define KERNELSTILL_FLAG_MISSING 0x08  /* a missing register */
+#define KERNELSTILL_FLAG_UNSTEADY 0x10 /* a front-end group was unsteady */
+
 /*
  * The image: the state as plain words, which a host may store and go on with
  * after a restart, together with the store and the tray. Word 0 is the
  * layout's number; an image of another layout is malformed, and so is one
  * with a word beyond its width. Nothing else about an image is malformed.
  *
- * Words 7 to 13 are the recogniser's. Those that the present phase does not
- * use are 0, but for word 12, which also changes, without a meaning, inside
- * a WrReceiver.
+ * Words 7 to 13 are the recogniser's. What those hold that the present phase
+ * does not use means nothing. From an opening on they are 0 there, but for
+ * word 12, which changes inside a WrReceiver too.
  */
 #define KERNELSTILL_LAYOUT 1
 #define KERNELSTILL_AT_LAYOUT 0    /* KERNELSTILL_LAYOUT */
@@ -104,7 +130,8 @@ extern "C" {
 
 /*
  * Opens with a register plan at a cycle: writes the start state into the
- * image and answers 0. Refused with 1 or 2, it answers the number and writes
+ * image and answers 0. Numbers too wide for a mask or an address make a plan
+ * that does not open. Refused with 1 or 2, it answers the number and writes
  * the default plan's start state at cycle 0. Where the image has another
  * length, it answers 1, 2 or else 3, and writes nothing.
  */
@@ -121,7 +148,7 @@ uint64_t kernelstill_open(
  * stops after a frame's record, since the next frame uses the tray anew, and
  * where fewer than two words of the list are free; go on with the bits that
  * remain. Refused with 3, 4, 5 or 6, it answers the number and changes
- * nothing.
+ * nothing, `told` included.
  *
  * Wherever a stream is cut into calls, the records are the same, as long as
  * image, store and tray go from each call to the next. At the first call the
@@ -141,8 +168,9 @@ uint64_t kernelstill_take(
     uint64_t *told, size_t told_length);
 
 /*
- * The count of bits of a frame, from the two words of its record, which has
- * kind 0x24, 0x25 or 0x26.
+ * The count of bits of a frame, from the two words of its record, which is
+ * of kind WR_FRONT_END, RD_FRONT_END or WR_RECEIVER; without a meaning for
+ * other kinds.
  */
 uint64_t kernelstill_frame_bits(uint64_t head, uint64_t value);
 
@@ -164,8 +192,9 @@ uint64_t kernelstill_hex_line(
 
 /*
  * Writes a record's line of the listing into the first 28 elements of `line`,
- * the last of them its line feed, and answers 0. Refused with 4 where `line`
- * is shorter, it changes nothing.
+ * the last of them its line feed, and answers 0. The value is printed by its
+ * low 32 bits; no record has more. Refused with 4 where `line` is shorter, it
+ * changes nothing.
  */
 uint64_t kernelstill_record_line(
     uint8_t *line, size_t line_length,

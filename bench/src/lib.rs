@@ -1,9 +1,20 @@
-//! The proved taking call, linked from the archive that `rt staticlib bench` writes.
+//! The proved calls, linked from the archive that `rt staticlib kernelstill`
+//! writes; include/kernelstill.h says what each does.
 
 extern "C" {
-    /// Opens with the default plan at cycle 0 and takes bits; answers the
-    /// records written. A slice passes as a pointer and then a length.
-    fn kernelstill_take_fresh(
+    fn kernelstill_open(
+        mask: u64,
+        csr: u64,
+        feen: u64,
+        cnt: u64,
+        cycle: u64,
+        image: *mut u64,
+        image_length: usize,
+    ) -> u64;
+
+    fn kernelstill_take(
+        image: *mut u64,
+        image_length: usize,
         input: *const u8,
         input_length: usize,
         first: usize,
@@ -15,34 +26,44 @@ extern "C" {
         list: *mut u64,
         list_length: usize,
         free: usize,
-    ) -> usize;
+        told: *mut u64,
+        told_length: usize,
+    ) -> u64;
 }
 
 /// What a call is lent beside its input.
-#[derive(Clone, PartialEq, Debug)]
 pub struct Buffers {
     pub store: Vec<u32>,
     pub tray: Vec<u8>,
     pub list: Vec<u64>,
 }
 
-/// Opens with the default plan at cycle 0 and takes `count` bits from bit
-/// `first` on; answers the records written.
-pub fn take_fresh(input: &[u8], first: usize, count: usize, b: &mut Buffers, free: usize) -> usize {
-    // Each slice is lent for this call only, and no two overlap.
-    unsafe {
-        kernelstill_take_fresh(
+/// Opens with the default plan at cycle 0 and takes all bits of the input;
+/// answers the records written.
+pub fn take_fresh(input: &[u8], b: &mut Buffers) -> usize {
+    let mut image = [0; 68];
+    let mut told = [0; 3];
+    // Each slice is lent for its call only, and no two overlap.
+    let number = unsafe {
+        kernelstill_open(0x007F, 0, 2, 5, 0, image.as_mut_ptr(), image.len());
+        kernelstill_take(
+            image.as_mut_ptr(),
+            image.len(),
             input.as_ptr(),
             input.len(),
-            first,
-            count,
+            0,
+            8 * input.len(),
             b.store.as_mut_ptr(),
             b.store.len(),
             b.tray.as_mut_ptr(),
             b.tray.len(),
             b.list.as_mut_ptr(),
             b.list.len(),
-            free,
+            0,
+            told.as_mut_ptr(),
+            told.len(),
         )
-    }
+    };
+    assert_eq!(number, 0, "the call is refused");
+    told[1] as usize
 }

@@ -13,7 +13,7 @@ const CALL: usize = 65_536;
 const TURNS: usize = 40;
 
 fn proved(input: &[u8], b: &mut Buffers) -> usize {
-    take_fresh(input, 0, 8 * input.len(), b, 0)
+    take_fresh(input, b)
 }
 
 fn separate(input: &[u8], b: &mut Buffers) -> usize {
@@ -38,34 +38,55 @@ fn plain(input: &[u8], b: &mut Buffers) -> usize {
 
 type Reader = fn(&[u8], &mut Buffers) -> usize;
 
-fn main() {
-    let mut buffers = Buffers {
+const READERS: [(&str, Reader); 3] = [
+    ("proved", proved),
+    ("separate reader", separate),
+    ("plain triggers", plain),
+];
+
+fn buffers() -> Buffers {
+    Buffers {
         store: vec![0; 2048],
         tray: vec![0; 8192],
         list: vec![0; 4 * CALL],
-    };
-    let readers: [(&str, Reader); 3] = [
-        ("proved", proved),
-        ("separate reader", separate),
-        ("plain triggers", plain),
-    ];
-    for (name, input) in [("zeros", streams::zeros()), ("dense", streams::dense())] {
+    }
+}
+
+fn inputs() -> [(&'static str, Vec<u8>); 2] {
+    [("zeros", streams::zeros()), ("dense", streams::dense())]
+}
+
+fn main() {
+    let mut buffers = buffers();
+    for (name, input) in inputs() {
         let mut best = [f64::MAX; 3];
-        let mut records = [0; 3];
         for _ in 0..TURNS {
-            for (k, (_, read)) in readers.iter().enumerate() {
+            for (k, (_, read)) in READERS.iter().enumerate() {
                 let began = Instant::now();
-                records[k] = input.chunks(CALL).map(|c| read(c, &mut buffers)).sum();
+                let records: usize = input.chunks(CALL).map(|c| read(c, &mut buffers)).sum();
                 best[k] = best[k].min(began.elapsed().as_secs_f64());
+                std::hint::black_box(records);
             }
         }
-        assert!(records.iter().all(|r| *r == records[0]), "{records:?}");
         let bits = 8.0 * input.len() as f64;
-        for (k, (who, _)) in readers.iter().enumerate() {
+        for (k, (who, _)) in READERS.iter().enumerate() {
             println!("{name}: {who}: {:.3} ns a bit", best[k] / bits * 1e9);
         }
-        for (k, (who, _)) in readers.iter().enumerate().skip(1) {
+        for (k, (who, _)) in READERS.iter().enumerate().skip(1) {
             println!("{name}: proved / {who}: {:.2}", best[0] / best[k]);
+        }
+    }
+}
+
+#[test]
+fn the_readers_write_the_same_records() {
+    for (name, input) in inputs() {
+        for part in input.chunks(CALL) {
+            let written = READERS.map(|(_, read)| {
+                let mut buffers = buffers();
+                (read(part, &mut buffers), buffers.list)
+            });
+            assert!(written.iter().all(|w| *w == written[0]), "{name}");
         }
     }
 }

@@ -6,10 +6,15 @@ use crate::random::Random;
 use crate::recogniser::{BCR, CAL, ECR, SYNC};
 use crate::slow;
 
-/// Whole commands with random zeros between them. It follows CNT as the
-/// commands write it by the default plan, so that variable fields end where
-/// the next command begins. Most CNT are small, to keep frames short.
+/// Whole commands by the default plan.
 pub fn commands(random: &mut Random, count: usize) -> Stream {
+    commands_by(Plan::DEFAULT, random, count)
+}
+
+/// Whole commands with random zeros between them. It follows CNT as the
+/// commands write it by the plan, so that variable fields end where the next
+/// command begins. Most CNT are small, to keep frames short.
+pub fn commands_by(plan: Plan, random: &mut Random, count: usize) -> Stream {
     let mut stream = Stream::new().en_data_take();
     let mut cnt = 0;
     for _ in 0..count {
@@ -19,7 +24,7 @@ pub fn commands(random: &mut Random, count: usize) -> Stream {
             8..=12 => stream.fast([BCR, ECR, CAL, SYNC][random.below(4) as usize]),
             13 => stream.fast(bad_body(random)),
             14..=16 => stream.en_data_take(),
-            _ => slow_command(stream, random, &mut cnt),
+            _ => slow_command(stream, plan, random, &mut cnt),
         };
     }
     stream
@@ -38,8 +43,7 @@ fn gap(random: &mut Random) -> usize {
     }
 }
 
-fn slow_command(stream: Stream, random: &mut Random, cnt: &mut u16) -> Stream {
-    let plan = Plan::DEFAULT;
+fn slow_command(stream: Stream, plan: Plan, random: &mut Random, cnt: &mut u16) -> Stream {
     let nibble = random.below(16) as u8;
     match random.below(20) {
         0..=2 => {

@@ -16,6 +16,7 @@ pub mod generate;
 pub mod golden;
 pub mod group;
 pub mod hex;
+pub mod interface;
 pub mod limits;
 pub mod listing;
 pub mod model;

@@ -3,8 +3,9 @@
 ghost use mathlib.Core.Path.{_≡_};
 ghost use lib.ListN.{length};
 ghost use Rattle.controller.specs.Records.{kindOf, frameBitsOf};
-ghost use Rattle.decoder.specs.Opening.{openingNumber};
-ghost use Rattle.decoder.specs.Take.{endingNumber};
+ghost use Rattle.decoder.specs.Opening.{openOf, openingNumber};
+ghost use Rattle.decoder.specs.Take.{takeOf, endingNumber};
+ghost use Rattle.image.specs.Image.{stateOf};
 ghost use Rattle.frames.specs.Tray.{partOf};
 ghost use Rattle.kernelstill.specs.Open.{emptyPlan, planOf, openLeftOf};
 ghost use Rattle.kernelstill.specs.Take.{endingCode, wordsTold, soundImage, takeLeftOf};
@@ -97,7 +98,7 @@ fn ending_code(ending: Ending) -> u64
     }
 }
 
-// Opening: the start state's image, and the refusal number.
+// Opening: the start state's image, which reads as that state, and the refusal number.
 #[no_mangle]
 pub extern "C" fn kernelstill_open(
     mask: u64,
@@ -108,6 +109,7 @@ pub extern "C" fn kernelstill_open(
     image: &mut [u64],
 ) -> u64
     ensures { λ r. ⌜ (record { number = r; image = now (image .exit) }) ≡ openLeftOf mask csr feen cnt cycle (now (image .entry)) ⌝ }
+    ensures { λ _. ⌜ (length (now (image .entry)) ≡ 68 → stateOf (now (image .exit)) ≡ openOf (planOf mask csr feen cnt) cycle .decoder) ⌝ }
 {
     let plan = plan_of(mask, csr, feen, cnt);
     let opened = Decoder::start(plan, cycle);
@@ -146,7 +148,8 @@ fn tell(told: &mut [u64], answer: Told)
     told[2] = ending_code(ending);
 }
 
-// Taking bits: the image, the store and the tray move on, records go into the list, and what the call tells into three words.
+// Taking bits: the image, the store and the tray move on, records go into the list, and what the call tells into three words. The image reads as the
+// next state.
 #[no_mangle]
 pub extern "C" fn kernelstill_take(
     image: &mut [u64],
@@ -160,6 +163,7 @@ pub extern "C" fn kernelstill_take(
     told: &mut [u64],
 ) -> u64
     ensures { λ r. ⌜ (record { number = r; image = now (image .exit); told = now (told .exit); store = now (store .exit); tray = now (tray .exit); list = now (list .exit) }) ≡ takeLeftOf (now (image .entry)) (now (told .entry)) (record { input = now (input .entry); first = first; count = count; store = now (store .entry); tray = now (tray .entry); list = now (list .entry); free = free }) ⌝ }
+    ensures { λ r. ⌜ (r ≡ 0 → stateOf (now (image .exit)) ≡ takeOf (stateOf (now (image .entry))) (record { input = now (input .entry); first = first; count = count; store = now (store .entry); tray = now (tray .entry); list = now (list .entry); free = free }) .taken .decoder) ⌝ }
 {
     if !sound_image(image) {
         return UNSOUND;

@@ -1,3 +1,4 @@
 pub mod Refusals
 pub mod Records
 pub mod Damage
+pub mod Hosts

@@ -22,10 +22,15 @@ const TOLD: usize = 40;
 impl Tally {
     pub fn add(&mut self, checks: Vec<Check>) {
         for Check { name, fault } in checks {
-            match fault {
-                None => self.passed += 1,
-                Some(fault) => self.failed.push(format!("{name}: {fault}")),
-            }
+            self.count(name, fault);
+        }
+    }
+
+    /// Counts one comparison, passed when it has no fault.
+    pub fn count(&mut self, name: impl fmt::Display, fault: Option<impl fmt::Display>) {
+        match fault {
+            None => self.passed += 1,
+            Some(fault) => self.failed.push(format!("{name}: {fault}")),
         }
     }
 

@@ -11,13 +11,16 @@ use Rattle.kernelstill.proofs.kernelstill_open.Statement.{statement}
 use Rattle.kernelstill.proofs.kernelstill_open.Tie as tie
 
 -- the opening as the definition has it
+state : (n : tie.After-opening-number)
+    → n .before .start .result
+    ≡ openOf (planOf (n .before .before .before .before .args .mask) (n .before .before .before .before .args .csr) (n .before .before .before .before .args .feen) (n .before .before .before .before .args .cnt)) (n .before .before .before .before .args .cycle)
+state n = n .before .start .ensures ∙ ap (λ (p : Plan). openOf p (n .before .before .before .before .args .cycle)) (n .before .before .plan-of .ensures)
+
 asked : (n : tie.After-opening-number)
     → openedInto (n .before .start .result) (n .before .before .before .before .args .image .now)
     ≡ openLeftOf (n .before .before .before .before .args .mask) (n .before .before .before .before .args .csr) (n .before .before .before .before .args .feen) (n .before .before .before .before .args .cnt) (n .before .before .before .before .args .cycle) (n .before .before .before .before .args .image .now)
 unfolding openLeftOf
-asked n =
-    let a = n .before .before .before .before .args in
-    ap (λ (o : Opened). openedInto o (a .image .now)) (n .before .start .ensures ∙ ap (λ (p : Plan). openOf p (a .cycle)) (n .before .before .plan-of .ensures))
+asked n = ap (λ (o : Opened). openedInto o (n .before .before .before .before .args .image .now)) (state n)
 
 plan-of-requires : tie.Need-plan-of-requires
 plan-of-requires c κs = search needs
@@ -32,13 +35,13 @@ returns : tie.Need-returns
 unfolding openLeftOf
 returns c =
     let n = c .before .before in
-    no-room (n .before .start .result) (n .before .before .before .before .args .image .now) _ (n .opening-number .ensures) (c .before .if1 .taken) (c .if2 .taken) ∙ asked n
+    (no-room (n .before .start .result) (n .before .before .before .before .args .image .now) _ (n .opening-number .ensures) (c .before .if1 .taken) (c .if2 .taken) ∙ asked n, λ long. absurd (c .before .if1 .taken long))
 
 returns-2 : tie.Need-returns-2
 unfolding openLeftOf
 returns-2 c =
     let n = c .before .before in
-    no-room-refused (n .before .start .result) (n .before .before .before .before .args .image .now) _ (n .opening-number .ensures) (c .before .if1 .taken) (c .if2 .left) ∙ asked n
+    (no-room-refused (n .before .start .result) (n .before .before .before .before .args .image .now) _ (n .opening-number .ensures) (c .before .if1 .taken) (c .if2 .left) ∙ asked n, λ long. absurd (c .before .if1 .taken long))
 
 write-requires : tie.Need-write-requires
 write-requires c κs = search needs
@@ -51,7 +54,7 @@ unfolding openLeftOf
 returns-3 c =
     let i = c .before .before .before .before .before in
     let n = i .before in
-    filled (n .before .start .result) (n .before .before .before .before .args .image .now) _ (n .opening-number .ensures) (i .if1 .left) _ (c .before .before .write .ensures .0) ∙ asked n
+    (filled (n .before .start .result) (n .before .before .before .before .args .image .now) _ (n .opening-number .ensures) (i .if1 .left) _ (c .before .before .write .ensures .0) ∙ asked n, λ long. c .before .before .write .ensures .1 ∙ ap (λ (o : Opened). o .decoder) (state n))
 
 pub kernelstill-open-spec : {M : Type 1} → statement M
 kernelstill-open-spec =

@@ -1,0 +1,159 @@
+//! A call of the interface, and its request to the driver.
+
+/// A call with all that it lends.
+#[derive(Clone, Debug)]
+pub enum Call {
+    Open(Open),
+    Take(Take),
+    FrameBits {
+        head: u64,
+        value: u64,
+    },
+    FramePart {
+        tray: Vec<u8>,
+        bits: u64,
+    },
+    HexLine {
+        line: Vec<u8>,
+        bytes: Vec<u8>,
+    },
+    RecordLine {
+        line: Vec<u8>,
+        head: u64,
+        value: u64,
+    },
+}
+
+#[derive(Clone, Debug)]
+pub struct Open {
+    pub mask: u64,
+    pub csr: u64,
+    pub feen: u64,
+    pub cnt: u64,
+    pub cycle: u64,
+    pub image: Vec<u64>,
+}
+
+#[derive(Clone, Debug)]
+pub struct Take {
+    pub image: Vec<u64>,
+    pub input: Vec<u8>,
+    pub first: u64,
+    pub count: u64,
+    pub store: Vec<u32>,
+    pub tray: Vec<u8>,
+    pub list: Vec<u64>,
+    pub free: u64,
+    pub told: Vec<u64>,
+}
+
+/// The pointer that a slice of length 0 goes with.
+#[derive(Clone, Copy, Debug, PartialEq, Eq)]
+pub enum Empty {
+    /// One that must not be followed: to the end of a block.
+    Block,
+    Null,
+}
+
+impl Call {
+    /// Whether a slice of length 0 is lent, which can go with either pointer.
+    pub fn lends_empty(&self) -> bool {
+        match self {
+            Call::Open(open) => open.image.is_empty(),
+            Call::Take(take) => {
+                [&take.image, &take.list, &take.told]
+                    .iter()
+                    .any(|words| words.is_empty())
+                    || take.input.is_empty()
+                    || take.store.is_empty()
+                    || take.tray.is_empty()
+            }
+            Call::FrameBits { .. } => false,
+            Call::FramePart { tray, .. } => tray.is_empty(),
+            Call::HexLine { line, bytes } => line.is_empty() || bytes.is_empty(),
+            Call::RecordLine { line, .. } => line.is_empty(),
+        }
+    }
+
+    /// The words that ask the driver for this call.
+    pub fn request(&self, empty: Empty) -> Vec<u8> {
+        let mut request = Request {
+            bytes: Vec::new(),
+            empty,
+        };
+        match self {
+            Call::Open(open) => {
+                let Open {
+                    mask,
+                    csr,
+                    feen,
+                    cnt,
+                    cycle,
+                    image,
+                } = open;
+                request.words(&[1, *mask, *csr, *feen, *cnt, *cycle]);
+                request.words_slice(image);
+            }
+            Call::Take(take) => request.take(take),
+            Call::FrameBits { head, value } => request.words(&[3, *head, *value]),
+            Call::FramePart { tray, bits } => {
+                request.words(&[4]);
+                request.bytes_slice(tray);
+                request.words(&[*bits]);
+            }
+            Call::HexLine { line, bytes } => {
+                request.words(&[5]);
+                request.bytes_slice(line);
+                request.bytes_slice(bytes);
+            }
+            Call::RecordLine { line, head, value } => {
+                request.words(&[6]);
+                request.bytes_slice(line);
+                request.words(&[*head, *value]);
+            }
+        }
+        request.bytes
+    }
+}
+
+struct Request {
+    bytes: Vec<u8>,
+    empty: Empty,
+}
+
+impl Request {
+    fn words(&mut self, words: &[u64]) {
+        self.bytes
+            .extend(words.iter().flat_map(|w| w.to_le_bytes()));
+    }
+
+    /// What stands ahead of a slice's elements.
+    fn slice(&mut self, length: usize) {
+        let null = length == 0 && self.empty == Empty::Null;
+        self.words(&[length as u64, u64::from(null)]);
+    }
+
+    fn words_slice(&mut self, words: &[u64]) {
+        self.slice(words.len());
+        self.words(words);
+    }
+
+    fn bytes_slice(&mut self, bytes: &[u8]) {
+        self.slice(bytes.len());
+        self.bytes.extend_from_slice(bytes);
+    }
+
+    fn take(&mut self, take: &Take) {
+        self.words(&[2]);
+        self.words_slice(&take.image);
+        self.bytes_slice(&take.input);
+        self.words(&[take.first, take.count]);
+        self.slice(take.store.len());
+        self.bytes
+            .extend(take.store.iter().flat_map(|word| word.to_le_bytes()));
+        self.bytes_slice(&take.tray);
+        self.words_slice(&take.list);
+        self.words(&[take.free]);
+        self.words_slice(&take.told);
+    }
+}

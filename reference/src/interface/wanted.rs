@@ -1,0 +1,135 @@
+//! What a call must come to, by the separate reader.
+
+use super::call::{Call, Open, Take};
+use super::image::{free_places, image, state};
+use super::layout::{
+    DONE, FIT, FRAME, IMAGE_WORDS, LINE_BYTES, LIST_FULL, RECORD_LINE_BYTES, TOLD_WORDS, UNSOUND,
+    WRONG_BUFFERS, WRONG_PLAN,
+};
+use crate::hex::hex_line;
+use crate::listing::push_record;
+use crate::plan::Plan;
+use crate::record::Record;
+use crate::sound::sound;
+use crate::state::{open, State};
+use crate::take::{take, Ending};
+use crate::tray::frame_part;
+
+#[derive(Clone, Debug)]
+pub struct Wanted {
+    /// What the function answers.
+    pub answer: u64,
+    /// The call with its buffers as they are afterwards.
+    pub after: Call,
+    /// Places of the image whose words are without a meaning.
+    pub free: Vec<usize>,
+}
+
+pub fn wanted(call: &Call) -> Wanted {
+    let mut after = call.clone();
+    let answer = match &mut after {
+        Call::Open(after) => opening(after),
+        Call::Take(after) => return taking(after),
+        Call::FrameBits { head, value } => {
+            let record = Record::from_words([*head, *value]);
+            record.frame_bits().expect("a frame's record")
+        }
+        Call::FramePart { tray, bits } => frame_part(tray, *bits).len() as u64,
+        Call::HexLine { line, bytes } => reading(line, bytes),
+        Call::RecordLine { line, head, value } => writing(line, [*head, *value]),
+    };
+    Wanted {
+        answer,
+        after,
+        free: Vec::new(),
+    }
+}
+
+/// A refused opening too writes a start state, where there is room for one.
+fn opening(call: &mut Open) -> u64 {
+    let (number, state) = match plan(call) {
+        Some(plan) => open(plan, call.cycle),
+        None => (Some(WRONG_PLAN as u8), State::start(Plan::DEFAULT, 0)),
+    };
+    let number = number.map(u64::from);
+    if call.image.len() != IMAGE_WORDS {
+        return number.unwrap_or(UNSOUND);
+    }
+    call.image.copy_from_slice(&image(&state));
+    number.unwrap_or(FIT)
+}
+
+/// `None` where a number is beyond its width: no such address or mask exists.
+fn plan(call: &Open) -> Option<Plan> {
+    Some(Plan {
+        mask: call.mask.try_into().ok()?,
+        csr: call.csr.try_into().ok()?,
+        feen: call.feen.try_into().ok()?,
+        cnt: call.cnt.try_into().ok()?,
+    })
+}
+
+fn taking(call: &Take) -> Wanted {
+    let mut after = call.clone();
+    let answer = take_into(&mut after);
+    Wanted {
+        answer,
+        free: match answer {
+            FIT => free_places(&call.image, &after.image),
+            _ => Vec::new(),
+        },
+        // What was lent, not what the reader left: nothing changes.
+        after: Call::Take(if answer == FIT { after } else { call.clone() }),
+    }
+}
+
+fn take_into(call: &mut Take) -> u64 {
+    let Some(state) = state(&call.image).filter(sound) else {
+        return UNSOUND;
+    };
+    if call.told.len() != TOLD_WORDS {
+        return WRONG_BUFFERS;
+    }
+    let answer = take(
+        state,
+        &call.input,
+        call.first,
+        call.count,
+        &mut call.store,
+        &mut call.tray,
+        &mut call.list,
+        call.free,
+    );
+    let ending = match answer.ending {
+        Ending::Done => DONE,
+        Ending::Frame => FRAME,
+        Ending::ListFull => LIST_FULL,
+        Ending::Refused(number) => return u64::from(number),
+    };
+    call.image.copy_from_slice(&image(&answer.state));
+    call.told = vec![answer.bits_taken, answer.records_written, ending];
+    FIT
+}
+
+fn reading(line: &[u8], bytes: &mut [u8]) -> u64 {
+    if bytes.len() < LINE_BYTES {
+        return WRONG_BUFFERS;
+    }
+    match hex_line(line) {
+        Ok(read) => {
+            bytes[..read.len()].copy_from_slice(&read);
+            FIT
+        }
+        Err(number) => u64::from(number),
+    }
+}
+
+fn writing(line: &mut [u8], record: [u64; 2]) -> u64 {
+    if line.len() < RECORD_LINE_BYTES {
+        return WRONG_BUFFERS;
+    }
+    let mut written = Vec::new();
+    push_record(&mut written, &Record::from_words(record));
+    line[..RECORD_LINE_BYTES].copy_from_slice(&written);
+    FIT
+}
