@@ -68,8 +68,8 @@ narrow : (limit : ℕ) (ws : List ℕ) → length ws ≡ 16 → ((n : ℕ) → n
 narrow limit ws sixteen low =
     ext-getD 0 (narrowed limit ws) ws (length-narrowed limit ws)
     (λ (n : ℕ) (h : n < length (narrowed limit ws)).
-      let inside : n < length ws = omega (arith, h, length-narrowed limit ws) in
-      narrowed-at limit ws n inside ∙ mod-eq-of-lt (low n (omega (arith, inside, sixteen))))
+    let inside : n < length ws = omega (arith, h, length-narrowed limit ws) in
+    narrowed-at limit ws n inside ∙ mod-eq-of-lt (low n (omega (arith, inside, sixteen))))
 
 bit-read : (b : Bool) → eqb (bit b) 1 ≡ b
 bit-read true = refl

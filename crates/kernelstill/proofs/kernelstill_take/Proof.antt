@@ -93,9 +93,10 @@ returns-4 c =
     let t = n .before .before .before .before .before .before .before .before in
     let i = t .before .before .before .before .before .before in
     let a = i .before .before .before .before .before .before .before .before .before .before .args in
-    let call : Call = record { input = a .input .now; first = a .first; count = a .count; store = a .store .now; tray = a .tray .now; list = a .list .now; free = a .free } in
-    (accepted (a .image .now) (a .told .now) call (sound (i .before)) (i .if2 .left) (t .before .before .before .before .read .result) (t .before .before .before .before .read .ensures) _ (t .take .ensures) _ (n .ending-number .ensures) (c .before .before .before .before .before .before .before .before .before .if3 .left) _ _ (c .before .before .write .ensures .0) (c .before .before .before .before .before .before .before .tell .ensures),
-    λ z. c .before .before .write .ensures .1 ∙ ap (λ (l : Left). l .taken .decoder) (t .take .ensures ∙ ap (λ (d : Decoder). takeOf d call) (t .before .before .before .before .read .ensures)))
+    let call : Call = record { input = a .input .now; first = a .first; count = a .count; store = a .store .now; tray = a .tray .now; list = a .list .now; free = a .free } in (
+      accepted (a .image .now) (a .told .now) call (sound (i .before)) (i .if2 .left) (t .before .before .before .before .read .result) (t .before .before .before .before .read .ensures) _ (t .take .ensures) _ (n .ending-number .ensures) (c .before .before .before .before .before .before .before .before .before .if3 .left) _ _ (c .before .before .write .ensures .0) (c .before .before .before .before .before .before .before .tell .ensures),
+      λ z. c .before .before .write .ensures .1 ∙ ap (λ (l : Left). l .taken .decoder) (t .take .ensures ∙ ap (λ (d : Decoder). takeOf d call) (t .before .before .before .before .read .ensures)),
+    )
 
 pub kernelstill-take-spec : {M : Type 1} → statement M
 kernelstill-take-spec =
