@@ -6,6 +6,7 @@ use mathlib.Core.Path.{_≡_, refl}
 use Prim.Native.Nat.{ℕ, zero, suc, _+_, _/_, _%_, _^_}
 use lib.Dec.{eqb}
 use lib.ListN.{getD, set}
+use Rattle.bits.proofs.Truth.{choice, or-left, or-right}
 use Rattle.recogniser.specs.declared.Event.{Event}
 use Rattle.recogniser.specs.declared.Event.the-variants as event
 use Rattle.controller.specs.declared.Plan.{Plan}
@@ -16,12 +17,6 @@ use Rattle.controller.specs.Registers.{feenOf, writtenOf}
 use Rattle.controller.specs.Fifos.{Fifos, movedOn, pushOf, writeOf}
 use Rattle.controller.specs.Commands.{Effect, effect, zeros16, writeRegisterOf, readRegisterOf, writeFifoOf, readFifoOf, enableOf, resetOf, resetFrontEndsOf, slowOf, actOf}
 use Rattle.controller.specs.Sound.{changesRegisters}
-use Rattle.controller.proofs.Facts.{or-left, or-right}
-
--- Either side of a test.
-pub split : {A : Type 0} (P : A → Type 0) (b : Bool) {x y : A} → (b ≡ true → P x) → (b ≡ false → P y) → P (cond b x y)
-split P true p q = p refl
-split P false p q = q refl
 
 -- What each word written keeps, a WrFifo keeps.
 pub write-keeps : (P : Fifos → Type 0) → ((n word : ℕ) (f : Fifos) → P f → P (pushOf n word f))
@@ -29,7 +24,7 @@ pub write-keeps : (P : Fifos → Type 0) → ((n word : ℕ) (f : Fifos) → P f
 unfolding writeOf
 write-keeps P push zero n feen word f p = p
 write-keeps P push (suc k) n feen word f p =
-    write-keeps P push k (n + 1) feen word _ (split P (eqb (feen / 2 ^ n % 2) 1) (λ _. push n word f p) (λ _. p))
+    write-keeps P push k (n + 1) feen word _ (choice P (eqb (feen / 2 ^ n % 2) 1) (λ _. push n word f p) (λ _. p))
 
 module _ (P : Effect → Type 0) (plan : Plan) (m : Model) (command address value time : ℕ) (store : List ℕ) where
   pub slow-cases : (eqb command 0 ≡ true → P (effect (writeRegisterOf plan m address value time) store))
@@ -41,12 +36,12 @@ module _ (P : Effect → Type 0) (plan : Plan) (m : Model) (command address valu
       → P (effect (resetFrontEndsOf m value time) store)
       → P (slowOf plan m command address value time store)
   slow-cases p0 p1 p2 p3 p8 p9 p10 =
-      split P (eqb command 0) p0
-      (λ _. split P (eqb command 1) (λ _. p1)
-      (λ _. split P (eqb command 2) (λ _. p2)
-      (λ _. split P (eqb command 3) (λ _. p3)
-      (λ _. split P (eqb command 8) p8
-      (λ _. split P (eqb command 9) p9 (λ _. p10))))))
+      choice P (eqb command 0) p0
+      (λ _. choice P (eqb command 1) (λ _. p1)
+      (λ _. choice P (eqb command 2) (λ _. p2)
+      (λ _. choice P (eqb command 3) (λ _. p3)
+      (λ _. choice P (eqb command 8) p8
+      (λ _. choice P (eqb command 9) p9 (λ _. p10))))))
 
 -- A fact of the registers, the pointers and the base: as it stands, after a BCR, an ECR, a WrRegister, a WrFifo, a RdFifo and a GlobalResetMCC.
 module _ (P : List ℕ → List ℕ → List ℕ → ℕ → Type 0) where
@@ -66,16 +61,16 @@ module _ (P : List ℕ → List ℕ → List ℕ → ℕ → Type 0) where
   act-keeps plan m event.Nothing time store here bcr ecr write push pop reset = here
   act-keeps plan m (event.Lv1 flip) time store here bcr ecr write push pop reset = here
   act-keeps plan m (event.Fast body) time store here bcr ecr write push pop reset =
-      split Holds (m .running)
-      (λ _. split Holds (eqb body 0b0001) (λ _. bcr) (λ _. split Holds (eqb body 0b0010) (λ _. ecr) (λ _. here)))
+      choice Holds (m .running)
+      (λ _. choice Holds (eqb body 0b0001) (λ _. bcr) (λ _. choice Holds (eqb body 0b0010) (λ _. ecr) (λ _. here)))
       (λ _. here)
   act-keeps plan m (event.BadFast body) time store here bcr ecr write push pop reset = here
   act-keeps plan m event.SlowBegins time store here bcr ecr write push pop reset = here
   act-keeps plan m (event.Slow command address value) time store here bcr ecr write push pop reset =
       let R : Acted → Type 0 = λ a. Holds (a .model) in
       slow-cases (λ f. R (f .acted)) plan m command address value time store
-      (λ e. split R (existsAt plan address) (λ there. write address (value % 2 ^ 16) there (or-left (eqb command 0) (eqb command 9) e)) (λ _. here))
-      (split R (existsAt plan address) (λ _. here) (λ _. here))
+      (λ e. choice R (existsAt plan address) (λ there. write address (value % 2 ^ 16) there (or-left (eqb command 0) (eqb command 9) e)) (λ _. here))
+      (choice R (existsAt plan address) (λ _. here) (λ _. here))
       (push (feenOf plan m) (value % 2 ^ 27))
       (pop (address % 16))
       (λ _. here)

@@ -6,6 +6,7 @@ use Prim.Native.Nat.{ℕ}
 use native.Mathlib.Omega.{arith}
 use lib.Dec.{ltb, leb, eqb}
 use borrow.Author.Tests.{lt-ltb, leb-true}
+use Rattle.bits.proofs.Truth.{both, choice}
 use Rattle.recogniser.specs.declared.Phase.{Phase}
 use Rattle.recogniser.specs.declared.Phase.the-variants.{Hunt, Body, Field3, Field4, Field5}
 use Rattle.recogniser.specs.declared.Meaning.{Meaning}
@@ -19,8 +20,6 @@ use Rattle.recogniser.specs.Fields.{isSlow, isFrame, lengthOf, endsOf}
 use Rattle.recogniser.specs.Groups.{storesOf, frameEventOf}
 use Rattle.recogniser.specs.Step.{stepBy, stepOf}
 use Rattle.controller.specs.Sound.{eventFits}
-use Rattle.controller.proofs.Facts.{and-true}
-use Rattle.controller.proofs.Cases.{split}
 
 abbrev Fits : Event → Type 0
 Fits e = eventFits e ≡ true
@@ -30,14 +29,14 @@ HeardFits h = Fits (h .event)
 
 frame-low : (command : ℕ) → isFrame command ≡ true → ltb command 16 ≡ true
 frame-low command e =
-    let p = leb-true command 6 (and-true (leb 4 command) (leb command 6) e .1) in
+    let p = leb-true command 6 (both (leb 4 command) (leb command 6) e .1) in
     lt-ltb command 16 (omega arith)
 
 frame-fits : (r : Recogniser) (bit : ℕ) (ends : Bool) → isFrame (r .command) ≡ true → Fits (frameEventOf r bit ends)
 frame-fits r bit ends e =
-    split Fits (storesOf (r .command) (r .count))
-    (λ _. split Fits ends (λ _. frame-low (r .command) e) (λ _. refl))
-    (λ _. split Fits ends (λ _. frame-low (r .command) e) (λ _. refl))
+    choice Fits (storesOf (r .command) (r .count))
+    (λ _. choice Fits ends (λ _. frame-low (r .command) e) (λ _. refl))
+    (λ _. choice Fits ends (λ _. frame-low (r .command) e) (λ _. refl))
 
 hunt-fits : (w : ℕ) (meaning : Meaning) → HeardFits (huntBy w meaning)
 hunt-fits w Quiet = refl
@@ -48,19 +47,19 @@ phase-fits : (phase : Phase) (r : Recogniser) (bit cnt : ℕ) → HeardFits (ste
 phase-fits Hunt r bit cnt = hunt-fits _ (meaningOf (shifted 5 (r .shift) bit))
 phase-fits Body r bit cnt =
     let body = shifted 4 (r .shift) bit in
-    split HeardFits (ltb (r .count) 3) (λ _. refl)
-    (λ _. split HeardFits (isFast body) (λ _. lt-ltb body 16 (omega arith))
-    (λ _. split HeardFits (eqb body 0b1011) (λ _. refl) (λ _. refl)))
-phase-fits Field3 r bit cnt = split HeardFits (ltb (r .count) 3) (λ _. refl) (λ _. refl)
+    choice HeardFits (ltb (r .count) 3) (λ _. refl)
+    (λ _. choice HeardFits (isFast body) (λ _. lt-ltb body 16 (omega arith))
+    (λ _. choice HeardFits (eqb body 0b1011) (λ _. refl) (λ _. refl)))
+phase-fits Field3 r bit cnt = choice HeardFits (ltb (r .count) 3) (λ _. refl) (λ _. refl)
 phase-fits Field4 r bit cnt =
-    split HeardFits (ltb (r .count) 3) (λ _. refl)
-    (λ _. split HeardFits (ltb 0 (lengthOf (r .command) cnt)) (λ _. refl)
-    (λ _. split HeardFits (isFrame (r .command)) (frame-low (r .command))
-    (λ _. split Fits (isSlow (r .command)) (λ _. refl) (λ _. refl))))
+    choice HeardFits (ltb (r .count) 3) (λ _. refl)
+    (λ _. choice HeardFits (ltb 0 (lengthOf (r .command) cnt)) (λ _. refl)
+    (λ _. choice HeardFits (isFrame (r .command)) (frame-low (r .command))
+    (λ _. choice Fits (isSlow (r .command)) (λ _. refl) (λ _. refl))))
 phase-fits Field5 r bit cnt =
-    split HeardFits (isFrame (r .command))
-    (λ e. split HeardFits (endsOf r cnt) (λ _. frame-fits r bit true e) (λ _. frame-fits r bit false e))
-    (λ _. split HeardFits (endsOf r cnt) (λ _. split Fits (isSlow (r .command)) (λ _. refl) (λ _. refl)) (λ _. refl))
+    choice HeardFits (isFrame (r .command))
+    (λ e. choice HeardFits (endsOf r cnt) (λ _. frame-fits r bit true e) (λ _. frame-fits r bit false e))
+    (λ _. choice HeardFits (endsOf r cnt) (λ _. choice Fits (isSlow (r .command)) (λ _. refl) (λ _. refl)) (λ _. refl))
 
 pub heard-fits : (r : Recogniser) (bit cnt : ℕ) → eventFits (stepOf r bit cnt .event) ≡ true
 unfolding stepOf

@@ -9,6 +9,7 @@ use native.Mathlib.Omega.{arith}
 use lib.Dec.{ltb, eqb}
 use lib.ListN.{length, getD, set, replicate, length-set}
 use borrow.Author.Tests.{lt-ltb, eq-eqb}
+use Rattle.bits.proofs.Truth.{both, choice, clash, or-left, or-right}
 use Rattle.recogniser.specs.declared.Event.{Event}
 use Rattle.recogniser.specs.declared.Event.the-variants as event
 use Rattle.controller.specs.declared.Plan.{Plan}
@@ -19,8 +20,7 @@ use Rattle.controller.specs.Registers.{cntOf}
 use Rattle.controller.specs.Fifos.{movedOn}
 use Rattle.controller.specs.Commands.{zeros16, actOf}
 use Rattle.controller.specs.Sound.{everyFrom, fitsAt, pointersFit, zeroAt, missingZero, changesRegisters, changesRunning}
-use Rattle.controller.proofs.Facts.{clash, and-true, or-left, or-right}
-use Rattle.controller.proofs.Cases.{split, write-keeps, slow-cases, act-keeps}
+use Rattle.controller.proofs.Cases.{write-keeps, slow-cases, act-keeps}
 
 -- The model after an event.
 abbrev pub after : Plan → Model → Event → ℕ → List ℕ → Model
@@ -31,7 +31,7 @@ every-more : (n i : ℕ) (f g : ℕ → Bool) → ((k : ℕ) → f k ≡ true �
 unfolding everyFrom
 every-more zero i f g more h = h
 every-more (suc n) i f g more h =
-    let p = and-true (f i) (everyFrom n (i + 1) f) h in
+    let p = both (f i) (everyFrom n (i + 1) f) h in
     rw (more i (p .0)) (every-more n (i + 1) f g more (p .1))
 
 -- An element after a store: the stored one, or what was there.
@@ -127,16 +127,16 @@ running-kept plan m event.Nothing time store h = refl
 running-kept plan m (event.Lv1 flip) time store h = refl
 running-kept plan m (event.Fast body) time store h =
     let P : Model → Type 0 = λ n. n .running ≡ m .running in
-    split P (m .running)
-    (λ _. split P (eqb body 0b0001) (λ _. refl) (λ _. split P (eqb body 0b0010) (λ _. refl) (λ _. refl)))
+    choice P (m .running)
+    (λ _. choice P (eqb body 0b0001) (λ _. refl) (λ _. choice P (eqb body 0b0010) (λ _. refl) (λ _. refl)))
     (λ _. refl)
 running-kept plan m (event.BadFast body) time store h = refl
 running-kept plan m event.SlowBegins time store h = clash refl h
 running-kept plan m (event.Slow command address value) time store h =
     let P : Acted → Type 0 = λ a. a .model .running ≡ m .running in
     slow-cases (λ f. P (f .acted)) plan m command address value time store
-    (λ _. split P (existsAt plan address) (λ _. refl) (λ _. refl))
-    (split P (existsAt plan address) (λ _. refl) (λ _. refl))
+    (λ _. choice P (existsAt plan address) (λ _. refl) (λ _. refl))
+    (choice P (existsAt plan address) (λ _. refl) (λ _. refl))
     refl refl (λ t. clash t h) (λ _. refl) refl
 running-kept plan m (event.BadSlow command) time store h = refl
 running-kept plan m (event.FrameBit place bit) time store h = refl

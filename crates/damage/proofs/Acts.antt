@@ -5,6 +5,7 @@ use mathlib.Core.Bool.{Bool, true, false, cond, not}
 use mathlib.Core.List.{List}
 use Prim.Native.Nat.{ℕ, _/_, _%_, _^_}
 use lib.Dec.{eqb, ltb, T, eqb→eq}
+use Rattle.bits.proofs.Truth.{cond-case}
 use Rattle.recogniser.specs.declared.Phase.{Phase}
 use Rattle.recogniser.specs.declared.Phase.the-variants.{Hunt, Body, Field3, Field4, Field5}
 use Rattle.recogniser.specs.declared.Meaning.{Meaning}
@@ -24,7 +25,6 @@ use Rattle.controller.specs.Parts.{withBase, withL1id, withPointers}
 use Rattle.controller.specs.Commands.{actOf, fastEffect, zeros16}
 use Rattle.decoder.specs.Entries.{entryWords}
 use Rattle.damage.specs.Records.{Counters, counters, entriesOf, counted}
-use Rattle.damage.proofs.Computed.{by-test}
 
 -- The phases outside Slow commands, and the events that lead into none.
 abbrev pub quick : Phase → Bool
@@ -73,9 +73,9 @@ module _ (r : Recogniser) (bit : ℕ) (now : T (quick (r .phase))) where
   phase-stays Hunt q = hunt-stays (shifted 5 (r .shift) bit) (meaningOf (shifted 5 (r .shift) bit))
   phase-stays Body q =
       let body : ℕ = shifted 4 (r .shift) bit in
-      by-test Stays (ltb (r .count) 3) (gatheredOf r body) _ (λ _ h. now)
-      (λ _. by-test Stays (isFast body) (heard idle (Fast body)) _ (λ _ h. tt)
-      (λ _. by-test Stays (eqb body 0b1011) (heard (startOf Field3 0 0 0) SlowBegins) (heard idle (BadFast body)) (λ _ h. absurd h) (λ _ h. tt)))
+      cond-case Stays (ltb (r .count) 3) {x = gatheredOf r body} (λ _ h. now)
+      (λ _. cond-case Stays (isFast body) {x = heard idle (Fast body)} (λ _ h. tt)
+      (λ _. cond-case Stays (eqb body 0b1011) {x = heard (startOf Field3 0 0 0) SlowBegins} {y = heard idle (BadFast body)} (λ _ h. absurd h) (λ _ h. tt)))
   phase-stays Field3 q = absurd q
   phase-stays Field4 q = absurd q
   phase-stays Field5 q = absurd q
@@ -115,10 +115,10 @@ no-test false x y h = refl
 
 fast-does : (m : Model) (body time : ℕ) → FastDoes m body time (fastEffect m body time)
 fast-does m body time =
-    by-test (FastDoes m body time) (eqb body 0b0001) (withBase time m) _
+    cond-case (FastDoes m body time) (eqb body 0b0001) {x = withBase time m}
     (λ h. let e = eqb→eq body 0b0001 h in record { counts = rw e; running = refl; registers = refl })
     (λ h.
-    by-test (FastDoes m body time) (eqb body 0b0010) (withL1id 0 (withPointers zeros16 zeros16 m)) m
+    cond-case (FastDoes m body time) (eqb body 0b0010) {x = withL1id 0 (withPointers zeros16 zeros16 m)} {y = m}
     (λ g. let e = eqb→eq body 0b0010 g in record { counts = rw e; running = refl; registers = refl })
     (λ g. record {
       counts = rw (no-test (eqb body 0b0010) 0 (m .l1id) g, no-test (eqb body 0b0001) time (m .base) h);

@@ -32,21 +32,8 @@ module _ {A : Type 0} where
   each-at f g e cal = cc
   each-at f g e sync = cc
 
--- A choice by a test, taken apart.
+-- Two choices by one test, taken apart.
 module _ {A : Type 0} where
-  pub by-test : (P : A → Type 0) (b : Bool) (x y : A) → (T b → P x) → (T (not b) → P y) → P (cond b x y)
-  by-test P true x y f g = f tt
-  by-test P false x y f g = g tt
-
   pub by-both : {B : Type 0} (P : A → B → Type 0) (b : Bool) (x y : A) (u v : B) → (T b → P x u) → (T (not b) → P y v) → P (cond b x y) (cond b u v)
   by-both P true x y u v f g = f tt
   by-both P false x y u v f g = g tt
-
--- Both of two tests.
-pub and-left : (a b : Bool) → T (a && b) → T a
-and-left true b t = tt
-and-left false b t = t
-
-pub and-right : (a b : Bool) → T (a && b) → T b
-and-right true b t = t
-and-right false b t = absurd t

@@ -9,6 +9,7 @@ use native.Mathlib.Omega.{arith}
 use lib.Dec.{ltb, leb, T, ltb→lt, nltb→le}
 use lib.ListN.{length, length-append, length-replicate}
 use borrow.Author.Tests.{lt-leb}
+use Rattle.bits.proofs.Truth.{and-right, cond-case}
 use Rattle.recogniser.specs.declared.Event.{Event}
 use Rattle.recogniser.specs.declared.Event.the-variants.{Nothing}
 use Rattle.recogniser.specs.declared.Recogniser.{Recogniser}
@@ -19,7 +20,7 @@ use Rattle.damage.specs.Commands.{Command, lv1, bcr, ecr, cal, sync, cod
 use Rattle.damage.specs.Streams.{Item, zeros, zerosBetween, itemBits, itemSize, streamBits, spaced, timed, inverted}
 use Rattle.damage.specs.Table.{Instead, damage, hitsFast, itself, insteadOf}
 use Rattle.damage.specs.Traces.{eventsOf, standsAfter, quiet, spread, itemTrace, cleanTrace, damagedItem, damagedTrace}
-use Rattle.damage.proofs.Computed.{below, below-at, each-at, by-test, and-right}
+use Rattle.damage.proofs.Computed.{below, below-at, each-at}
 use Rattle.damage.proofs.Trace.{Shows, chain, onward}
 use Rattle.damage.proofs.Resume.{shownBy, shouldShow, Resumes, Settles, empty-resumes, idling, trailing, late, clean-item, resumed-run}
 
@@ -130,7 +131,7 @@ far c z h =
 
 pub behind-one : (c : Command) (z : ℕ) → Safely c one (near c z) (nearTrace c z)
 behind-one c z =
-    by-test (λ (b : Bool). Safely c one (near c z) (nearTrace c z)) (ltb z 5) (ltb z 5) (ltb z 5)
+    cond-case (λ (b : Bool). Safely c one (near c z) (nearTrace c z)) (ltb z 5) {x = ltb z 5} {y = ltb z 5}
     (λ h.
     let g = ltb→lt z 5 h in
     record {
@@ -161,8 +162,7 @@ in-zeros a k c h =
 pub in-item : (i : Item) (k : ℕ) → k < itemSize i → Safely (i .command) idle (inverted k (itemBits i)) (damagedItem i k)
 in-item i k h =
     rw (instead-by i k)
-    (by-test (λ x. Safely (i .command) idle (inverted k (itemBits i)) (quiet (i .ahead) ++ spread (widthOf (i .command)) x))
-    (ltb k (i .ahead)) (zeroDamage (i .command) (i .ahead - k)) (damage (i .command) (suc (k - i .ahead)))
+    (cond-case (λ x. Safely (i .command) idle (inverted k (itemBits i)) (quiet (i .ahead) ++ spread (widthOf (i .command)) x)) (ltb k (i .ahead)) {x = zeroDamage (i .command) (i .ahead - k)} {y = damage (i .command) (suc (k - i .ahead))}
     (λ b.
     let g : k < length (zeros (i .ahead)) = rw length-replicate (ltb→lt k (i .ahead) b) in
     rw (inverted-left k (zeros (i .ahead)) (codeOf (i .command)) g) (in-zeros (i .ahead) k (i .command) (ltb→lt k (i .ahead) b)))
@@ -189,8 +189,7 @@ spaced-timed c (i ∷ is) h = and-right (leb (zerosBetween c (i .command)) (i .a
 pub damaged-run : (is : List Item) (t k : ℕ) → T (timed is) → eventsOf idle (inverted k (streamBits is t)) ≡ damagedTrace is t k
 damaged-run [] t k h = in-tail k t
 damaged-run (i ∷ is) t k h =
-    by-test (λ l. eventsOf idle (inverted k (itemBits i ++ streamBits is t)) ≡ l) (ltb k (itemSize i))
-    (damagedItem i k ++ cleanTrace is t) (itemTrace i ++ damagedTrace is t (k - itemSize i))
+    cond-case (λ l. eventsOf idle (inverted k (itemBits i ++ streamBits is t)) ≡ l) (ltb k (itemSize i)) {x = damagedItem i k ++ cleanTrace is t} {y = itemTrace i ++ damagedTrace is t (k - itemSize i)}
     (λ b.
     let g : k < length (itemBits i) = rw (item-length i) (ltb→lt k (itemSize i) b) in
     rw (inverted-left k (itemBits i) (streamBits is t) g) (goes-on (in-item i k (ltb→lt k (itemSize i) b)) is t h))

@@ -7,6 +7,7 @@ use Prim.Native.Nat.{ℕ, zero, suc, _+_, _-_, _<_, _≤_}
 use native.Mathlib.Omega.{arith}
 use lib.Dec.{leb, ltb, T, leb→le, ltb→lt, nltb→le}
 use lib.ListN.{length}
+use Rattle.bits.proofs.Truth.{and-left, and-right, cond-case}
 use Rattle.recogniser.specs.declared.Event.{Event}
 use Rattle.decoder.specs.Entries.{Entry}
 use Rattle.damage.specs.Commands.{Command, widthOf}
@@ -15,7 +16,7 @@ use Rattle.damage.specs.Table.{Instead, nothing, at, itself, damage, hit
 use Rattle.damage.specs.Traces.{quiet, spread, itemTrace, cleanTrace, damagedItem, damagedTrace}
 use Rattle.damage.specs.Records.{Counters, entriesOf, counted, itemEntries, itemCounted, cleanEntries, insteadEntries, insteadCounted, damagedEntries}
 use Rattle.damage.proofs.Inverted.{zeroDamage, instead-by}
-use Rattle.damage.proofs.Computed.{below, below-at, each-at, by-test, by-both, and-left, and-right}
+use Rattle.damage.proofs.Computed.{below, below-at, each-at, by-both}
 
 -- The records of a trace that begins at cycle n, and the counters after it.
 unfoldable pub performed : Bool → Counters → ℕ → List Event → List Entry
@@ -97,14 +98,14 @@ damage-within d k h =
 
 zero-within : (d : Command) (distance : ℕ) → T (within (widthOf d) (zeroDamage d distance))
 zero-within d distance =
-    by-test (λ x. T (within (widthOf d) x)) (hitsFast d distance) (damage d 0) (itself d)
+    cond-case (λ x. T (within (widthOf d) x)) (hitsFast d distance) {x = damage d 0} {y = itself d}
     (λ b. holds _ (each-at (λ d. within (widthOf d) (damage d 0)) (λ d. true) refl d))
     (λ b. itself-within d)
 
 item-within : (i : Item) (k : ℕ) → k < itemSize i → T (within (widthOf (i .command)) (insteadOf i k))
 item-within i k h =
     rw (instead-by i k)
-    (by-test (λ x. T (within (widthOf (i .command)) x)) (ltb k (i .ahead)) (zeroDamage (i .command) (i .ahead - k)) (damage (i .command) (suc (k - i .ahead)))
+    (cond-case (λ x. T (within (widthOf (i .command)) x)) (ltb k (i .ahead)) {x = zeroDamage (i .command) (i .ahead - k)} {y = damage (i .command) (suc (k - i .ahead))}
     (λ b. zero-within (i .command) (i .ahead - k))
     (λ b. let g : i .ahead ≤ k = nltb→le k (i .ahead) b in damage-within (i .command) (k - i .ahead) (omega arith)))
 

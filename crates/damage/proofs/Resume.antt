@@ -7,6 +7,7 @@ use Prim.Native.Nat.{ℕ, zero, suc, _+_, _-_, _<_, _≤_}
 use native.Mathlib.Omega.{arith}
 use lib.Dec.{ltb, leb, T, ltb→lt, nltb→le, leb→le}
 use lib.ListN.{replicate, replicate-append-replicate}
+use Rattle.bits.proofs.Truth.{and-left, cond-case}
 use Rattle.recogniser.specs.declared.Event.{Event}
 use Rattle.recogniser.specs.declared.Event.the-variants.{Nothing}
 use Rattle.recogniser.specs.declared.Recogniser.{Recogniser}
@@ -15,7 +16,7 @@ use Rattle.recogniser.specs.Step.{stepOf}
 use Rattle.damage.specs.Commands.{Command, codeOf}
 use Rattle.damage.specs.Streams.{Item, zeros, zerosBetween, itemBits, streamBits, spaced}
 use Rattle.damage.specs.Traces.{eventsOf, standsAfter, quiet, commandTrace, itemTrace, cleanTrace}
-use Rattle.damage.proofs.Computed.{below, below-at, each, each-at, by-test, and-left}
+use Rattle.damage.proofs.Computed.{below, below-at, each, each-at}
 use Rattle.damage.proofs.Trace.{Shows, chain, onward}
 
 -- What a recogniser shows over a few zeros, over five, and over each command behind a few more zeros than the timing table asks after c.
@@ -91,7 +92,7 @@ module _ (r : Recogniser) (settles : Settles r) where
   -- any number of zeros
   pub trailing : (z : ℕ) → eventsOf r (zeros z) ≡ quiet z
   trailing z =
-      by-test (λ (b : Bool). eventsOf r (zeros z) ≡ quiet z) (ltb z 5) (ltb z 5) (ltb z 5)
+      cond-case (λ (b : Bool). eventsOf r (zeros z) ≡ quiet z) (ltb z 5) {x = ltb z 5} {y = ltb z 5}
       (λ h. few-zeros z (let g = ltb→lt z 5 h in omega arith))
       (λ h.
       let g = nltb→le z 5 h in
@@ -115,7 +116,7 @@ module _ (c : Command) (r : Recogniser) (resumes : Resumes c r) (d : Command) wh
 
   pub resumed : (z : ℕ) → zerosBetween c d ≤ z → Shows r (zeros z ++ codeOf d) (quiet z ++ commandTrace d) idle
   resumed z asked =
-      by-test (λ (b : Bool). Shows r (zeros z ++ codeOf d) (quiet z ++ commandTrace d) idle) (ltb (z - zerosBetween c d) 5) (ltb z 5) (ltb z 5)
+      cond-case (λ (b : Bool). Shows r (zeros z ++ codeOf d) (quiet z ++ commandTrace d) idle) (ltb (z - zerosBetween c d) 5) {x = ltb z 5} {y = ltb z 5}
       (λ h.
       let e : zerosBetween c d + (z - zerosBetween c d) ≡ z = omega arith in
       rw e at (soon (z - zerosBetween c d) (ltb→lt (z - zerosBetween c d) 5 h)))

@@ -7,6 +7,7 @@ use Prim.Native.Nat.{ℕ, zero, suc, _+_, _*_, _-_, _/_, _%_, _^_, _<_, _≤_}
 use native.Mathlib.Omega.{arith}
 use lib.Dec.{eqb, ltb, T, ltb→lt, nltb→le}
 use lib.ListN.{length, getD, length-append}
+use Rattle.bits.proofs.Truth.{and-left, and-right, cond-case}
 use Rattle.recogniser.specs.declared.Phase.the-variants.{Hunt}
 use Rattle.recogniser.specs.declared.Event.{Event}
 use Rattle.recogniser.specs.declared.Recogniser.{Recogniser}
@@ -27,7 +28,7 @@ use Rattle.damage.specs.Streams.{Item, itemSize, streamBits, timed, inve
 use Rattle.damage.specs.Table.{damage, hitsFast, itself, insteadOf}
 use Rattle.damage.specs.Traces.{eventsOf, standsAfter, quiet, spread, commandTrace, itemTrace, cleanTrace, damagedItem, damagedTrace}
 use Rattle.damage.specs.Records.{countersOf, sendsOf, entriesOf, counted, cleanEntries, damagedEntries}
-use Rattle.damage.proofs.Computed.{below, below-at, each-at, by-test, and-left, and-right}
+use Rattle.damage.proofs.Computed.{below, below-at, each-at}
 use Rattle.damage.proofs.Trace.{events-append, stands-append, length-events}
 use Rattle.damage.proofs.Resume.{clean-run}
 use Rattle.damage.proofs.Inverted.{zeroDamage, instead-by, damaged-run}
@@ -171,7 +172,7 @@ calm-damage c k h =
 
 calm-zero : (c : Command) (distance : ℕ) → T (calmly (spread (widthOf c) (zeroDamage c distance)))
 calm-zero c distance =
-    by-test (λ x. T (calmly (spread (widthOf c) x))) (hitsFast c distance) (damage c 0) (itself c)
+    cond-case (λ x. T (calmly (spread (widthOf c) x))) (hitsFast c distance) {x = damage c 0} {y = itself c}
     (λ _. holds _ (each-at (λ c. calmly (spread (widthOf c) (damage c 0))) (λ c. true) refl c))
     (λ _. calm-itself c)
 
@@ -182,7 +183,7 @@ calm-hit : (i : Item) (k : ℕ) → k < itemSize i → T (calmly (damagedItem i 
 calm-hit i k h =
     calmly-append (quiet (i .ahead)) (spread (widthOf (i .command)) (insteadOf i k)) (calmly-quiet (i .ahead))
     (rw (instead-by i k)
-    (by-test (λ x. T (calmly (spread (widthOf (i .command)) x))) (ltb k (i .ahead)) (zeroDamage (i .command) (i .ahead - k)) (damage (i .command) (suc (k - i .ahead)))
+    (cond-case (λ x. T (calmly (spread (widthOf (i .command)) x))) (ltb k (i .ahead)) {x = zeroDamage (i .command) (i .ahead - k)} {y = damage (i .command) (suc (k - i .ahead))}
     (λ _. calm-zero (i .command) (i .ahead - k))
     (λ b. let g : i .ahead ≤ k = nltb→le k (i .ahead) b in calm-damage (i .command) (k - i .ahead) (omega arith))))
 
@@ -193,7 +194,7 @@ calm-clean (i ∷ is) t = calmly-append (itemTrace i) (cleanTrace is t) (calm-it
 calm-damaged : (is : List Item) (t k : ℕ) → T (calmly (damagedTrace is t k))
 calm-damaged [] t k = calmly-quiet t
 calm-damaged (i ∷ is) t k =
-    by-test (λ es. T (calmly es)) (ltb k (itemSize i)) (damagedItem i k ++ cleanTrace is t) (itemTrace i ++ damagedTrace is t (k - itemSize i))
+    cond-case (λ es. T (calmly es)) (ltb k (itemSize i)) {x = damagedItem i k ++ cleanTrace is t} {y = itemTrace i ++ damagedTrace is t (k - itemSize i)}
     (λ b. calmly-append (damagedItem i k) (cleanTrace is t) (calm-hit i k (ltb→lt k (itemSize i) b)) (calm-clean is t))
     (λ b. calmly-append (itemTrace i) (damagedTrace is t (k - itemSize i)) (calm-item i) (calm-damaged is t (k - itemSize i)))
 

@@ -7,7 +7,7 @@ use native.Mathlib.Omega.{arith}
 use lib.Dec.{eqb, leb}
 use lib.ListN.{length}
 use borrow.Author.Tests.{le-leb, lt-leb, leb-true, eqb-true}
-use Rattle.controller.proofs.Facts.{and-true}
+use Rattle.bits.proofs.Truth.{both}
 use Rattle.decoder.specs.declared.Decoder.{Decoder}
 use Rattle.decoder.specs.declared.Ending.{Ending}
 use Rattle.decoder.specs.declared.Ending.the-variants.{Unsound, WrongBuffers, WrongRange, ClockOver}
@@ -78,9 +78,9 @@ pub record May (next store input first count list free : ℕ) : Type 0 where
 pub run-may : (next store tray list free input first count : ℕ) → next ≤ clockLimit → buffersFit store tray list free ≡ true → rangeFits input first count ≡ true
     → count ≤ clockLimit - next → May next store input first count list free
 run-may next store tray list free input first count n b r k =
-    let p = and-true (eqb store storeLength) _ b in
-    let q = and-true (eqb tray trayLength) (leb free list) (p .1) in
-    let s = and-true (leb input inputLimit) (leb (first + count) (8 * input)) r in
+    let p = both (eqb store storeLength) _ b in
+    let q = both (eqb tray trayLength) (leb free list) (p .1) in
+    let s = both (leb input inputLimit) (leb (first + count) (8 * input)) r in
     record {
       clock-fits = omega arith;
       store-long = eqb-true store storeLength (p .0);

@@ -4,6 +4,7 @@ use mathlib.Core.Bool.{false}
 use mathlib.Core.Path.{_≡_, refl}
 use Prim.Native.Nat.{ℕ}
 use lib.Dec.{T, ltb, eqb}
+use Rattle.bits.proofs.Truth.{cond-case}
 use Rattle.recogniser.specs.declared.Phase.{Phase}
 use Rattle.recogniser.specs.declared.Phase.the-variants.{Hunt, Body, Field3, Field4, Field5}
 use Rattle.recogniser.specs.declared.Meaning.{Meaning}
@@ -17,7 +18,6 @@ use Rattle.recogniser.specs.Hunting.{isFast, meaningOf, huntBy}
 use Rattle.recogniser.specs.Fields.{isFrame, lengthOf, endsOf}
 use Rattle.recogniser.specs.Groups.{storesOf, frameEventOf}
 use Rattle.recogniser.specs.Step.{stepBy, stepOf}
-use Rattle.recogniser.proofs.Truth.{cond-case}
 use Rattle.controller.specs.Sound.{changesRegisters, changesRunning}
 use Rattle.decoder.specs.Sound.{insideSlow}
 

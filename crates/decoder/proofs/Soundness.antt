@@ -5,11 +5,11 @@ use mathlib.Core.Path.{_≡_, refl, subst⁻¹}
 use Prim.Native.Nat.{_≤_}
 use lib.Dec.{T}
 use borrow.Author.Tests.{le-leb, leb-true, not-true}
+use Rattle.bits.proofs.Truth.{both}
 use Rattle.recogniser.specs.Fit.{fitOf}
 use Rattle.controller.specs.Plan.{planFits}
 use Rattle.controller.specs.Registers.{cntOf}
 use Rattle.controller.specs.Sound.{pointersFit, missingZero}
-use Rattle.controller.proofs.Facts.{and-true}
 use Rattle.decoder.specs.declared.Decoder.{Decoder}
 use Rattle.decoder.specs.Limits.{clockLimit}
 use Rattle.decoder.specs.Sound.{insideSlow, soundOf}
@@ -55,13 +55,13 @@ module _ (d : Decoder) where
   pub sound-parts : T (soundOf d) → Sound d
   unfolding soundOf
   sound-parts t =
-      let p = and-true _ _ (holds (soundOf d) t) in
-      let q = and-true _ _ (p .1) in
-      let b = and-true _ _ (q .1) in
-      let w = and-true _ _ (b .1) in
-      let r = and-true _ _ (w .1) in
-      let m = and-true _ _ (r .1) in
-      let s = and-true _ _ (m .1) in
+      let p = both _ _ (holds (soundOf d) t) in
+      let q = both _ _ (p .1) in
+      let b = both _ _ (q .1) in
+      let w = both _ _ (b .1) in
+      let r = both _ _ (w .1) in
+      let m = both _ _ (r .1) in
+      let s = both _ _ (m .1) in
       record {
         plan = p .0;
         next = leb-true _ _ (q .0);

@@ -9,6 +9,7 @@ use native.Mathlib.Omega.{arith}
 use lib.Dec.{T, leb}
 use lib.ListN.{length, take}
 use borrow.Author.Tests.{leb-true, leb-false, not-false}
+use Rattle.bits.proofs.Truth.{choice}
 use Rattle.bits.specs.Bits.{bitOf, bitsOf}
 use Rattle.recogniser.specs.declared.Event.the-variants.{SlowBegins}
 use Rattle.recogniser.specs.declared.Recogniser.{Recogniser}
@@ -19,7 +20,6 @@ use Rattle.controller.specs.declared.Plan.{Plan}
 use Rattle.controller.specs.declared.Model.{Model}
 use Rattle.controller.specs.Plan.{planFits, defaultPlan}
 use Rattle.controller.specs.Registers.{cntOf}
-use Rattle.controller.proofs.Cases.{split}
 use Rattle.controller.proofs.Laws.{after, zeros-fit, zeros-missing, writes-fit, reads-fit, missing-zero, base-low, cnt-kept, begins-stops, running-kept}
 use Rattle.decoder.specs.declared.Decoder.{Decoder}
 use Rattle.decoder.specs.declared.Opened.{Opened}
@@ -56,8 +56,8 @@ unfolding openOf
 start-sound plan cycle =
     let P : Opened → Type 0 = λ o. T (soundOf (o .decoder)) in
     let default = opened-sound defaultPlan 0 default-fits (omega arith) in
-    split P (not (planFits plan)) (λ _. default)
-    (λ p. split P (leb clockLimit cycle) (λ _. default)
+    choice P (not (planFits plan)) (λ _. default)
+    (λ p. choice P (leb clockLimit cycle) (λ _. default)
     (λ c. opened-sound plan cycle (not-false _ p) (omega (arith, leb-false clockLimit cycle c))))
 
 -- RunMode stays off inside a Slow, and the recogniser stays fit by CNT as it then stands.
@@ -115,8 +115,8 @@ module _ (d : Decoder) (c : Call) (t : T (soundOf d)) where
   unfolding takeOf
   take-sound =
       let P : Left → Type 0 = λ l. T (soundOf (l .taken .decoder)) in
-      split P (not (soundOf d)) (λ _. t)
-      (λ _. split P (not (buffersFit (length (c .store)) (length (c .tray)) (length (c .list)) (c .free))) (λ _. t)
-      (λ _. split P (not (rangeFits (length (c .input)) (c .first) (c .count))) (λ _. t)
-      (λ _. split P (not (clockFits (d .next) (c .count))) (λ _. t)
+      choice P (not (soundOf d)) (λ _. t)
+      (λ _. choice P (not (buffersFit (length (c .store)) (length (c .tray)) (length (c .list)) (c .free))) (λ _. t)
+      (λ _. choice P (not (rangeFits (length (c .input)) (c .first) (c .count))) (λ _. t)
+      (λ _. choice P (not (clockFits (d .next) (c .count))) (λ _. t)
       (λ e. taken-sound (leb-true _ _ (not-false _ e))))))

@@ -10,9 +10,9 @@ use lib.Dec.{eqb}
 use lib.ListN.{length, getD, take, drop, length-append, length-drop, drop-of-length-le}
 use borrow.Author.Tests.{eq-eqb, eqb-true}
 use lib.Seq.{sets, sets-eq, take-all, take-at, drop-at, drop-append-add, ext-getD}
+use Rattle.bits.proofs.Truth.{both}
 use Rattle.recogniser.specs.declared.Phase.{Phase}
 use Rattle.recogniser.specs.declared.Phase.the-variants.{Hunt, Body, Field3, Field4, Field5}
-use Rattle.controller.proofs.Facts.{and-true}
 use Rattle.decoder.specs.declared.Decoder.{Decoder}
 use Rattle.image.specs.Image.{imageLength, bit, phaseNumber, phaseOf, scalarsOf, imageOf, narrowed, stateOf, sameWords, imageFits, Widths}
 use Rattle.image.proofs.Puts.{length-narrowed, narrowed-at}
@@ -128,7 +128,7 @@ read-back d w =
 -- What is well-formed has the image's length, and the image of a state is well-formed.
 pub fits-length : (image : List ℕ) → imageFits image ≡ true → length image ≡ imageLength
 unfolding imageFits
-fits-length image e = eqb-true (length image) imageLength (and-true (eqb (length image) imageLength) _ e .0)
+fits-length image e = eqb-true (length image) imageLength (both (eqb (length image) imageLength) _ e .0)
 
 same-as-itself : (ws : List ℕ) → sameWords ws ws ≡ true
 same-as-itself [] = refl

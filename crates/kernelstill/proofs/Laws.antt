@@ -10,7 +10,7 @@ use lib.Dec.{eqb, leb, ltb}
 use lib.ListN.{length}
 use lib.Seq.{sets}
 use borrow.Author.Tests.{eq-eqb, ne-eqb, lt-ltb, le-ltb, le-leb, lt-leb, leb-true, leb-false}
-use Rattle.controller.proofs.Facts.{and-true}
+use Rattle.bits.proofs.Truth.{both, cases}
 use Rattle.decoder.specs.declared.Decoder.{Decoder}
 use Rattle.decoder.specs.declared.Opened.{Opened}
 use Rattle.decoder.specs.Opening.{openingNumber}
@@ -24,7 +24,6 @@ use Rattle.listing.specs.Digits.{charactersOf}
 use Rattle.listing.specs.Line.{Read, hexNumber, readAs, readOf}
 use Rattle.listing.specs.Records.{numbersLine, recordLine}
 use Rattle.listing.proofs.Puts.{put-fits, put-over}
-use Rattle.listing.proofs.Truth.{cases}
 use Rattle.kernelstill.specs.Open.{OpenLeft, openedInto}
 use Rattle.kernelstill.specs.Take.{TakeLeft, toldLength, wordsTold, turnedAway, handedOn, soundImage, takeLeftOf}
 use Rattle.kernelstill.specs.Lines.{LineLeft, hexLeftOf, recordLeftOf}
@@ -47,7 +46,7 @@ module _ (o : Opened) (image : List ℕ) (number : ℕ) (e : number ≡ openingN
 
 -- Taking.
 pub sound-length : (image : List ℕ) → soundImage image ≡ true → length image ≡ imageLength
-sound-length image e = fits-length image (and-true (imageFits image) _ e .0)
+sound-length image e = fits-length image (both (imageFits image) _ e .0)
 
 module _ (image told : List ℕ) (c : Call) where
   pub unsound : soundImage image ≡ false → turnedAway 3 image told c ≡ takeLeftOf image told c

@@ -9,9 +9,8 @@ use lib.Dec.{leb, eqb}
 use lib.ListN.{length, take}
 use lib.Seq.{length-take-le, getD-take}
 use borrow.Author.Tests.{leb-true, eqb-true, ne-eqb}
+use Rattle.bits.proofs.Truth.{both, choice}
 use Rattle.bits.specs.Bits.{bitsOf}
-use Rattle.controller.proofs.Cases.{split}
-use Rattle.controller.proofs.Facts.{and-true}
 use Rattle.listing.specs.declared.HexLine.{HexLine}
 use Rattle.listing.specs.declared.Seen.{Seen}
 use Rattle.listing.specs.Block.{block, putAll, putOf}
@@ -38,9 +37,9 @@ pub fit : (s : Seen) → hexNumber (answerOf s) ≡ 0 → Fit s
 unfolding answerOf
 fit s e =
     let f : Fits s (answerOf s) =
-    split (Fits s) (s .wrong) (λ _ z. absurd (omega arith))
-    (λ _. split (Fits s) (countFits (s .digits))
-    (λ t _. let p = and-true (eqb (s .digits % 2) 0) (leb (s .digits) 64) t in (leb-true _ _ (p .1), eqb-true _ _ (p .0), refl))
+    choice (Fits s) (s .wrong) (λ _ z. absurd (omega arith))
+    (λ _. choice (Fits s) (countFits (s .digits))
+    (λ t _. let p = both (eqb (s .digits % 2) 0) (leb (s .digits) 64) t in (leb-true _ _ (p .1), eqb-true _ _ (p .0), refl))
     (λ _ z. absurd (omega arith)))
     in
     let p = f e in

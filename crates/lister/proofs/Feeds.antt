@@ -9,7 +9,7 @@ use native.Mathlib.Omega.{arith}
 use lib.Dec.{ltb}
 use lib.ListN.{length, take, drop, drop-of-length-le}
 use borrow.Author.Tests.{le-leb, ltb-false}
-use Rattle.controller.proofs.Cases.{split}
+use Rattle.bits.proofs.Truth.{choice}
 use Rattle.decoder.specs.Limits.{clockLimit}
 use Rattle.decoder.proofs.Soundness.{sound-parts}
 use Rattle.listing.specs.declared.Seen.{Seen}
@@ -103,7 +103,7 @@ module _ (frames : Bool) (input : List ℕ) (g : Going) (t : Turns g) (none : g 
         let further = on in
         let few = f .count in
         rw (t .on, f .next)
-        (split (λ (n : ℕ). n + 257 * (length input - fed .next) + h .lister .count < 1 + 257 * (length input - l .next) + l .count) (h .lister .over)
+        (choice (λ (n : ℕ). n + 257 * (length input - fed .next) + h .lister .count < 1 + 257 * (length input - l .next) + l .count) (h .lister .over)
         (λ _. omega arith) (λ _. omega arith))
 
   -- the block has ended first

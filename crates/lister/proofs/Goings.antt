@@ -9,8 +9,7 @@ use native.Mathlib.Omega.{arith}
 use lib.Dec.{ltb, leb, eqb}
 use lib.ListN.{length, drop}
 use borrow.Author.Tests.{leb-true, ltb-true, eqb-false, not-true}
-use Rattle.controller.proofs.Facts.{and-true}
-use Rattle.listing.proofs.Truth.{either}
+use Rattle.bits.proofs.Truth.{both, either}
 use Rattle.lister.specs.declared.Lister.{Lister}
 use Rattle.lister.specs.Going.{Going, whole, room, Ready, Turns, Takes, Goes, goesOn}
 
@@ -19,8 +18,8 @@ module _ (input output : ℕ) (l : Lister) (e : goesOn input output l ≡ true) 
   parts : (not (l .over) ≡ true) × ((not (eqb (l .count) 0) || ltb (l .next) input) ≡ true) × (leb room (output - l .filled) ≡ true)
   unfolding goesOn
   parts =
-      let p = and-true (not (l .over)) _ e in
-      let q = and-true (not (eqb (l .count) 0) || ltb (l .next) input) (leb room (output - l .filled)) (p .1) in
+      let p = both (not (l .over)) _ e in
+      let q = both (not (eqb (l .count) 0) || ltb (l .next) input) (leb room (output - l .filled)) (p .1) in
       (p .0, q .0, q .1)
 
   pub more-input : l .count ≡ 0 → l .next < input

@@ -6,8 +6,8 @@ use mathlib.Core.Path.{_≡_, refl, sym, ap, _∙_}
 use Prim.Native.Nat.{ℕ, _<_}
 use native.Mathlib.Omega.{arith}
 use lib.ListN.{length, set, take, drop}
+use Rattle.bits.proofs.Truth.{clash}
 use Rattle.controller.specs.Plan.{defaultPlan}
-use Rattle.controller.proofs.Facts.{clash}
 use Rattle.decoder.proofs.Stays.{start-sound}
 use Rattle.listing.specs.declared.Seen.{Seen}
 use Rattle.listing.specs.Text.{lineFeed}

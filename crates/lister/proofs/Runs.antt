@@ -8,11 +8,11 @@ use native.Mathlib.Omega.{arith}
 use lib.Dec.{T, ltb, leb, eqb, nltb→le}
 use lib.ListN.{length, take, drop, length-append, length-take}
 use borrow.Author.Tests.{le-ltb}
+use Rattle.bits.proofs.Truth.{choice}
 use Rattle.frames.specs.Tray.{partOf}
 use Rattle.controller.specs.declared.Cycle.{Cycle}
 use Rattle.controller.specs.declared.Cycle.the-variants.{Nothing, Record}
 use Rattle.controller.specs.Records.{kindOf, isFrameHead, frameBitsOf}
-use Rattle.controller.proofs.Cases.{split}
 use Rattle.decoder.specs.declared.Ending.{Ending}
 use Rattle.decoder.specs.declared.Ending.the-variants.{Frame, ListFull, Done}
 use Rattle.decoder.specs.Run.{Run, ended, oneBit, oneRecord, afterCycle, runOf, stateAfter}
@@ -24,14 +24,14 @@ use Rattle.lister.specs.Listing.{frameText, recordText, wordsText, cycle
 -- the length of a record's text
 part-short : (tray : List ℕ) (bits : ℕ) → length (partOf tray bits) ≤ length tray
 part-short tray bits =
-    split (λ (l : List ℕ). length l ≤ length tray) (leb bits (8 * length tray)) (λ _. rw length-take (omega arith)) (λ _. omega arith)
+    choice (λ (l : List ℕ). length l ≤ length tray) (leb bits (8 * length tray)) (λ _. rw length-take (omega arith)) (λ _. omega arith)
 
 frame-short : (frames : Bool) (tray : List ℕ) (head value : ℕ) → length (frameText frames tray head value) ≤ 2 * length tray + 2
 frame-short frames tray head value =
     let bits = frameBitsOf (kindOf head) value in
     let P : List ℕ → Type 0 = λ l. length l ≤ 2 * length tray + 2 in
-    split P (frames && isFrameHead head)
-    (λ _. split P (eqb bits 0) (λ _. omega arith) (λ _. omega (arith, frame-length (partOf tray bits), part-short tray bits)))
+    choice P (frames && isFrameHead head)
+    (λ _. choice P (eqb bits 0) (λ _. omega arith) (λ _. omega (arith, frame-length (partOf tray bits), part-short tray bits)))
     (λ _. omega arith)
 
 line-short : (head value : ℕ) → length (recordLine head value) ≡ 28

@@ -7,9 +7,9 @@ use Prim.Native.Nat.{ℕ, zero, suc, _+_, _*_, _-_, _/_, _%_, _≤_, _<_}
 use native.Mathlib.Omega.{arith}
 use lib.Dec.{eqb}
 use lib.ListN.{length, getD, length-append}
+use Rattle.bits.proofs.Truth.{choice}
 use Rattle.controller.specs.Plan.{existsAt}
 use Rattle.controller.specs.Registers.{readOf}
-use Rattle.controller.proofs.Cases.{split}
 use Rattle.decoder.specs.declared.Decoder.{Decoder}
 use Rattle.listing.specs.Text.{ascii}
 use Rattle.listing.specs.Block.{block, putAll, putOf}
@@ -54,7 +54,7 @@ texts-short text most h (suc n) i = rw length-append (omega (arith, h i, texts-s
 module _ (d : Decoder) (store : List ℕ) (words : length store ≡ 2048) where
   register-short : (i : ℕ) → length (registerText (d .plan) (d .model) i) ≤ 16
   register-short i =
-      split (λ (l : List ℕ). length l ≤ 16) (existsAt (d .plan) i)
+      choice (λ (l : List ℕ). length l ≤ 16) (existsAt (d .plan) i)
       (λ _. omega (arith, line-length (ascii "register ") (i ∷ readOf (d .plan) (d .model) i ∷ []) (1 ∷ 4 ∷ []) refl))
       (λ _. omega arith)
 
@@ -63,7 +63,7 @@ module _ (d : Decoder) (store : List ℕ) (words : length store ≡ 2048) where
 
   word-short : (i : ℕ) → length (wordText store i) ≤ 19
   word-short i =
-      split (λ (l : List ℕ). length l ≤ 19) (eqb (getD store i 0) 0)
+      choice (λ (l : List ℕ). length l ≤ 19) (eqb (getD store i 0) 0)
       (λ _. omega arith)
       (λ _. omega (arith, line-length (ascii "word ") (i / 128 ∷ i % 128 ∷ getD store i 0 ∷ []) (1 ∷ 2 ∷ 8 ∷ []) refl))
 

@@ -8,7 +8,7 @@ use native.Mathlib.Omega.{arith}
 use lib.Dec.{T, eqb}
 use lib.ListN.{length, take}
 use borrow.Author.Tests.{eqb-false}
-use Rattle.controller.proofs.Cases.{split}
+use Rattle.bits.proofs.Truth.{choice}
 use Rattle.decoder.specs.Sound.{soundOf}
 use Rattle.decoder.specs.Take.{Call, Left, takeOf}
 use Rattle.decoder.proofs.Stays.{take-sound}
@@ -98,7 +98,7 @@ module _ (frames : Bool) (g : Going) (list : List ℕ) (t : Turns g) (some : 0 <
             let low = call-took .low in
             let rest = 257 * (input - g .lister .next) in
             rw (t .on)
-            (split (λ (n : ℕ). n + rest + (g .lister .count - l .taken .told .bits) < 1 + rest + g .lister .count) (eqb (l .taken .told .bits) 0)
+            (choice (λ (n : ℕ). n + rest + (g .lister .count - l .taken .told .bits) < 1 + rest + g .lister .count) (eqb (l .taken .told .bits) 0)
             (λ b. omega arith)
             (λ b. omega (arith, eqb-false (l .taken .told .bits) 0 b)))
 

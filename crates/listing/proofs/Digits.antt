@@ -11,9 +11,9 @@ use lib.Dec.{leb}
 use lib.ListN.{length, set, length-set, length-append}
 use lib.Seq.{sets}
 use borrow.Author.Tests.{leb-true}
+use Rattle.bits.proofs.Truth.{both, either}
 use Rattle.listing.specs.Digits.{isDigit, characterOf, charactersOf}
 use Rattle.listing.specs.Block.{block, putAll}
-use Rattle.listing.proofs.Truth.{both, either}
 use Rattle.listing.proofs.Puts.{sets-append, sets-last}
 
 -- The ranges of the digits, "0" to "9" and "A" to "F".

@@ -1,4 +1,3 @@
-pub mod Truth
 pub mod Puts
 pub mod Digits
 pub mod Texts

@@ -11,13 +11,13 @@ use lib.Dec.{ltb, eqb, leb·suc-suc, eqb·suc-zero}
 use lib.ListN.{length, take, drop, length-drop}
 use lib.Seq.{drop-drop}
 use borrow.Author.Tests.{ltb-true, ltb-false, lt-ltb, le-ltb}
+use Rattle.bits.proofs.Truth.{choice, choice-under}
 use Rattle.listing.specs.declared.Seen.{Seen}
 use Rattle.listing.specs.declared.Fed.{Fed}
 use Rattle.listing.specs.Text.{lineFeed}
 use Rattle.listing.specs.Digits.{isDigit}
 use Rattle.listing.specs.Line.{Hex, hexOf}
 use Rattle.listing.specs.Lines.{isEmpty, linesFrom, linesOf, hexesOf, fresh, withCharacter, seenOf, saidBy, nothingSeen, upToFeed, fedOf, saidFrom}
-use Rattle.listing.proofs.Truth.{choice, choice-under}
 use Rattle.listing.proofs.Says.{says}
 
 -- ---- a line that is cut

@@ -9,8 +9,8 @@ use lib.Dec.{leb}
 use lib.ListN.{length, set, length-append}
 use lib.Seq.{sets, length-sets, set-comm}
 use borrow.Author.Tests.{le-leb, lt-leb, leb-true}
+use Rattle.bits.proofs.Truth.{choice}
 use Rattle.listing.specs.Block.{Block, block, putAll, putOf}
-use Rattle.listing.proofs.Truth.{choice}
 
 pub sets-append : (xs ys out : List ℕ) (at : ℕ) → sets out at (xs ++ ys) ≡ sets (sets out at xs) (at + length xs) ys
 sets-append [] ys out at = rw add-zero

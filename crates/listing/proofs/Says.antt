@@ -12,12 +12,12 @@ use lib.Dec.{ltb, leb, eqb, lit≤}
 use lib.ListN.{length, getD, set, take, length-set}
 use lib.Seq.{sets, length-take-le, getD-set-same, set-set, take-suc-set, append-snoc}
 use borrow.Author.Tests.{lt-ltb, ltb-true, ltb-false, leb-true, leb-false, eqb-true}
+use Rattle.bits.proofs.Truth.{both, cases, choice}
 use Rattle.listing.specs.declared.HexLine.{HexLine}
 use Rattle.listing.specs.declared.Seen.{Seen}
 use Rattle.listing.specs.Digits.{isDigit, digitOf, allDigits, bytesOf}
 use Rattle.listing.specs.Line.{hexOf, countFits, hexCount, readAs, readOf}
 use Rattle.listing.specs.Lines.{fresh, withCharacter, seenOf, answerOf, saidBy}
-use Rattle.listing.proofs.Truth.{cases, choice, both}
 use Rattle.listing.proofs.Digits.{known}
 
 -- ---- whether a wrong character was seen

@@ -6,6 +6,7 @@ use Prim.Native.Nat.{ℕ, _+_, _^_, _<_}
 use native.Mathlib.Omega.{arith}
 use lib.Dec.{T, ltb, eqb, ltb→lt, lt→ltb, nleb→lt}
 use lib.Ieee.Fits.{and-i, and-l, and-r}
+use Rattle.bits.proofs.Truth.{cond-case, cond-taken}
 use Rattle.recogniser.specs.declared.Phase.the-variants.{Body, Field3, Field4, Field5}
 use Rattle.recogniser.specs.declared.Meaning.{Meaning}
 use Rattle.recogniser.specs.declared.Meaning.the-variants.{Quiet, Trigger, Header}
@@ -18,7 +19,6 @@ use Rattle.recogniser.specs.Fields.{isFrame, lengthOf, endsOf, keptOf, f
 use Rattle.recogniser.specs.Groups.{groupOf, unsteadyOf}
 use Rattle.recogniser.specs.Step.{field5Of}
 use Rattle.recogniser.specs.Fit.{hasField5, keeps, nibbleFits, field4Fits, heldFits, field5Fits, fitOf}
-use Rattle.recogniser.proofs.Truth.{cond-case, cond-taken}
 use Rattle.recogniser.proofs.Shift.{below, wider, grown}
 use Rattle.recogniser.proofs.Lengths.{length-has}
 

@@ -9,10 +9,10 @@ use borrow.Author.Tests.{lt-leb, ne-eqb, leb-false}
 use mir.Syntax.{w32}
 use mir.Val.{Fits}
 use lib.Dec.{T, leb, eqb, eqb→eq, nleb→lt, lit≤, T-not}
+use Rattle.bits.proofs.Truth.{cond-case, or-case, or-else, stable}
 use Rattle.recogniser.specs.declared.Recogniser.{Recogniser}
 use Rattle.recogniser.specs.Fields.{lengthOf, endsOf}
 use Rattle.recogniser.specs.Fit.{hasField5, keeps}
-use Rattle.recogniser.proofs.Truth.{cond-case, or-case, or-else, stable}
 
 cond-most : (b : Bool) {x y n : ℕ} → x ≤ n → y ≤ n → cond b x y ≤ n
 cond-most b {n = n} p q = cond-case (λ v. v ≤ n) b (λ _. p) (λ _. q)

@@ -1,4 +1,3 @@
-pub mod Truth
 pub mod Shift
 pub mod Lengths
 pub mod Fits

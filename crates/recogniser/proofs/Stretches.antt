@@ -6,6 +6,7 @@ use Prim.Native.Nat.{ℕ, _≤_}
 use native.Mathlib.Omega.{arith}
 use lib.Dec.{ltb}
 use lib.ListN.{length}
+use Rattle.bits.proofs.Truth.{cond-case, cond-taken}
 use Rattle.recogniser.specs.declared.Phase.{Phase}
 use Rattle.recogniser.specs.declared.Phase.the-variants.{Hunt, Body, Field3, Field4, Field5}
 use Rattle.recogniser.specs.declared.Meaning.{Meaning}
@@ -18,7 +19,6 @@ use Rattle.recogniser.specs.Parts.{shifted, startOf, heard, gatheredOf}
 use Rattle.recogniser.specs.Hunting.{meaningOf, huntBy, bodyOf}
 use Rattle.recogniser.specs.Step.{stepOf}
 use Rattle.recogniser.specs.Stretch.{stretched, oneMore, huntBeyond, huntOn, bodyOn, stretchBy, stretchOf}
-use Rattle.recogniser.proofs.Truth.{cond-case, cond-taken}
 use Rattle.recogniser.proofs.Laws.{step-at}
 
 -- A stretch over the first of these bits: none, one cycle, or one that asks for nothing and a stretch from there.

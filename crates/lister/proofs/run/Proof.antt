@@ -9,7 +9,7 @@ use lib.ListN.{length}
 use lib.Seq.{length-take-le}
 use borrow.Author.Needs.{needs}
 use borrow.Author.Tests.{ltb-true}
-use Rattle.controller.proofs.Facts.{and-true}
+use Rattle.bits.proofs.Truth.{both}
 use Rattle.lister.specs.State.{stateText}
 use Rattle.lister.specs.Going.{Within}
 use Rattle.lister.proofs.Puts.{put-low}
@@ -39,7 +39,7 @@ loop-holds c = (begins _ (c .start .ensures) _, rw (c .start .ensures) (record {
 
 -- a turn is left
 some : (c : tie.Then1 Inv-loop μ-loop) → 0 < c .before .before .loop .turns
-some c = ltb-true 0 _ (and-true (ltb 0 (c .before .before .loop .turns)) (not (c .before .before .loop .lister .over)) (c .if1 .taken) .0)
+some c = ltb-true 0 _ (both (ltb 0 (c .before .before .loop .turns)) (not (c .before .before .loop .lister .over)) (c .if1 .taken) .0)
 
 sub-turns : tie.Need-sub-turns Inv-loop μ-loop
 sub-turns c = some c

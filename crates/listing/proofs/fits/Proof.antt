@@ -6,7 +6,7 @@ use Prim.Native.Nat.{_+_, _-_}
 use native.Mathlib.Omega.{arith}
 use lib.Dec.{leb}
 use borrow.Author.Tests.{le-leb, lt-leb, leb-true, leb-false}
-use Rattle.listing.proofs.Truth.{cases}
+use Rattle.bits.proofs.Truth.{cases}
 use Rattle.listing.proofs.fits.Statement.{statement}
 use Rattle.listing.proofs.fits.Tie as tie
 
