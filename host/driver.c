@@ -9,9 +9,10 @@
  * of each slice that is not const.
  *
  * Each slice is lent in a block of exactly its size, made for that call. In a
- * plain build it ends at a page that cannot be accessed, another such page
- * lies ahead, and the bytes between that and the slice are checked. With
- * AddressSanitizer it is heap memory, which the sanitizer watches.
+ * plain build, which is to catch the library's stray accesses, it ends at a
+ * page that cannot be accessed, another such page lies ahead, and the bytes
+ * between that and the slice are checked. With AddressSanitizer it is heap
+ * memory; the sanitizer sees the driver's own accesses, not the library's.
  */
 #define _DEFAULT_SOURCE
 
@@ -91,7 +92,7 @@ static void seal(struct slice *slice)
 
 static void check_ahead(const struct slice *slice)
 {
-    (void)slice; /* the sanitizer's */
+    (void)slice; /* nothing of the block's lies ahead */
 }
 
 static void release(struct slice *slice)
@@ -228,14 +229,14 @@ static void take_bits(struct call *call)
     struct slice *tray = lend(call, sizeof(uint8_t));
     struct slice *list = lend(call, sizeof(uint64_t));
     size_t free_word = read_word();
-    struct slice *told = lend(call, sizeof(uint64_t));
+    struct slice *result = lend(call, sizeof(uint64_t));
 
     finish(call, kernelstill_take((uint64_t *)image->data, image->length,
                                   input->data, input->length, first, count,
                                   (uint32_t *)store->data, store->length,
                                   tray->data, tray->length,
                                   (uint64_t *)list->data, list->length, free_word,
-                                  (uint64_t *)told->data, told->length));
+                                  (uint64_t *)result->data, result->length));
 }
 
 static void count_frame_bits(struct call *call)

@@ -38,7 +38,7 @@ struct reader {
 /* Says which call was refused, and hands its number on. */
 static uint64_t checked(const char *call, uint64_t number)
 {
-    if (number != KERNELSTILL_FIT)
+    if (number != KERNELSTILL_OK)
         fprintf(stderr, "%s: refused with number %" PRIu64 "\n", call, number);
     return number;
 }
@@ -48,7 +48,7 @@ static uint64_t print_record(uint64_t head, uint64_t value)
     uint8_t line[KERNELSTILL_RECORD_LINE_BYTES];
     uint64_t number = checked("kernelstill_record_line",
         kernelstill_record_line(line, sizeof line, head, value));
-    if (number == KERNELSTILL_FIT)
+    if (number == KERNELSTILL_OK)
         fwrite(line, 1, sizeof line, stdout);
     return number;
 }
@@ -72,7 +72,7 @@ static void print_frame(const uint8_t *tray, uint64_t head, uint64_t value)
 static uint64_t take(struct reader *reader, const uint8_t *input, size_t length, size_t first, size_t count)
 {
     uint64_t list[LIST_WORDS];
-    uint64_t told[KERNELSTILL_TOLD_WORDS];
+    uint64_t result[KERNELSTILL_RESULT_WORDS];
 
     do {
         uint64_t number = checked("kernelstill_take",
@@ -82,24 +82,24 @@ static uint64_t take(struct reader *reader, const uint8_t *input, size_t length,
                 reader->store, KERNELSTILL_STORE_WORDS,
                 reader->tray, KERNELSTILL_TRAY_BYTES,
                 list, LIST_WORDS, 0,
-                told, KERNELSTILL_TOLD_WORDS));
-        if (number != KERNELSTILL_FIT)
+                result, KERNELSTILL_RESULT_WORDS));
+        if (number != KERNELSTILL_OK)
             return number;
 
-        size_t words = (size_t)told[KERNELSTILL_TOLD_RECORDS] * KERNELSTILL_RECORD_WORDS;
+        size_t words = (size_t)result[KERNELSTILL_RESULT_RECORDS] * KERNELSTILL_RECORD_WORDS;
         for (size_t place = 0; place < words; place += KERNELSTILL_RECORD_WORDS) {
             number = print_record(list[place], list[place + 1]);
-            if (number != KERNELSTILL_FIT)
+            if (number != KERNELSTILL_OK)
                 return number;
         }
         /* Before the next call, whose frame would take its place. */
-        if (told[KERNELSTILL_TOLD_ENDING] == KERNELSTILL_FRAME)
+        if (result[KERNELSTILL_RESULT_ENDING] == KERNELSTILL_FRAME)
             print_frame(reader->tray, list[words - 2], list[words - 1]);
 
-        first += (size_t)told[KERNELSTILL_TOLD_BITS];
-        count -= (size_t)told[KERNELSTILL_TOLD_BITS];
-    } while (told[KERNELSTILL_TOLD_ENDING] != KERNELSTILL_DONE);
-    return KERNELSTILL_FIT;
+        first += (size_t)result[KERNELSTILL_RESULT_BITS];
+        count -= (size_t)result[KERNELSTILL_RESULT_BITS];
+    } while (result[KERNELSTILL_RESULT_ENDING] != KERNELSTILL_DONE);
+    return KERNELSTILL_OK;
 }
 
 static uint64_t take_line(struct reader *reader, const char *line)
@@ -108,7 +108,7 @@ static uint64_t take_line(struct reader *reader, const char *line)
     size_t digits = strlen(line);
     uint64_t number = checked("kernelstill_hex_line",
         kernelstill_hex_line((const uint8_t *)line, digits, bytes, sizeof bytes));
-    if (number != KERNELSTILL_FIT)
+    if (number != KERNELSTILL_OK)
         return number;
     return take(reader, bytes, digits / 2, 0, digits / 2 * 8);
 }
@@ -123,11 +123,11 @@ int main(void)
             KERNELSTILL_DEFAULT_MASK, KERNELSTILL_DEFAULT_CSR,
             KERNELSTILL_DEFAULT_FEEN, KERNELSTILL_DEFAULT_CNT,
             0, reader.image, KERNELSTILL_IMAGE_WORDS));
-    if (number != KERNELSTILL_FIT)
+    if (number != KERNELSTILL_OK)
         return 1;
 
     for (size_t line = 0; line < sizeof capture / sizeof capture[0]; line++) {
-        if (take_line(&reader, capture[line]) != KERNELSTILL_FIT)
+        if (take_line(&reader, capture[line]) != KERNELSTILL_OK)
             return 1;
     }
 

@@ -9,7 +9,7 @@
  *
  * - A slice passes as a pointer and then a length, counted in elements. The
  *   pointer is aligned for its element and good for that many of them. At
- *   length 0 it is not followed.
+ *   length 0 it is not used and may be NULL.
  * - A slice that is not const overlaps no other slice of the same call.
  *
  * All else is checked. An unfit call is turned away by its number and changes
@@ -19,6 +19,8 @@
  * Nothing is kept between calls and there are no globals: all that a reader
  * remembers stands in the image, the store and the tray that the caller
  * lends. Calls on different buffers may run at once.
+ *
+ * For C99 or later and for C++, on 64-bit machines.
  */
 #ifndef KERNELSTILL_H
 #define KERNELSTILL_H
@@ -34,7 +36,7 @@ extern "C" {
 #define KERNELSTILL_IMAGE_WORDS 68       /* the state, exactly */
 #define KERNELSTILL_STORE_WORDS 2048     /* the FIFO words, exactly */
 #define KERNELSTILL_TRAY_BYTES 8192      /* the frame bits, exactly */
-#define KERNELSTILL_TOLD_WORDS 3         /* what a taking call tells, exactly */
+#define KERNELSTILL_RESULT_WORDS 3       /* the result of a taking call, exactly */
 #define KERNELSTILL_INPUT_BYTES 65536    /* the input of a call, at most */
 #define KERNELSTILL_RECORD_WORDS 2       /* a record in the list */
 #define KERNELSTILL_RECORD_LINE_BYTES 28 /* a record's line, with its line feed */
@@ -48,43 +50,46 @@ extern "C" {
 #define KERNELSTILL_DEFAULT_CNT 5
 
 /* The refusal numbers; 0 is none. */
-#define KERNELSTILL_FIT 0
+#define KERNELSTILL_OK 0
 #define KERNELSTILL_WRONG_PLAN 1      /* CSR, FEEN and CNT are not three different addresses in the mask */
 #define KERNELSTILL_WRONG_CYCLE 2     /* the opening cycle is 2^48 or more */
 #define KERNELSTILL_UNSOUND 3         /* the image has another length, is malformed, or its state is unsound */
-#define KERNELSTILL_WRONG_BUFFERS 4   /* a slice has another length, or the first free word is past the list's end */
+#define KERNELSTILL_WRONG_BUFFERS 4   /* a slice does not have the length asked for, or the first free word is past the list's end */
 #define KERNELSTILL_WRONG_RANGE 5     /* the input is too long, or the range passes its end */
 #define KERNELSTILL_CLOCK_OVER 6      /* next cycle + count exceeds 2^48 */
 #define KERNELSTILL_WRONG_CHARACTER 7 /* a character of a hexadecimal line is not 0-9 or A-F */
 #define KERNELSTILL_WRONG_LENGTH 8    /* its digits are odd in number, or above 64 */
 
-/* What a taking call tells, by place. */
-#define KERNELSTILL_TOLD_BITS 0    /* the bits taken */
-#define KERNELSTILL_TOLD_RECORDS 1 /* the records written */
-#define KERNELSTILL_TOLD_ENDING 2  /* how it ended, one of the next three */
+/* The result of a taking call, by place. */
+#define KERNELSTILL_RESULT_BITS 0    /* the bits taken */
+#define KERNELSTILL_RESULT_RECORDS 1 /* the records written */
+#define KERNELSTILL_RESULT_ENDING 2  /* how it ended, one of the next three */
 
 #define KERNELSTILL_DONE 0      /* every bit of the count is taken */
 #define KERNELSTILL_FRAME 1     /* the last record is a frame's; its bits stand in the tray */
 #define KERNELSTILL_LIST_FULL 2 /* bits remain, and fewer than two words of the list are free */
 
-/* The kinds of a record. */
-#define KERNELSTILL_KIND_LV1 0x01
-#define KERNELSTILL_KIND_BCR 0x11
-#define KERNELSTILL_KIND_ECR 0x12
-#define KERNELSTILL_KIND_CAL 0x14
-#define KERNELSTILL_KIND_SYNC 0x18
-#define KERNELSTILL_KIND_BAD_FAST 0x1F
-#define KERNELSTILL_KIND_WR_REGISTER 0x20
-#define KERNELSTILL_KIND_RD_REGISTER 0x21
-#define KERNELSTILL_KIND_WR_FIFO 0x22
-#define KERNELSTILL_KIND_RD_FIFO 0x23
-#define KERNELSTILL_KIND_WR_FRONT_END 0x24
-#define KERNELSTILL_KIND_RD_FRONT_END 0x25
-#define KERNELSTILL_KIND_WR_RECEIVER 0x26
-#define KERNELSTILL_KIND_EN_DATA_TAKE 0x28
-#define KERNELSTILL_KIND_GLOBAL_RESET_MCC 0x29
-#define KERNELSTILL_KIND_GLOBAL_RESET_FE 0x2A
-#define KERNELSTILL_KIND_BAD_SLOW 0x2F
+/*
+ * The kinds of a record, with what its value holds. Field 3 of a Slow command
+ * is its kind less 0x20.
+ */
+#define KERNELSTILL_KIND_LV1 0x01              /* if acted on, L1ID x 256 + bunch number; else 0 */
+#define KERNELSTILL_KIND_BCR 0x11              /* 0 */
+#define KERNELSTILL_KIND_ECR 0x12              /* 0 */
+#define KERNELSTILL_KIND_CAL 0x14              /* 0 */
+#define KERNELSTILL_KIND_SYNC 0x18             /* 0 */
+#define KERNELSTILL_KIND_BAD_FAST 0x1F         /* its last four bits */
+#define KERNELSTILL_KIND_WR_REGISTER 0x20      /* address x 65536 + the bits that arrived */
+#define KERNELSTILL_KIND_RD_REGISTER 0x21      /* address x 65536 + the bits read */
+#define KERNELSTILL_KIND_WR_FIFO 0x22          /* the word */
+#define KERNELSTILL_KIND_RD_FIFO 0x23          /* FIFO x 2^27 + the word */
+#define KERNELSTILL_KIND_WR_FRONT_END 0x24     /* control bits x 65536 + data bits, counted */
+#define KERNELSTILL_KIND_RD_FRONT_END 0x25     /* the same */
+#define KERNELSTILL_KIND_WR_RECEIVER 0x26      /* the count of its bits */
+#define KERNELSTILL_KIND_EN_DATA_TAKE 0x28     /* 0 */
+#define KERNELSTILL_KIND_GLOBAL_RESET_MCC 0x29 /* 0 */
+#define KERNELSTILL_KIND_GLOBAL_RESET_FE 0x2A  /* SyncW x 2 + 1 */
+#define KERNELSTILL_KIND_BAD_SLOW 0x2F         /* its Field 3 */
 
 /* The flags of a record, added up. */
 #define KERNELSTILL_FLAG_ACTED 0x01    /* acted on */
@@ -94,10 +99,29 @@ extern "C" {
 #define KERNELSTILL_FLAG_UNSTEADY 0x10 /* a front-end group was unsteady */
 
 /*
+ * The store: FIFO n has the words 128 x n to 128 x n + 127. WrFifo writes
+ * words below 2^27, RdFifo reads the low 27 bits.
+ *
+ * The tray: a frame's first bit is the highest of byte 0. The frame stands
+ * there until the next call.
+ *
+ * Both may hold anything at an opening; a module's FIFO words start at 0.
+ *
  * The image: the state as plain words, which a host may store and go on with
- * after a restart, together with the store and the tray. Word 0 is the
- * layout's number; an image of another layout is malformed, and so is one
- * with a word beyond its width. Nothing else about an image is malformed.
+ * after a restart, together with the store and the tray. In memory the words
+ * have the machine's byte order.
+ *
+ * Word 0 is the layout's number. An image of another layout is malformed, and
+ * so is one with a word beyond its width; nothing else is.
+ *
+ * A state is sound when its plan would open; NEXT is at most 2^48 and BASE at
+ * most NEXT; pointers are below 128; registers outside the mask hold 0;
+ * RUN_MODE is 0 in phases 2, 3 and 4; in phase 0, SHIFT is below 32; in phases
+ * 1 to 3, COUNT is below 4 and SHIFT below 2^COUNT; in phase 3, COMMAND is
+ * below 16; in phase 4, COMMAND is 0 to 6 or 10, ADDRESS is below 16, COUNT is
+ * below the length of Field 5, which for commands 4 to 6 goes by the register
+ * CNT, and HELD is below 2^COUNT for the commands that use it. Every state
+ * that an opening or a taking call wrote is sound.
  *
  * Words 7 to 13 are the recogniser's. What those hold that the present phase
  * does not use means nothing. From an opening on they are 0 there, but for
@@ -142,17 +166,17 @@ uint64_t kernelstill_open(
 
 /*
  * Takes `count` bits of the input from bit `first` on, the highest of byte 0
- * being bit 0, one a clock cycle, and answers 0. It moves the image, the
- * store and the tray on, writes the records into the list from word `free`
- * on, and tells the bits taken, the records written and how it ended. It
- * stops after a frame's record, since the next frame uses the tray anew, and
- * where fewer than two words of the list are free; go on with the bits that
- * remain. Refused with 3, 4, 5 or 6, it answers the number and changes
- * nothing, `told` included.
+ * being bit 0, one a clock cycle, and answers 0. It updates the image, the
+ * store and the tray, writes the records into the list from word `free` on,
+ * and writes into the result the bits taken, the records written and how it
+ * ended. It stops after a frame's record, since the next frame uses the tray
+ * anew, and where fewer than two words of the list are free; go on with the
+ * bits that remain, and with at least two free words, or else no bit is ever
+ * taken. Refused with 3, 4, 5 or 6, it answers the number and changes nothing,
+ * the result included.
  *
  * Wherever a stream is cut into calls, the records are the same, as long as
- * image, store and tray go from each call to the next. At the first call the
- * store may hold anything; a module's words start at 0.
+ * image, store and tray go from each call to the next.
  *
  * A record is two words of the list: time x 65536 + kind x 256 + flags, and
  * the value.
@@ -165,18 +189,18 @@ uint64_t kernelstill_take(
     uint8_t *tray, size_t tray_length,
     uint64_t *list, size_t list_length,
     size_t free,
-    uint64_t *told, size_t told_length);
+    uint64_t *result, size_t result_length);
 
 /*
- * The count of bits of a frame, from the two words of its record, which is
- * of kind WR_FRONT_END, RD_FRONT_END or WR_RECEIVER; without a meaning for
- * other kinds.
+ * The count of bits of a frame, from the two words of its record, which is of
+ * kind WR_FRONT_END, RD_FRONT_END or WR_RECEIVER; 0 for the other kinds.
  */
 uint64_t kernelstill_frame_bits(uint64_t head, uint64_t value);
 
 /*
  * How many bytes of the tray, from its first on, a frame of so many bits
- * fills. The unused end of the last is 0. Beyond the tray's bits it is 0.
+ * fills. The unused bits of the last byte are 0. It answers 0 if the tray has
+ * fewer bits.
  */
 size_t kernelstill_frame_part(const uint8_t *tray, size_t tray_length, size_t bits);
 

@@ -32,14 +32,18 @@ A frame comes as bytes; this one is cut by the lines:
 32 WrRegister 0 b''
 65 WrReceiver 16 b'\\xa5\\xc3'
 
-A refusal is an exception with its number, and leaves all as it was:
+A refusal is an exception with its number, and leaves all as it was. Here the
+digits are in lower case, and then a bit is asked for that is not there:
 
->>> for unfit in lambda: hex_line("b5c0"), lambda: decoder.take(b"", 0, 1):
-...     try:
-...         unfit()
-...     except Refused as refused:
-...         print(refused.number, "-", refused)
+>>> try:
+...     hex_line("b5c0")
+... except Refused as refused:
+...     print(refused.number, "-", refused)
 7 - refused with 7: a character is not 0-9 or A-F
+>>> try:
+...     decoder.take(b"", 0, 1)
+... except Refused as refused:
+...     print(refused.number, "-", refused)
 5 - refused with 5: the input is too long, or the range passes its end
 
 The library is the file that KERNELSTILL_LIBRARY names, or else
@@ -80,7 +84,7 @@ _LAYOUT = 1
 _IMAGE_WORDS = 68
 _STORE_WORDS = 2_048
 _TRAY_BYTES = 8_192
-_TOLD_WORDS = 3
+_RESULT_WORDS = 3
 _RECORD_LINE_BYTES = 28
 _LINE_BYTES = 32
 _DONE, _FRAME = 0, 1
@@ -113,7 +117,6 @@ KINDS = {
     0x2A: "GlobalResetFE",
     0x2F: "bad Slow",
 }
-_FRAME_KINDS = (0x24, 0x25, 0x26)
 
 REFUSALS = {
     1: "CSR, FEEN and CNT are not three different addresses in the mask",
@@ -141,7 +144,8 @@ class Plan(NamedTuple):
 
 
 class Refused(Exception):
-    """An unfit call was turned away, by its `number`; nothing has changed."""
+    """An unfit call was turned away, by its `number`; the call that raised it
+    changed nothing."""
 
     def __init__(self, number: int) -> None:
         super().__init__(number)
@@ -195,11 +199,21 @@ def _load() -> ctypes.CDLL:
 _library = _load()
 
 
-def _unsigned(value: Any, name: str, bits: int = 64) -> int:
-    """The integer, checked, since ctypes would cut it to its width in silence."""
+# Both check a number, since ctypes would cut it to its width in silence.
+def _unsigned(value: Any, name: str) -> int:
+    """The number as the library is lent it. One beyond 64 bits becomes the
+    largest of 64, which is refused in its place, with the same number."""
     number = operator.index(value)
-    if number < 0 or number >> bits:
-        raise OverflowError(f"{name} is not an unsigned number of {bits} bits: {number}")
+    if number < 0:
+        raise ValueError(f"{name} is negative: {number}")
+    return min(number, 2**64 - 1)
+
+
+def _within(value: Any, name: str, bits: int) -> int:
+    """The number, of so many bits at most."""
+    number = _unsigned(value, name)
+    if number >> bits:
+        raise OverflowError(f"{name} is beyond {bits} bits: {value}")
     return number
 
 
@@ -232,11 +246,26 @@ def hex_line(text: Union[str, BytesLike]) -> bytes:
 
 
 class Record(NamedTuple):
-    """A command or error recognised. `str` gives its part of the listing."""
+    """A command or error recognised. `str` gives its part of the listing.
+
+    Its value, as kernelstill.h says it for each KERNELSTILL_KIND:
+
+    LV1                     L1ID x 256 + bunch number if acted on, else 0
+    bad Fast                its last four bits
+    WrRegister              address x 65536 + the bits that arrived
+    RdRegister              address x 65536 + the bits read
+    WrFifo                  the word
+    RdFifo                  FIFO x 2^27 + the word
+    WrFrontEnd, RdFrontEnd  control bits x 65536 + data bits, counted
+    WrReceiver              the count of its bits
+    GlobalResetFE           SyncW x 2 + 1
+    bad Slow                its Field 3
+    all others              0
+    """
 
     time: int  # the cycle of its last bit
     kind: int  # KINDS has the names
-    flags: int
+    flags: int  # the properties below read them
     value: int
     frame: bytes = b""  # of a frame's record; unused bits of the last byte are 0
 
@@ -271,8 +300,6 @@ class Record(NamedTuple):
     @property
     def frame_bits(self) -> int:
         """The count of the frame's bits; 0 where the record is of no frame."""
-        if self.kind not in _FRAME_KINDS:
-            return 0
         return _library.kernelstill_frame_bits(*self._words())
 
     def line(self) -> str:
@@ -285,10 +312,10 @@ class Record(NamedTuple):
         return f"{self.line()}\n>{self.frame.hex().upper()}" if self.frame else self.line()
 
     def _words(self) -> Tuple[int, int]:
-        time = _unsigned(self.time, "time", 48)
-        kind = _unsigned(self.kind, "kind", 8)
-        flags = _unsigned(self.flags, "flags", 8)
-        return time << 16 | kind << 8 | flags, _unsigned(self.value, "value", 32)
+        time = _within(self.time, "time", 48)
+        kind = _within(self.kind, "kind", 8)
+        flags = _within(self.flags, "flags", 8)
+        return time << 16 | kind << 8 | flags, _within(self.value, "value", 32)
 
 
 class Phase(enum.IntEnum):
@@ -334,13 +361,14 @@ class State:
 
     @property
     def window(self) -> Optional[int]:
-        """The last five bits, while hunting."""
+        """The window, while hunting: the bits since the last command, at most
+        five."""
         return self.shift if self.phase is Phase.HUNTING else None
 
     def register(self, address: int) -> int:
         """A register as RdRegister gives it: CSR with the warnings, 0 where
         it does not exist."""
-        address = _unsigned(address, "address", 4)
+        address = _within(address, "address", 4)
         stored = self.registers[address]
         if address != self.plan.csr:
             return stored
@@ -358,23 +386,40 @@ class State:
 
 
 class Decoder:
-    """A reader of the command line, for one thread at a time.
+    """A reader of the command line.
 
     It opens with a register plan, out of RunMode and with all registers and
     FIFO words 0; its first bit has the number `cycle`. Refused with 1 or 2.
+
+    A decoder is for one thread at a time. `take` lets other threads run: no
+    buffer may change while it is being taken.
+
+    It is not for subclassing: copies, pickles and `resume` keep no more than
+    `save` does.
     """
 
-    __slots__ = ("_image", "_store", "_tray", "_list", "_told")
+    __slots__ = ("_image", "_store", "_tray", "_list", "_result")
 
     def __init__(self, plan: Plan = Plan(), cycle: int = 0) -> None:
+        if not isinstance(plan, (tuple, list)):
+            raise TypeError(f"a plan is four numbers in order, not {type(plan).__name__}")
+        mask, csr, feen, cnt = plan
+        numbers = [
+            _unsigned(mask, "mask"),
+            _unsigned(csr, "csr"),
+            _unsigned(feen, "feen"),
+            _unsigned(cnt, "cnt"),
+            _unsigned(cycle, "cycle"),
+        ]
+        self._make_buffers()
+        _check(_library.kernelstill_open(*numbers, self._image, _IMAGE_WORDS))
+
+    def _make_buffers(self) -> None:
         self._image = (ctypes.c_uint64 * _IMAGE_WORDS)()
         self._store = (ctypes.c_uint32 * _STORE_WORDS)()
         self._tray = (ctypes.c_uint8 * _TRAY_BYTES)()
         self._list = (ctypes.c_uint64 * (2 * _LIST_RECORDS))()
-        self._told = (ctypes.c_uint64 * _TOLD_WORDS)()
-        mask, csr, feen, cnt = (_unsigned(n, name) for n, name in zip(plan, Plan._fields))
-        cycle = _unsigned(cycle, "cycle")
-        _check(_library.kernelstill_open(mask, csr, feen, cnt, cycle, self._image, _IMAGE_WORDS))
+        self._result = (ctypes.c_uint64 * _RESULT_WORDS)()
 
     def take(self, data: BytesLike, first: int = 0, count: Optional[int] = None) -> List[Record]:
         """Takes `count` bits from bit `first` on, or all from there, the
@@ -391,26 +436,10 @@ class Decoder:
             count = max(8 * length - first, 0)
         # Only the first call can be refused, so that a refusal changes nothing.
         while True:
-            number = _library.kernelstill_take(
-                self._image,
-                _IMAGE_WORDS,
-                lent,
-                length,
-                first,
-                count,
-                self._store,
-                _STORE_WORDS,
-                self._tray,
-                _TRAY_BYTES,
-                self._list,
-                len(self._list),
-                0,
-                self._told,
-                _TOLD_WORDS,
-            )
+            number = self._call(lent, length, first, count)
             if number != 0:
                 break
-            bits, written, ending = self._told
+            bits, written, ending = self._result
             self._add_records(records, written, ending == _FRAME)
             if ending == _DONE:
                 break
@@ -420,6 +449,26 @@ class Decoder:
         del lent
         _check(number)
         return records
+
+    def _call(self, lent: Any, length: int, first: int, count: int) -> int:
+        """One call of the library, with the whole list free; its number."""
+        return _library.kernelstill_take(
+            self._image,
+            _IMAGE_WORDS,
+            lent,
+            length,
+            first,
+            count,
+            self._store,
+            _STORE_WORDS,
+            self._tray,
+            _TRAY_BYTES,
+            self._list,
+            len(self._list),
+            0,
+            self._result,
+            _RESULT_WORDS,
+        )
 
     def _add_records(self, records: List[Record], written: int, last_is_frame: bool) -> None:
         words = self._list[: 2 * written]
@@ -437,6 +486,10 @@ class Decoder:
 
         It moves on a block at a time, as the records are asked for. From a
         live pipe it takes what there is.
+
+        Refused with 6 where a block has more bits than the clock has cycles:
+        the records before it have been given, and of that block no bit is
+        taken.
         """
         block = getattr(file, "read1", file.read)
         for data in iter(lambda: block(INPUT_BYTES), b""):
@@ -467,8 +520,9 @@ class Decoder:
         )
 
     def fifo(self, number: int) -> Tuple[int, ...]:
-        """The 128 words of FIFO `number`, 0 to 15, from place 0 on."""
-        start = _unsigned(number, "FIFO number", 4) * _FIFO_WORDS
+        """The 128 words of FIFO `number`, 0 to 15, from place 0 on, as stored;
+        RdFifo gives the low 27 bits."""
+        start = _within(number, "FIFO number", 4) * _FIFO_WORDS
         return tuple(self._store[start : start + _FIFO_WORDS])
 
     def save(self) -> bytes:
@@ -483,10 +537,11 @@ class Decoder:
     def resume(cls, saved: BytesLike) -> Decoder:
         """A decoder that goes on where `save` was called; refused with 3."""
         try:
-            words = _SAVED.unpack(saved)
+            words = _SAVED.unpack(memoryview(saved).tobytes())
         except struct.error:
             raise Refused(3) from None
-        decoder = cls()
+        decoder = cls.__new__(cls)
+        decoder._make_buffers()
         decoder._image[:] = words[:_IMAGE_WORDS]
         decoder._store[:] = words[_IMAGE_WORDS:-1]
         decoder._tray[:] = words[-1]

@@ -1,4 +1,5 @@
-"""Tests of the Python module: cuts, refusals, frames, state, save and resume."""
+"""Tests of the Python module: the header's numbers, cuts, refusals, frames,
+state, save and resume."""
 
 import array
 import copy
@@ -9,6 +10,7 @@ import mmap
 import pathlib
 import pickle
 import random
+import re
 import struct
 import unittest
 
@@ -43,6 +45,103 @@ def slow(field3, field4, field5=""):
 
 def wr_register(address, value):
     return slow(0, address, f"{value:016b}")
+
+
+def in_header():
+    """The numbers that the C header defines, by name without KERNELSTILL_."""
+    text = (ROOT / "include/kernelstill.h").read_text()
+    numbers = {}
+    for name, number in re.findall(r"^#define KERNELSTILL_(\w+) +([^/\n]+)", text, re.MULTILINE):
+        power = re.fullmatch(r"\(UINT64_C\(1\) << (\d+)\)", number.strip())
+        numbers[name] = 1 << int(power[1]) if power else int(number, 0)
+    return numbers
+
+
+class Header(unittest.TestCase):
+    """The module has the numbers of kernelstill.h."""
+
+    def setUp(self):
+        self.header = in_header()
+
+    def named(self, start):
+        """The numbers whose names start so, by the rest of the name."""
+        return {n[len(start) :]: v for n, v in self.header.items() if n.startswith(start)}
+
+    def test_sizes(self):
+        for name in ("CLOCK_LIMIT", "INPUT_BYTES"):
+            self.assertEqual(getattr(kernelstill, name), self.header[name], name)
+        lengths = ("IMAGE_WORDS", "STORE_WORDS", "TRAY_BYTES", "RESULT_WORDS")
+        lines = ("RECORD_LINE_BYTES", "LINE_BYTES")
+        for name in lengths + lines + ("LAYOUT", "DONE", "FRAME"):
+            self.assertEqual(getattr(kernelstill, f"_{name}"), self.header[name], name)
+        self.assertEqual(len(Decoder()._list) % self.header["RECORD_WORDS"], 0)
+        # In the order in which `take` reads them.
+        self.assertEqual(self.named("RESULT_"), {"WORDS": 3, "BITS": 0, "RECORDS": 1, "ENDING": 2})
+
+    def test_default_plan(self):
+        default = {name.upper(): number for name, number in Plan()._asdict().items()}
+        self.assertEqual(default, self.named("DEFAULT_"))
+
+    def test_kinds(self):
+        def plain(name):
+            return re.sub("[ _]", "", name).lower()
+
+        kinds = {plain(name): kind for name, kind in self.named("KIND_").items()}
+        self.assertEqual({plain(name): kind for kind, name in kernelstill.KINDS.items()}, kinds)
+
+    def test_flags(self):
+        properties = {"ACTED": "acted_on", "FLIP": "flip", "SENT": "sent"}
+        properties.update({"MISSING": "missing", "UNSTEADY": "unsteady"})
+        flags = self.named("FLAG_")
+        self.assertEqual(set(flags), set(properties))
+        for name, flag in flags.items():
+            record = Record(0, 0x01, flag, 0)
+            given = [p for p in properties.values() if getattr(record, p)]
+            self.assertEqual(given, [properties[name]])
+
+    def test_refusals(self):
+        names = {"UNSOUND", "CLOCK_OVER"} | {n for n in self.header if n.startswith("WRONG_")}
+        self.assertEqual(sorted(self.header[name] for name in names), list(kernelstill.REFUSALS))
+        self.assertEqual(self.header["OK"], 0)
+
+    def test_image_places(self):
+        """Each word of an image alone is 1, and so is one field of the state."""
+        names = {place: name for name, place in self.named("AT_").items()}
+        decoder = Decoder()
+        for place in range(self.header["IMAGE_WORDS"]):
+            decoder._image[:] = [n == place for n in range(self.header["IMAGE_WORDS"])]
+            # Registers and pointers go by the place of their first.
+            start = max(n for n in names if n <= place)
+            fields = by_place(decoder.state).items()
+            found = {(name, n) for name, words in fields for n, word in enumerate(words) if word}
+            # The state does not show the layout's number.
+            self.assertEqual(found, {(names[start], place - start)} if place else set())
+
+
+def by_place(state):
+    """A state's fields, by the names of their places in the image."""
+    single = {
+        "NEXT": state.next_cycle,
+        "PHASE": state.phase,
+        "SHIFT": state.shift,
+        "COMMAND": state.field3,
+        "ADDRESS": state.field4,
+        "COUNT": state.received,
+        "HELD": state.held,
+        "FIRST": state.first,
+        "UNSTEADY": state.unsteady,
+        "RUN_MODE": state.run_mode,
+        "L1ID": state.l1id,
+        "BASE": state.base,
+    }
+    for names in (state.plan, state.warnings):
+        single.update((name.upper(), word) for name, word in names._asdict().items())
+    return {
+        **{name: (word,) for name, word in single.items()},
+        "REGISTERS": state.registers,
+        "WRITES": state.write_pointers,
+        "READS": state.read_pointers,
+    }
 
 
 class Cuts(unittest.TestCase):
@@ -200,6 +299,18 @@ class Refusals(unittest.TestCase):
         self.unchanged(Decoder(cycle=latest + 1), 6, CAPTURE)
         self.assertEqual(len(Decoder(cycle=latest).take(CAPTURE)), len(Decoder().take(CAPTURE)))
 
+    def test_clock_within_a_file(self):
+        # The second block has one bit too many.
+        decoder = Decoder(cycle=CLOCK_LIMIT - 8 * (INPUT_BYTES + len(CAPTURE)) + 1)
+        data = CAPTURE + bytes(INPUT_BYTES - len(CAPTURE)) + CAPTURE
+        taken = []
+        with self.assertRaises(Refused) as caught:
+            for record in decoder.read(io.BytesIO(data)):
+                taken.append(record)
+        self.assertEqual(caught.exception.number, 6)
+        self.assertEqual(len(taken), len(Decoder().take(CAPTURE)))
+        self.assertEqual(decoder.state.next_cycle, CLOCK_LIMIT - 8 * len(CAPTURE) + 1)
+
     def test_line(self):
         self.assertEqual(hex_line(""), b"")
         self.assertEqual(hex_line("0123456789ABCDEF"), bytes.fromhex("0123456789abcdef"))
@@ -211,23 +322,52 @@ class Refusals(unittest.TestCase):
         for text in ("B", "B5C", "A" * 65, "A" * 66, b"0"):
             self.refused(8, hex_line, text)
 
-    def test_integers(self):
+    def test_numbers_beyond_all_widths(self):
         decoder = Decoder()
-        for wrong in (-1, -(2**64), 2**64, 2**64 + 1):
-            self.assertRaises(OverflowError, Decoder, cycle=wrong)
-            self.assertRaises(OverflowError, decoder.take, b"\xff", wrong)
-            self.assertRaises(OverflowError, decoder.take, b"\xff", 0, wrong)
-            self.assertRaises(OverflowError, decoder.fifo, wrong)
+        decoder.take(CAPTURE, 0, 1000)
+        for large in (2**64, 2**64 + 1, 2**64 + 127, 10**30):
+            self.refused(2, Decoder, cycle=large)
+            self.unchanged(decoder, 5, b"\xff", large)
+            self.unchanged(decoder, 5, b"\xff", large, 0)
+            self.unchanged(decoder, 5, b"\xff", 0, large)
+            for place in range(4):
+                plan = Plan()[:place] + (large,) + Plan()[place + 1 :]
+                self.refused(1, Decoder, Plan(*plan))
+
+    def test_negative_numbers(self):
+        decoder = Decoder()
+        for wrong in (-1, -(2**64)):
+            self.assertRaises(ValueError, Decoder, cycle=wrong)
+            self.assertRaises(ValueError, decoder.take, b"\xff", wrong)
+            self.assertRaises(ValueError, decoder.take, b"\xff", 0, wrong)
+            self.assertRaises(ValueError, decoder.fifo, wrong)
+            self.assertRaises(ValueError, Record(0, 1, wrong, 0).line)
             for place in range(4):
                 plan = Plan()[:place] + (wrong,) + Plan()[place + 1 :]
-                self.assertRaises(OverflowError, Decoder, Plan(*plan))
-        self.assertRaises(OverflowError, decoder.fifo, 16)
-        for words in ((2**48, 1, 0, 0), (0, 256, 0, 0), (0, 1, -1, 0), (0, 1, 0, 2**32)):
+                self.assertRaises(ValueError, Decoder, Plan(*plan))
+        self.assertEqual(decoder.state, Decoder().state)
+
+    def test_fields_beyond_their_width(self):
+        for words in ((2**48, 1, 0, 0), (0, 256, 0, 0), (0, 1, 256, 0), (0, 1, 0, 2**32)):
             self.assertRaises(OverflowError, Record(*words).line)
+        for wrong in (16, 2**64):
+            self.assertRaises(OverflowError, Decoder().fifo, wrong)
+            self.assertRaises(OverflowError, Decoder().state.register, wrong)
+
+    def test_numbers_of_another_type(self):
+        decoder = Decoder()
         for wrong in (1.0, "1", None):
             self.assertRaises(TypeError, decoder.take, b"\xff", wrong)
             self.assertRaises(TypeError, Decoder, cycle=wrong)
+            self.assertRaises(TypeError, Decoder, Plan(csr=wrong))
         self.assertEqual(decoder.state, Decoder().state)
+
+    def test_plan_of_another_form(self):
+        for wrong in ((), (127, 0, 2), (127, 0, 2, 5, 99)):
+            self.assertRaises(ValueError, Decoder, wrong)
+        for wrong in (None, 127, "plan", Plan()._asdict(), dict.fromkeys(Plan()), set(Plan())):
+            self.assertRaises(TypeError, Decoder, wrong)
+        self.assertEqual(Decoder([127, 0, 2, 5]).state, Decoder().state)
 
     def test_input_of_another_type(self):
         for wrong in (None, 5, "B5", [1]):
@@ -257,6 +397,13 @@ class Frames(unittest.TestCase):
         (record,) = Decoder().take(*at_bit_0(slow(4, 0)))
         self.assertEqual(record, (16, 0x24, 1, 0, b""))
         self.assertEqual((record.frame_bits, str(record)), (0, "000000000010 24 01 00000000"))
+
+    def test_none(self):
+        """A record of another kind has no frame, whatever its value."""
+        for kind in set(range(256)) - {0x24, 0x25, 0x26}:
+            self.assertEqual(Record(0, kind, 1, 0x00081234).frame_bits, 0, hex(kind))
+        for kind, bits in ((0x24, 0x123C), (0x25, 0x123C), (0x26, 0x81234)):
+            self.assertEqual(Record(0, kind, 1, 0x00081234).frame_bits, bits)
 
     def test_frames_end_to_end(self):
         # Each goes into the tray anew, in one call of the module.
@@ -347,6 +494,16 @@ class Saving(unittest.TestCase):
         self.assertEqual(int.from_bytes(saved[40:48], "little"), 258 + 8 * len(CAPTURE))
         self.assertEqual(struct.unpack_from("<128I", saved, 544), decoder.fifo(0))
         self.assertEqual(saved[544 + 8192 :][:2], b"\xa5\xc3")
+
+    def test_bytes_like(self):
+        decoder = Decoder()
+        decoder.take(CAPTURE, 0, 1001)
+        saved = decoder.save()
+        spread = bytes(byte for octet in saved for byte in (octet, 0xFF))
+        for other in (bytearray(saved), memoryview(saved), memoryview(spread)[::2]):
+            self.assertEqual(Decoder.resume(other).save(), saved)
+        for wrong in (None, 5, "saved"):
+            self.assertRaises(TypeError, Decoder.resume, wrong)
 
     def test_copies_are_apart(self):
         decoder = Decoder()

@@ -26,8 +26,8 @@ extern "C" {
         list: *mut u64,
         list_length: usize,
         free: usize,
-        told: *mut u64,
-        told_length: usize,
+        result: *mut u64,
+        result_length: usize,
     ) -> u64;
 }
 
@@ -42,10 +42,11 @@ pub struct Buffers {
 /// answers the records written.
 pub fn take_fresh(input: &[u8], b: &mut Buffers) -> usize {
     let mut image = [0; 68];
-    let mut told = [0; 3];
+    let mut result = [0; 3];
     // Each slice is lent for its call only, and no two overlap.
     let number = unsafe {
-        kernelstill_open(0x007F, 0, 2, 5, 0, image.as_mut_ptr(), image.len());
+        let number = kernelstill_open(0x007F, 0, 2, 5, 0, image.as_mut_ptr(), image.len());
+        assert_eq!(number, 0, "the opening is refused");
         kernelstill_take(
             image.as_mut_ptr(),
             image.len(),
@@ -60,10 +61,10 @@ pub fn take_fresh(input: &[u8], b: &mut Buffers) -> usize {
             b.list.as_mut_ptr(),
             b.list.len(),
             0,
-            told.as_mut_ptr(),
-            told.len(),
+            result.as_mut_ptr(),
+            result.len(),
         )
     };
     assert_eq!(number, 0, "the call is refused");
-    told[1] as usize
+    result[1] as usize
 }

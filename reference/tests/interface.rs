@@ -3,80 +3,183 @@
 mod common;
 
 use common::Reader;
+use reference::compare::tally::Tally;
 use reference::generate::{bits, commands_by, flip_some};
+use reference::interface::call::{Call, Open, Take};
+use reference::interface::difference::{difference, reply_bytes};
 use reference::interface::image::{first_is_free, image, state, uses};
 use reference::interface::layout::{self, at, largest, IMAGE_WORDS, LAYOUT, RECOGNISER};
 use reference::interface::states::{random_cycle, random_state, PLANS};
-use reference::interface::{base, call::Call, wanted::wanted};
-use reference::limits::{RECORD_WORDS, STORE_WORDS, TRAY_BYTES};
+use reference::interface::wanted::{wanted, Wanted};
+use reference::interface::{base, checker, dirty};
+use reference::limits::{input_fits, CLOCK_LIMIT, RECORD_WORDS, STORE_WORDS, TRAY_BYTES};
+use reference::listing::push_record;
 use reference::random::Random;
-use reference::recogniser::Recogniser;
-use reference::{open, slow, sound, Plan, State};
+use reference::recogniser::{self, Recogniser};
+use reference::record::{flag, kind};
+use reference::{hex_line, open, slow, sound, Plan, Record, State};
+use std::collections::BTreeMap;
+use std::path::Path;
 
 /// The C header, which lies beside this reader's folder.
 const HEADER: &str = concat!(env!("CARGO_MANIFEST_DIR"), "/../include/kernelstill.h");
 
-/// The number that the header gives a name.
-fn in_header(header: &str, name: &str) -> u64 {
-    let defined = format!("#define KERNELSTILL_{name} ");
-    let line = header.lines().find_map(|line| line.strip_prefix(&defined));
-    let line = line.unwrap_or_else(|| panic!("{name} is not in the header"));
-    let number = line.split_whitespace().next().expect("a number");
-    match number.strip_prefix("0x") {
-        Some(digits) => u64::from_str_radix(digits, 16).expect("digits"),
-        None => number.parse().expect("digits"),
+/// The numbers that the header defines, by name without its first part.
+fn in_header() -> BTreeMap<String, u64> {
+    let header = std::fs::read_to_string(HEADER).expect("the header is there");
+    let mut numbers = BTreeMap::new();
+    for line in header.lines() {
+        let Some(defined) = line.strip_prefix("#define KERNELSTILL_") else {
+            continue;
+        };
+        // The name alone is the guard against a second reading.
+        let Some((name, rest)) = defined.split_once(' ') else {
+            continue;
+        };
+        let text = rest.split("/*").next().unwrap_or(rest).trim();
+        let number = number(text).unwrap_or_else(|| panic!("{name} is {text:?}"));
+        let other = numbers.insert(name.to_string(), number);
+        assert_eq!(other, None, "{name} is defined twice");
+    }
+    numbers
+}
+
+/// A number of the header: decimal, hexadecimal or a power of 2.
+fn number(text: &str) -> Option<u64> {
+    if let Some(power) = text.strip_prefix("(UINT64_C(1) << ") {
+        return Some(1 << power.strip_suffix(')')?.parse::<u32>().ok()?);
+    }
+    match text.strip_prefix("0x") {
+        Some(digits) => u64::from_str_radix(digits, 16).ok(),
+        None => text.parse().ok(),
     }
 }
 
-#[test]
-fn the_layout_is_the_headers() {
-    let header = std::fs::read_to_string(HEADER).expect("the header is there");
-    let is = |name: &str, number: u64| assert_eq!(in_header(&header, name), number, "{name}");
-    let names = [
+/// The same numbers as this reader has them.
+fn in_reader() -> BTreeMap<String, u64> {
+    let places = [
         "LAYOUT", "MASK", "CSR", "FEEN", "CNT", "NEXT", "PHASE", "SHIFT", "COMMAND", "ADDRESS",
         "COUNT", "HELD", "FIRST", "UNSTEADY", "RUN_MODE", "L1ID", "BASE", "WLV1", "WFST", "WSLW",
     ];
-    for (place, name) in names.iter().enumerate() {
-        is(&format!("AT_{name}"), place as u64);
-    }
-    is("AT_REGISTERS", at::REGISTERS as u64);
-    is("AT_WRITES", at::WRITES as u64);
-    is("AT_READS", at::READS as u64);
-    is("LAYOUT", LAYOUT);
-    is("IMAGE_WORDS", IMAGE_WORDS as u64);
-    is("STORE_WORDS", STORE_WORDS as u64);
-    is("TRAY_BYTES", TRAY_BYTES as u64);
-    is("TOLD_WORDS", layout::TOLD_WORDS as u64);
-    is("INPUT_BYTES", layout::INPUT_BYTES as u64);
-    is("RECORD_WORDS", RECORD_WORDS as u64);
-    is("RECORD_LINE_BYTES", layout::RECORD_LINE_BYTES as u64);
-    is("LINE_BYTES", layout::LINE_BYTES as u64);
-    is("DEFAULT_MASK", Plan::DEFAULT.mask.into());
-    is("DEFAULT_CSR", Plan::DEFAULT.csr.into());
-    is("DEFAULT_FEEN", Plan::DEFAULT.feen.into());
-    is("DEFAULT_CNT", Plan::DEFAULT.cnt.into());
+    let places = places.into_iter().zip(0..);
+    let blocks = [
+        ("REGISTERS", at::REGISTERS as u64),
+        ("WRITES", at::WRITES as u64),
+        ("READS", at::READS as u64),
+    ];
+    let places = places
+        .chain(blocks)
+        .map(|(name, place)| (format!("AT_{name}"), place));
+    let kinds = kinds()
+        .into_iter()
+        .map(|(name, kind)| (format!("KIND_{name}"), kind.into()));
+    let numbers = [limits(), refusals(), results(), flags()].concat();
+    let numbers = numbers
+        .into_iter()
+        .map(|(name, number)| (name.to_string(), number));
+    places.chain(kinds).chain(numbers).collect()
+}
+
+fn limits() -> Vec<(&'static str, u64)> {
+    let Plan {
+        mask,
+        csr,
+        feen,
+        cnt,
+    } = Plan::DEFAULT;
+    vec![
+        ("LAYOUT", LAYOUT),
+        ("IMAGE_WORDS", IMAGE_WORDS as u64),
+        ("STORE_WORDS", STORE_WORDS as u64),
+        ("TRAY_BYTES", TRAY_BYTES as u64),
+        ("RESULT_WORDS", layout::RESULT_WORDS as u64),
+        ("INPUT_BYTES", layout::INPUT_BYTES as u64),
+        ("RECORD_WORDS", RECORD_WORDS as u64),
+        ("RECORD_LINE_BYTES", layout::RECORD_LINE_BYTES as u64),
+        ("LINE_BYTES", layout::LINE_BYTES as u64),
+        ("CLOCK_LIMIT", CLOCK_LIMIT),
+        ("DEFAULT_MASK", mask.into()),
+        ("DEFAULT_CSR", csr.into()),
+        ("DEFAULT_FEEN", feen.into()),
+        ("DEFAULT_CNT", cnt.into()),
+    ]
+}
+
+fn refusals() -> Vec<(&'static str, u64)> {
+    vec![
+        ("OK", layout::OK),
+        ("WRONG_PLAN", layout::WRONG_PLAN),
+        ("WRONG_CYCLE", layout::WRONG_CYCLE),
+        ("UNSOUND", layout::UNSOUND),
+        ("WRONG_BUFFERS", layout::WRONG_BUFFERS),
+        ("WRONG_RANGE", layout::WRONG_RANGE),
+        ("CLOCK_OVER", layout::CLOCK_OVER),
+        ("WRONG_CHARACTER", layout::WRONG_CHARACTER),
+        ("WRONG_LENGTH", layout::WRONG_LENGTH),
+    ]
+}
+
+/// The places of a result, in the order in which it is compared, and how a
+/// taking call ends.
+fn results() -> Vec<(&'static str, u64)> {
+    vec![
+        ("RESULT_BITS", 0),
+        ("RESULT_RECORDS", 1),
+        ("RESULT_ENDING", 2),
+        ("DONE", layout::DONE),
+        ("FRAME", layout::FRAME),
+        ("LIST_FULL", layout::LIST_FULL),
+    ]
+}
+
+fn flags() -> Vec<(&'static str, u64)> {
+    vec![
+        ("FLAG_ACTED", flag::ACTED_ON.into()),
+        ("FLAG_FLIP", flag::FLIP.into()),
+        ("FLAG_SENT", flag::SENT.into()),
+        ("FLAG_MISSING", flag::MISSING.into()),
+        ("FLAG_UNSTEADY", flag::UNSTEADY.into()),
+    ]
+}
+
+fn kinds() -> [(&'static str, u8); 17] {
+    [
+        ("LV1", kind::LV1),
+        ("BCR", kind::FAST + recogniser::BCR),
+        ("ECR", kind::FAST + recogniser::ECR),
+        ("CAL", kind::FAST + recogniser::CAL),
+        ("SYNC", kind::FAST + recogniser::SYNC),
+        ("BAD_FAST", kind::BAD_FAST),
+        ("WR_REGISTER", kind::SLOW + slow::WR_REGISTER),
+        ("RD_REGISTER", kind::SLOW + slow::RD_REGISTER),
+        ("WR_FIFO", kind::SLOW + slow::WR_FIFO),
+        ("RD_FIFO", kind::SLOW + slow::RD_FIFO),
+        ("WR_FRONT_END", kind::SLOW + slow::WR_FRONT_END),
+        ("RD_FRONT_END", kind::SLOW + slow::RD_FRONT_END),
+        ("WR_RECEIVER", kind::SLOW + slow::WR_RECEIVER),
+        ("EN_DATA_TAKE", kind::SLOW + slow::EN_DATA_TAKE),
+        ("GLOBAL_RESET_MCC", kind::SLOW + slow::GLOBAL_RESET_MCC),
+        ("GLOBAL_RESET_FE", kind::SLOW + slow::GLOBAL_RESET_FE),
+        ("BAD_SLOW", kind::BAD_SLOW),
+    ]
 }
 
 #[test]
-fn the_numbers_are_the_headers() {
-    let header = std::fs::read_to_string(HEADER).expect("the header is there");
-    let is = |name: &str, number: u64| assert_eq!(in_header(&header, name), number, "{name}");
-    is("FIT", layout::FIT);
-    is("WRONG_PLAN", layout::WRONG_PLAN);
-    is("WRONG_CYCLE", layout::WRONG_CYCLE);
-    is("UNSOUND", layout::UNSOUND);
-    is("WRONG_BUFFERS", layout::WRONG_BUFFERS);
-    is("WRONG_RANGE", layout::WRONG_RANGE);
-    is("CLOCK_OVER", layout::CLOCK_OVER);
-    is("WRONG_CHARACTER", layout::WRONG_CHARACTER);
-    is("WRONG_LENGTH", layout::WRONG_LENGTH);
-    // What is told, in this order.
-    is("TOLD_BITS", 0);
-    is("TOLD_RECORDS", 1);
-    is("TOLD_ENDING", 2);
-    is("DONE", layout::DONE);
-    is("FRAME", layout::FRAME);
-    is("LIST_FULL", layout::LIST_FULL);
+fn all_numbers_of_the_header_are_the_readers() {
+    assert_eq!(in_header(), in_reader());
+}
+
+#[test]
+fn the_lengths_of_inputs_and_lines_are_the_readers() {
+    assert!(input_fits(layout::INPUT_BYTES) && !input_fits(layout::INPUT_BYTES + 1));
+    let longest = hex_line(&[b'F'; 2 * layout::LINE_BYTES]).expect("a line");
+    assert_eq!(longest.len(), layout::LINE_BYTES);
+    assert!(hex_line(&[b'F'; 2 * layout::LINE_BYTES + 2]).is_err());
+    for words in [[0, 0], [u64::MAX, u64::MAX]] {
+        let mut line = Vec::new();
+        push_record(&mut line, &Record::from_words(words));
+        assert_eq!(line.len(), layout::RECORD_LINE_BYTES);
+    }
 }
 
 /// States on the way through a random stream.
@@ -182,4 +285,234 @@ fn the_calls_that_the_cases_change_are_fit() {
         let take = base::call(&image(&made), &mut random);
         assert_eq!(wanted(&Call::Take(take)).answer, 0, "{name}");
     }
+}
+
+#[test]
+fn an_image_of_which_no_bit_is_taken_stays_word_for_word() {
+    let mut random = Random::new(75);
+    for (name, made) in base::states() {
+        let words = image(&made);
+        let mut filled = words;
+        for place in RECOGNISER.filter(|&place| !uses(&words, place)) {
+            filled[place] = largest(place);
+        }
+        let no_count = Take {
+            count: 0,
+            ..base::call(&filled, &mut random)
+        };
+        let no_room = Take {
+            list: Vec::new(),
+            free: 0,
+            ..base::call(&filled, &mut random)
+        };
+        for (take, ending) in [(no_count, layout::DONE), (no_room, layout::LIST_FULL)] {
+            let wanted = wanted(&Call::Take(take));
+            let after = taken(&wanted);
+            assert_eq!(after.image, filled, "{name}");
+            assert_eq!(after.result, [0, 0, ending], "{name}");
+            assert_eq!(wanted.free, [], "{name}");
+        }
+    }
+}
+
+/// A taking call as it is wanted afterwards.
+fn taken(wanted: &Wanted) -> &Take {
+    match &wanted.after {
+        Call::Take(take) => take,
+        other => panic!("not a taking call: {other:?}"),
+    }
+}
+
+/// The buffers that a driver sends back, by name, in the order of the header.
+fn sent_back(call: &Call) -> Vec<(&'static str, Vec<u8>)> {
+    let words = |words: &[u64]| words.iter().flat_map(|word| word.to_le_bytes()).collect();
+    match call {
+        Call::Open(open) => vec![("image", words(&open.image))],
+        Call::Take(take) => {
+            let store = take.store.iter().flat_map(|word| word.to_le_bytes());
+            vec![
+                ("image", words(&take.image)),
+                ("store", store.collect()),
+                ("tray", take.tray.clone()),
+                ("list", words(&take.list)),
+                ("result", words(&take.result)),
+            ]
+        }
+        Call::FrameBits { .. } | Call::FramePart { .. } => Vec::new(),
+        Call::HexLine { bytes, .. } => vec![("bytes", bytes.clone())],
+        Call::RecordLine { line, .. } => vec![("line", line.clone())],
+    }
+}
+
+/// The reply of a driver that has done as wanted.
+fn right_reply(wanted: &Wanted) -> Vec<u8> {
+    let buffers = sent_back(&wanted.after);
+    let bytes = buffers.into_iter().flat_map(|(_, bytes)| bytes);
+    wanted
+        .answer
+        .to_le_bytes()
+        .into_iter()
+        .chain(bytes)
+        .collect()
+}
+
+/// A call of each function, accepted.
+fn one_of_each(random: &mut Random) -> Vec<Call> {
+    vec![
+        Call::Open(Open {
+            mask: 0x007F,
+            csr: 0,
+            feen: 2,
+            cnt: 5,
+            cycle: 12,
+            image: dirty::words(random, IMAGE_WORDS),
+        }),
+        Call::Take(base::call(&base::hunting(), random)),
+        Call::FrameBits {
+            head: 0x2600,
+            value: 24,
+        },
+        Call::FramePart {
+            tray: vec![0; 4],
+            bits: 17,
+        },
+        Call::HexLine {
+            line: b"0123456789".to_vec(),
+            bytes: dirty::bytes(random, 40),
+        },
+        Call::RecordLine {
+            line: dirty::bytes(random, 30),
+            head: random.word(),
+            value: random.word(),
+        },
+    ]
+}
+
+#[test]
+fn a_wrong_answer_is_a_difference() {
+    let mut random = Random::new(76);
+    for call in one_of_each(&mut random) {
+        let wanted = wanted(&call);
+        let right = right_reply(&wanted);
+        assert_eq!(right.len(), reply_bytes(&wanted));
+        assert_eq!(difference(&wanted, &right), None);
+        for place in 0..8 {
+            let mut wrong = right.clone();
+            wrong[place] ^= 1;
+            let found = difference(&wanted, &wrong).expect("a difference");
+            assert!(found.starts_with("the answer differs"), "{found}");
+        }
+    }
+}
+
+#[test]
+fn a_byte_off_in_any_buffer_is_a_difference() {
+    let mut random = Random::new(77);
+    for call in one_of_each(&mut random) {
+        let wanted = wanted(&call);
+        let right = right_reply(&wanted);
+        let mut start = 8;
+        for (name, bytes) in sent_back(&wanted.after) {
+            let last = bytes.len() - 1;
+            let somewhere = random.below(bytes.len() as u64) as usize;
+            for place in [0, somewhere, last] {
+                let mut wrong = right.clone();
+                wrong[start + place] ^= 1 << random.below(8);
+                let found = difference(&wanted, &wrong).expect("a difference");
+                assert!(found.starts_with(&format!("{name} ")), "{found}");
+            }
+            start += bytes.len();
+        }
+        assert_eq!(start, right.len());
+    }
+}
+
+#[test]
+fn a_refused_call_that_changes_a_byte_is_a_difference() {
+    let mut random = Random::new(78);
+    let mut take = base::call(&base::hunting(), &mut random);
+    take.first = u64::MAX;
+    let wanted = wanted(&Call::Take(take));
+    assert_eq!(wanted.answer, layout::WRONG_RANGE);
+    let mut reply = right_reply(&wanted);
+    assert_eq!(difference(&wanted, &reply), None);
+    *reply.last_mut().expect("a result") ^= 1;
+    let found = difference(&wanted, &reply).expect("a difference");
+    assert!(found.starts_with("result element 2 "), "{found}");
+}
+
+#[test]
+fn a_free_word_may_be_any_of_its_width_and_no_other() {
+    let mut random = Random::new(79);
+    let inside = |(_, made): &(String, State)| first_is_free(&image(made));
+    let (_, made) = base::states().into_iter().find(inside).expect("WrReceiver");
+    let mut take = base::call(&image(&made), &mut random);
+    take.count = 1;
+    let wanted = wanted(&Call::Take(take));
+    assert_eq!(wanted.free, [at::FIRST]);
+    let with = |place: usize, word: u64| {
+        let mut reply = right_reply(&wanted);
+        reply[8 + 8 * place..][..8].copy_from_slice(&word.to_le_bytes());
+        difference(&wanted, &reply)
+    };
+    assert_eq!(with(at::FIRST, 0), None);
+    assert_eq!(with(at::FIRST, 1), None);
+    for beyond in [2, 256, 1 << 63, u64::MAX] {
+        let found = with(at::FIRST, beyond).expect("a difference");
+        assert!(found.starts_with("image word 12 (first) "), "{found}");
+    }
+    // The next word is not free, though unused.
+    let found = with(at::UNSTEADY, 1).expect("a difference");
+    assert!(found.starts_with("image word 13 (unsteady) "), "{found}");
+}
+
+/// What a program in place of the driver comes to with one call, or none.
+fn with_driver(program: &str, call: Option<Call>) -> Tally {
+    let mut tally = Tally::default();
+    let ran = checker::run(Path::new(program), &mut tally, |checker| match &call {
+        Some(call) => checker.check("call".to_string(), call).map(drop),
+        None => Ok(()),
+    });
+    ran.expect("the program can be run");
+    tally
+}
+
+/// A call whose answer is also the first word of its request, so that `cat`
+/// answers it well and then goes on.
+fn answered_by_its_request() -> Call {
+    Call::FrameBits {
+        head: 0x2600,
+        value: 3,
+    }
+}
+
+#[test]
+fn a_driver_that_does_not_do_its_part_is_reported() {
+    let call = answered_by_its_request;
+    let reported = |program, call, fault: &str| {
+        let tally = with_driver(program, call);
+        assert!(!tally.all_passed(), "{program} passed");
+        assert!(tally.to_string().contains(fault), "{tally}");
+    };
+    assert!(with_driver("true", None).all_passed());
+    reported(
+        "true",
+        Some(call()),
+        "call: the driver ended within this call",
+    );
+    reported("false", None, "its end: it ended with exit status: 1");
+    reported(
+        "cat",
+        Some(call()),
+        "after the last call: more was written than asked for",
+    );
+    let other = Call::FrameBits {
+        head: 0x2600,
+        value: 4,
+    };
+    reported(
+        "cat",
+        Some(other),
+        "call: the answer differs: wanted 4, got 3",
+    );
 }

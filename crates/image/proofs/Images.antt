@@ -64,7 +64,7 @@ image-length d w =
     omega (arith, length-append (s ++ r ++ p) q, length-append (s ++ r) p, length-append s r, w .registers, w .writes, w .reads)
 
 -- Numbers that have a width are their low bits.
-narrow : (limit : ℕ) (ws : List ℕ) → length ws ≡ 16 → ((n : ℕ) → n < 16 → getD ws n 0 < limit) → narrowed limit ws ≡ ws
+pub narrow : (limit : ℕ) (ws : List ℕ) → length ws ≡ 16 → ((n : ℕ) → n < 16 → getD ws n 0 < limit) → narrowed limit ws ≡ ws
 narrow limit ws sixteen low =
     ext-getD 0 (narrowed limit ws) ws (length-narrowed limit ws)
     (λ (n : ℕ) (h : n < length (narrowed limit ws)).
@@ -84,13 +84,13 @@ phase-read Field5 = refl
 
 -- The three arrays behind the 20 scalars.
 module _ (r p q : List ℕ) (lr : length r ≡ 16) (lp : length p ≡ 16) (lq : length q ≡ 16) where
-  first : take 16 (r ++ p ++ q) ≡ r
+  pub first : take 16 (r ++ p ++ q) ≡ r
   first = ap (take 16) (append-assoc r p q) ∙ take-at r (p ++ q) 16 lr
 
-  second : take 16 (drop 16 (r ++ p ++ q)) ≡ p
+  pub second : take 16 (drop 16 (r ++ p ++ q)) ≡ p
   second = ap (λ (l : List ℕ). take 16 (drop 16 l)) (append-assoc r p q) ∙ ap (take 16) (drop-at r (p ++ q) 16 lr) ∙ take-at p q 16 lp
 
-  third : take 16 (drop 32 (r ++ p ++ q)) ≡ q
+  pub third : take 16 (drop 32 (r ++ p ++ q)) ≡ q
   third =
       ap (take 16) (drop-at (r ++ p) q 32 (omega (arith, length-append r p, lr, lp)))
       ∙ take-all 16 q (omega (arith, lq))
@@ -134,7 +134,11 @@ same-as-itself : (ws : List ℕ) → sameWords ws ws ≡ true
 same-as-itself [] = refl
 same-as-itself (w ∷ ws) = simp (eq-eqb w w refl) (same-as-itself ws)
 
-pub image-fits : (d : Decoder) → Widths d → imageFits (imageOf d) ≡ true
+pub written-fits : (d : Decoder) (image : List ℕ) → length image ≡ imageLength → image ≡ imageOf d → stateOf image ≡ d → imageFits image ≡ true
 unfolding imageFits
-image-fits d w =
-    rw (read-back d w, image-length d w, same-as-itself (imageOf d))
+written-fits d image long is back =
+    let same : imageOf (stateOf image) ≡ image = ap imageOf back ∙ sym is in
+    rw (same, long, same-as-itself image)
+
+pub image-fits : (d : Decoder) → Widths d → imageFits (imageOf d) ≡ true
+image-fits d w = written-fits d (imageOf d) (image-length d w) refl (read-back d w)

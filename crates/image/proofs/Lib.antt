@@ -1,3 +1,4 @@
 pub mod Images
 pub mod Puts
 mod Words
+pub mod Forms

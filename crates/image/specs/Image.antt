@@ -124,3 +124,28 @@ pub record Widths (d : Decoder) : Type 0 where
   pub register : (n : ℕ) → n < 16 → getD (d .model .registers) n 0 < 2 ^ 16
   pub write : (n : ℕ) → n < 16 → getD (d .model .writes) n 0 < 2 ^ 8
   pub read : (n : ℕ) → n < 16 → getD (d .model .reads) n 0 < 2 ^ 8
+
+-- The same by widths, word by word, as the header has it: what is well-formed is that and nothing else (promises, `Hosts`).
+pub record Formed (image : List ℕ) : Type 0 where
+  pub long : length image ≡ imageLength
+  pub layout-is : getD image 0 0 ≡ layout
+  pub mask : getD image 1 0 < 2 ^ 16
+  pub csr : getD image 2 0 < 2 ^ 8
+  pub feen : getD image 3 0 < 2 ^ 8
+  pub cnt : getD image 4 0 < 2 ^ 8
+  pub phase : getD image 6 0 < 5
+  pub shift : getD image 7 0 < 2 ^ 8
+  pub command : getD image 8 0 < 2 ^ 8
+  pub address : getD image 9 0 < 2 ^ 8
+  pub count : getD image 10 0 < 2 ^ 32
+  pub held : getD image 11 0 < 2 ^ 32
+  pub first : getD image 12 0 < 2
+  pub unsteady : getD image 13 0 < 2
+  pub running : getD image 14 0 < 2
+  pub l1id : getD image 15 0 < 2 ^ 8
+  pub wlv1 : getD image 17 0 < 2
+  pub wfst : getD image 18 0 < 2
+  pub wslw : getD image 19 0 < 2
+  pub registers : (n : ℕ) → n < 16 → getD (take 16 (drop 20 image)) n 0 < 2 ^ 16
+  pub writes : (n : ℕ) → n < 16 → getD (take 16 (drop 36 image)) n 0 < 2 ^ 8
+  pub reads : (n : ℕ) → n < 16 → getD (take 16 (drop 52 image)) n 0 < 2 ^ 8

@@ -4,7 +4,7 @@ ghost use mathlib.Core.Bool.{cond};
 ghost use Prim.Native.Nat.{_+_, _≤_};
 ghost use lib.ListN.{length};
 ghost use lib.Seq.{sets};
-ghost use Rattle.image.specs.Image.{phaseNumber, phaseOf, scalarsOf, imageOf, narrowed, planAt, recogniserAt, modelAt, stateOf, sameWords, imageFits};
+ghost use Rattle.image.specs.Image.{imageLength, phaseNumber, phaseOf, scalarsOf, imageOf, narrowed, planAt, recogniserAt, modelAt, stateOf, sameWords, imageFits};
 use controller::Model;
 use controller::Plan;
 use decoder::Decoder;
@@ -88,7 +88,7 @@ fn scalars(d: Decoder) -> [u64; 20]
     ]
 }
 
-// Numbers put from a place on, one a word.
+// The scalars, from word 0 on.
 fn put_scalars(image: &mut [u64], numbers: [u64; 20])
     requires { ⌜ 20 ≤ length (now image) ⌝ }
     ensures { λ _. ⌜ now (image .exit) ≡ sets (now (image .entry)) 0 numbers ⌝ }
@@ -100,6 +100,7 @@ fn put_scalars(image: &mut [u64], numbers: [u64; 20])
     }
 }
 
+// Sixteen numbers from a place on, one a word.
 fn put_registers(image: &mut [u64], at: usize, registers: [u16; 16])
     requires { ⌜ at + 16 ≤ length (now image) ⌝ }
     ensures { λ _. ⌜ now (image .exit) ≡ sets (now (image .entry)) at registers ⌝ }
@@ -124,7 +125,7 @@ fn put_pointers(image: &mut [u64], at: usize, pointers: [u8; 16])
 
 // Writes the state's image. Read back, it is that state.
 pub fn write(d: Decoder, image: &mut [u64])
-    requires { ⌜ length (now image) ≡ 68 ⌝ }
+    requires { ⌜ length (now image) ≡ imageLength ⌝ }
     ensures { λ _. ⌜ now (image .exit) ≡ imageOf d ⌝ }
     ensures { λ _. ⌜ stateOf (now (image .exit)) ≡ d ⌝ }
 {
@@ -166,7 +167,7 @@ fn pointers_at(words: &[u64]) -> [u8; 16]
 }
 
 fn plan_at(image: &[u64]) -> Plan
-    requires { ⌜ length (now image) ≡ 68 ⌝ }
+    requires { ⌜ length (now image) ≡ imageLength ⌝ }
     ensures { λ r. ⌜ r ≡ planAt (now (image .entry)) ⌝ }
 {
     Plan {
@@ -178,7 +179,7 @@ fn plan_at(image: &[u64]) -> Plan
 }
 
 fn recogniser_at(image: &[u64]) -> Recogniser
-    requires { ⌜ length (now image) ≡ 68 ⌝ }
+    requires { ⌜ length (now image) ≡ imageLength ⌝ }
     ensures { λ r. ⌜ r ≡ recogniserAt (now (image .entry)) ⌝ }
 {
     let phase = phase_of(image[6]);
@@ -197,7 +198,7 @@ fn recogniser_at(image: &[u64]) -> Recogniser
 }
 
 fn model_at(image: &[u64]) -> Model
-    requires { ⌜ length (now image) ≡ 68 ⌝ }
+    requires { ⌜ length (now image) ≡ imageLength ⌝ }
     ensures { λ r. ⌜ r ≡ modelAt (now (image .entry)) ⌝ }
 {
     let registers = registers_at(&image[REGISTERS..WRITES]);
@@ -218,7 +219,7 @@ fn model_at(image: &[u64]) -> Model
 
 // The state that an image reads as, each word by its low bits; whether that loses anything is for `fits` to say.
 pub fn read(image: &[u64]) -> Decoder
-    requires { ⌜ length (now image) ≡ 68 ⌝ }
+    requires { ⌜ length (now image) ≡ imageLength ⌝ }
     ensures { λ r. ⌜ r ≡ stateOf (now (image .entry)) ⌝ }
 {
     let plan = plan_at(image);

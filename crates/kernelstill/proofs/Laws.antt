@@ -3,10 +3,10 @@
 use mathlib.Core.Bool.{Bool, true, false, cond, _&&_}
 use mathlib.Core.List.{List}
 use mathlib.Core.Logic.{⊎-elim}
-use mathlib.Core.Path.{_≡_, refl, sym, ap, _∙_}
+use mathlib.Core.Path.{_≡_, refl, sym, ap, subst, _∙_}
 use Prim.Native.Nat.{ℕ, _+_, _<_, _≤_}
 use native.Mathlib.Omega.{arith}
-use lib.Dec.{eqb, leb, ltb}
+use lib.Dec.{eqb, leb, T}
 use lib.ListN.{length}
 use lib.Seq.{sets}
 use borrow.Author.Tests.{eq-eqb, ne-eqb, lt-ltb, le-ltb, le-leb, lt-leb, leb-true, leb-false}
@@ -16,8 +16,9 @@ use Rattle.decoder.specs.declared.Opened.{Opened}
 use Rattle.decoder.specs.Opening.{openingNumber}
 use Rattle.decoder.specs.Sound.{soundOf}
 use Rattle.decoder.specs.Take.{Call, Left, takeOf, endingNumber}
+use Rattle.decoder.proofs.Stays.{take-sound}
 use Rattle.image.specs.Image.{imageLength, imageOf, stateOf, imageFits}
-use Rattle.image.proofs.Images.{fits-length}
+use Rattle.image.proofs.Images.{fits-length, written-fits}
 use Rattle.listing.specs.declared.HexLine.{HexLine}
 use Rattle.listing.specs.Block.{Block, block, putOf}
 use Rattle.listing.specs.Digits.{charactersOf}
@@ -25,8 +26,12 @@ use Rattle.listing.specs.Line.{Read, hexNumber, readAs, readOf}
 use Rattle.listing.specs.Records.{numbersLine, recordLine}
 use Rattle.listing.proofs.Puts.{put-fits, put-over}
 use Rattle.kernelstill.specs.Open.{OpenLeft, openedInto}
-use Rattle.kernelstill.specs.Take.{TakeLeft, toldLength, wordsTold, turnedAway, handedOn, soundImage, takeLeftOf}
+use Rattle.kernelstill.specs.Take.{TakeLeft, resultLength, resultOf, refusedCall, answered, soundImage, takeLeftOf, Holds}
 use Rattle.kernelstill.specs.Lines.{LineLeft, hexLeftOf, recordLeftOf}
+
+holds-true : (b : Bool) → T b → b ≡ true
+holds-true true t = refl
+holds-true false t = absurd t
 
 -- Opening.
 abbrev pub openLeft : ℕ → List ℕ → OpenLeft
@@ -44,44 +49,57 @@ module _ (o : Opened) (image : List ℕ) (number : ℕ) (e : number ≡ openingN
     no-room-refused some =
         simp (ne-eqb (length image) imageLength short, ne-eqb (openingNumber (o .opening)) 0 (λ z. some (e ∙ z)), e)
 
+-- An image that was written holds the state, if that is sound.
+pub holds : (d : Decoder) (image : List ℕ) → T (soundOf d) → length image ≡ imageLength → image ≡ imageOf d → stateOf image ≡ d → Holds image d
+holds d image sound long is back =
+    let fits = written-fits d image long is back in
+    record { reads = back; sound = rw (fits, back) (holds-true (soundOf d) sound) }
+
 -- Taking.
 pub sound-length : (image : List ℕ) → soundImage image ≡ true → length image ≡ imageLength
 sound-length image e = fits-length image (both (imageFits image) _ e .0)
 
-module _ (image told : List ℕ) (c : Call) where
-  pub unsound : soundImage image ≡ false → turnedAway 3 image told c ≡ takeLeftOf image told c
+-- After a call the image holds the next state, which is sound since the one before was.
+pub moved-on : (image : List ℕ) (c : Call) → soundImage image ≡ true → (d : Decoder) → d ≡ takeOf (stateOf image) c .taken .decoder
+    → (image′ : List ℕ) → length image′ ≡ length image → image′ ≡ imageOf d → stateOf image′ ≡ d → Holds image′ (takeOf (stateOf image) c .taken .decoder)
+moved-on image c sound d e image′ long is back =
+    let before = subst T (sym (both (imageFits image) (soundOf (stateOf image)) sound .1)) tt in
+    holds _ image′ (take-sound (stateOf image) c before) (long ∙ sound-length image sound) (is ∙ ap imageOf e) (back ∙ e)
+
+module _ (image result : List ℕ) (c : Call) where
+  pub unsound : soundImage image ≡ false → refusedCall 3 image result c ≡ takeLeftOf image result c
   unfolding takeLeftOf
   unsound e = simp e
 
   module _ (sound : soundImage image ≡ true) where
-    pub untold : (length told ≡ toldLength → ⊥) → turnedAway 4 image told c ≡ takeLeftOf image told c
+    pub no-result : (length result ≡ resultLength → ⊥) → refusedCall 4 image result c ≡ takeLeftOf image result c
     unfolding takeLeftOf
-    untold wrong = simp (sound, ne-eqb (length told) toldLength wrong)
+    no-result wrong = simp (sound, ne-eqb (length result) resultLength wrong)
 
-    module _ (long : length told ≡ toldLength) (d : Decoder) (is : d ≡ stateOf image) (l : Left) (e : l ≡ takeOf d c)
+    module _ (long : length result ≡ resultLength) (d : Decoder) (is : d ≡ stateOf image) (l : Left) (e : l ≡ takeOf d c)
         (number : ℕ) (n : number ≡ endingNumber (l .taken .told .ending)) where
-      whole : handedOn image told l ≡ takeLeftOf image told c
+      whole : answered image result l ≡ takeLeftOf image result c
       unfolding takeLeftOf
       whole =
-          simp (sound, eq-eqb (length told) toldLength long)
-          (ap (handedOn image told) (e ∙ ap (λ (d : Decoder). takeOf d c) is))
+          simp (sound, eq-eqb (length result) resultLength long)
+          (ap (answered image result) (e ∙ ap (λ (d : Decoder). takeOf d c) is))
 
       abbrev pub left : ℕ → List ℕ → List ℕ → TakeLeft
-      left number image told =
-          record { number = number; image = image; told = told; store = l .store; tray = l .tray; list = l .list }
+      left number image result =
+          record { number = number; image = image; result = result; store = l .store; tray = l .tray; list = l .list }
 
       abbrev by : Bool → TakeLeft
-      by fit = left (endingNumber (l .taken .told .ending)) (cond fit (imageOf (l .taken .decoder)) image) (cond fit (wordsTold (l .taken .told)) told)
+      by fit = left (endingNumber (l .taken .told .ending)) (cond fit (imageOf (l .taken .decoder)) image) (cond fit (resultOf (l .taken .told)) result)
 
-      handed : (fit : Bool) → eqb (endingNumber (l .taken .told .ending)) 0 ≡ fit → by fit ≡ takeLeftOf image told c
+      handed : (fit : Bool) → eqb (endingNumber (l .taken .told .ending)) 0 ≡ fit → by fit ≡ takeLeftOf image result c
       handed fit f = ap by (sym f) ∙ whole
 
-      pub refused : (number ≡ 0 → ⊥) → left number image told ≡ takeLeftOf image told c
-      refused some = ap (λ (k : ℕ). left k image told) n ∙ handed false (ne-eqb _ 0 (λ z. some (n ∙ z)))
+      pub refused : (number ≡ 0 → ⊥) → left number image result ≡ takeLeftOf image result c
+      refused some = ap (λ (k : ℕ). left k image result) n ∙ handed false (ne-eqb _ 0 (λ z. some (n ∙ z)))
 
-      pub accepted : number ≡ 0 → (image′ told′ : List ℕ) → image′ ≡ imageOf (l .taken .decoder) → told′ ≡ wordsTold (l .taken .told)
-          → left 0 image′ told′ ≡ takeLeftOf image told c
-      accepted none image′ told′ i t =
+      pub accepted : number ≡ 0 → (image′ result′ : List ℕ) → image′ ≡ imageOf (l .taken .decoder) → result′ ≡ resultOf (l .taken .told)
+          → left 0 image′ result′ ≡ takeLeftOf image result c
+      accepted none image′ result′ i t =
           let zero : 0 ≡ endingNumber (l .taken .told .ending) = sym none ∙ n in
           (λ k. left (zero k) (i k) (t k)) ∙ handed true (eq-eqb _ 0 (sym zero))
 

@@ -1,10 +1,12 @@
 -- A taking call on an image: the call on the state that the image reads as.
 -- Assumes nothing.
-use mathlib.Core.Bool.{Bool, cond, _&&_}
+use mathlib.Core.Bool.{Bool, true, cond, _&&_}
 use mathlib.Core.List.{List, [], _∷_}
+use mathlib.Core.Path.{_≡_}
 use Prim.Native.Nat.{ℕ}
 use lib.Dec.{eqb}
 use lib.ListN.{length}
+use Rattle.decoder.specs.declared.Decoder.{Decoder}
 use Rattle.decoder.specs.declared.Ending.{Ending}
 use Rattle.decoder.specs.declared.Ending.the-variants.{Done, Frame, ListFull, Unsound, WrongBuffers, WrongRange, ClockOver}
 use Rattle.decoder.specs.declared.Told.{Told}
@@ -16,7 +18,7 @@ use Rattle.image.specs.Image.{imageOf, stateOf, imageFits}
 pub record TakeLeft : Type 0 where
   pub number : ℕ
   pub image : List ℕ
-  pub told : List ℕ
+  pub result : List ℕ
   pub store : List ℕ
   pub tray : List ℕ
   pub list : List ℕ
@@ -31,27 +33,27 @@ endingCode WrongBuffers = 0
 endingCode WrongRange = 0
 endingCode ClockOver = 0
 
-abbrev pub toldLength : ℕ
-toldLength = 3
+abbrev pub resultLength : ℕ
+resultLength = 3
 
--- What a call tells: "bits taken, records written, and one ending".
-abbrev pub wordsTold : Told → List ℕ
-wordsTold t = t .bits ∷ t .records ∷ endingCode (t .ending) ∷ []
+-- The result: "bits taken, records written, and one ending".
+abbrev pub resultOf : Told → List ℕ
+resultOf t = t .bits ∷ t .records ∷ endingCode (t .ending) ∷ []
 
--- Turned away: every buffer as it was lent.
-abbrev pub turnedAway : ℕ → List ℕ → List ℕ → Call → TakeLeft
-turnedAway number image told c =
-    record { number = number; image = image; told = told; store = c .store; tray = c .tray; list = c .list }
+-- A refused call: every buffer as it was lent.
+abbrev pub refusedCall : ℕ → List ℕ → List ℕ → Call → TakeLeft
+refusedCall number image result c =
+    record { number = number; image = image; result = result; store = c .store; tray = c .tray; list = c .list }
 
--- What a call on the state left: where it is not refused, the next state as an image, and what it tells.
-abbrev pub handedOn : List ℕ → List ℕ → Left → TakeLeft
-handedOn image told l =
+-- What a call on the state left: where it is not refused, the next state as an image, and the result.
+abbrev pub answered : List ℕ → List ℕ → Left → TakeLeft
+answered image result l =
     let number = endingNumber (l .taken .told .ending) in
     let fit = eqb number 0 in
     record {
       number = number;
       image = cond fit (imageOf (l .taken .decoder)) image;
-      told = cond fit (wordsTold (l .taken .told)) told;
+      result = cond fit (resultOf (l .taken .told)) result;
       store = l .store;
       tray = l .tray;
       list = l .list;
@@ -61,10 +63,15 @@ handedOn image told l =
 abbrev pub soundImage : List ℕ → Bool
 soundImage image = imageFits image && soundOf (stateOf image)
 
--- Number 3 also for an image that is malformed, number 4 also where there are not three words for what is told.
+-- Number 3 also for an image that is malformed, number 4 also where the result has no three words.
 unfoldable pub takeLeftOf : List ℕ → List ℕ → Call → TakeLeft
-takeLeftOf image told c =
+takeLeftOf image result c =
     cond (soundImage image)
-    (cond (eqb (length told) toldLength) (handedOn image told (takeOf (stateOf image) c))
-    (turnedAway 4 image told c))
-    (turnedAway 3 image told c)
+    (cond (eqb (length result) resultLength) (answered image result (takeOf (stateOf image) c))
+    (refusedCall 4 image result c))
+    (refusedCall 3 image result c)
+
+-- The words are an image that reads as the state, and that the next call takes.
+pub record Holds (image : List ℕ) (d : Decoder) : Type 0 where
+  pub reads : stateOf image ≡ d
+  pub sound : soundImage image ≡ true

@@ -1,14 +1,15 @@
 // The library for hosts that are not written in Rattle: the public calls on numbers and slices, with the state as an image in words.
 // include/kernelstill.h declares these functions. None asks anything of its caller.
+ghost use mathlib.Core.Bool.{cond};
 ghost use mathlib.Core.Path.{_≡_};
 ghost use lib.ListN.{length};
-ghost use Rattle.controller.specs.Records.{kindOf, frameBitsOf};
+ghost use Rattle.controller.specs.Records.{kindOf, isFrameHead, frameBitsOf};
 ghost use Rattle.decoder.specs.Opening.{openOf, openingNumber};
 ghost use Rattle.decoder.specs.Take.{takeOf, endingNumber};
-ghost use Rattle.image.specs.Image.{stateOf};
+ghost use Rattle.image.specs.Image.{imageLength, stateOf};
 ghost use Rattle.frames.specs.Tray.{partOf};
 ghost use Rattle.kernelstill.specs.Open.{emptyPlan, planOf, openLeftOf};
-ghost use Rattle.kernelstill.specs.Take.{endingCode, wordsTold, soundImage, takeLeftOf};
+ghost use Rattle.kernelstill.specs.Take.{endingCode, resultLength, resultOf, soundImage, takeLeftOf, Holds};
 ghost use Rattle.kernelstill.specs.Lines.{hexLeftOf, recordLeftOf};
 use controller::Plan;
 use decoder::Decoder;
@@ -16,8 +17,11 @@ use decoder::Ending;
 use decoder::Opening;
 use decoder::Told;
 
-// The words that a taking call tells.
-const TOLD_WORDS: usize = 3;
+// The words of a taking call's result: bits taken, records written, ending.
+const RESULT_WORDS: usize = 3;
+
+// The bytes of the longest hexadecimal line.
+const LINE_BYTES: usize = 32;
 
 // Refusal numbers that the wrapped calls do not answer by themselves.
 const UNSOUND: u64 = 3;
@@ -98,7 +102,7 @@ fn ending_code(ending: Ending) -> u64
     }
 }
 
-// Opening: the start state's image, which reads as that state, and the refusal number.
+// Opening: the image then holds the start state; the answer is the refusal number.
 #[no_mangle]
 pub extern "C" fn kernelstill_open(
     mask: u64,
@@ -109,7 +113,7 @@ pub extern "C" fn kernelstill_open(
     image: &mut [u64],
 ) -> u64
     ensures { λ r. ⌜ (record { number = r; image = now (image .exit) }) ≡ openLeftOf mask csr feen cnt cycle (now (image .entry)) ⌝ }
-    ensures { λ _. ⌜ (length (now (image .entry)) ≡ 68 → stateOf (now (image .exit)) ≡ openOf (planOf mask csr feen cnt) cycle .decoder) ⌝ }
+    ensures { λ _. ⌜ (length (now (image .entry)) ≡ imageLength → Holds (now (image .exit)) (openOf (planOf mask csr feen cnt) cycle .decoder)) ⌝ }
 {
     let plan = plan_of(mask, csr, feen, cnt);
     let opened = Decoder::start(plan, cycle);
@@ -137,19 +141,19 @@ fn sound_image(image: &[u64]) -> bool
     decoder.sound()
 }
 
-// What a taking call tells, in three words.
-fn tell(told: &mut [u64], answer: Told)
-    requires { ⌜ length (now told) ≡ 3 ⌝ }
-    ensures { λ _. ⌜ now (told .exit) ≡ wordsTold answer ⌝ }
+// A taking call's result, in three words.
+fn write_result(result: &mut [u64], answer: Told)
+    requires { ⌜ length (now result) ≡ resultLength ⌝ }
+    ensures { λ _. ⌜ now (result .exit) ≡ resultOf answer ⌝ }
 {
     let ending = answer.ending;
-    told[0] = answer.bits as u64;
-    told[1] = answer.records as u64;
-    told[2] = ending_code(ending);
+    result[0] = answer.bits as u64;
+    result[1] = answer.records as u64;
+    result[2] = ending_code(ending);
 }
 
-// Taking bits: the image, the store and the tray move on, records go into the list, and what the call tells into three words. The image reads as the
-// next state.
+// Taking bits: the image, the store and the tray move on, records go into the list, and the result into three words. The
+// image then holds the next state.
 #[no_mangle]
 pub extern "C" fn kernelstill_take(
     image: &mut [u64],
@@ -160,15 +164,15 @@ pub extern "C" fn kernelstill_take(
     tray: &mut [u8],
     list: &mut [u64],
     free: usize,
-    told: &mut [u64],
+    result: &mut [u64],
 ) -> u64
-    ensures { λ r. ⌜ (record { number = r; image = now (image .exit); told = now (told .exit); store = now (store .exit); tray = now (tray .exit); list = now (list .exit) }) ≡ takeLeftOf (now (image .entry)) (now (told .entry)) (record { input = now (input .entry); first = first; count = count; store = now (store .entry); tray = now (tray .entry); list = now (list .entry); free = free }) ⌝ }
-    ensures { λ r. ⌜ (r ≡ 0 → stateOf (now (image .exit)) ≡ takeOf (stateOf (now (image .entry))) (record { input = now (input .entry); first = first; count = count; store = now (store .entry); tray = now (tray .entry); list = now (list .entry); free = free }) .taken .decoder) ⌝ }
+    ensures { λ r. ⌜ (record { number = r; image = now (image .exit); result = now (result .exit); store = now (store .exit); tray = now (tray .exit); list = now (list .exit) }) ≡ takeLeftOf (now (image .entry)) (now (result .entry)) (record { input = now (input .entry); first = first; count = count; store = now (store .entry); tray = now (tray .entry); list = now (list .entry); free = free }) ⌝ }
+    ensures { λ r. ⌜ (r ≡ 0 → Holds (now (image .exit)) (takeOf (stateOf (now (image .entry))) (record { input = now (input .entry); first = first; count = count; store = now (store .entry); tray = now (tray .entry); list = now (list .entry); free = free }) .taken .decoder)) ⌝ }
 {
     if !sound_image(image) {
         return UNSOUND;
     }
-    if told.len() != TOLD_WORDS {
+    if result.len() != RESULT_WORDS {
         return WRONG_BUFFERS;
     }
     let decoder = image::read(image);
@@ -179,18 +183,21 @@ pub extern "C" fn kernelstill_take(
     if number != 0 {
         return number;
     }
-    tell(told, answer);
+    write_result(result, answer);
     let next = taken.decoder;
     image::write(next, image);
     0
 }
 
-// A frame's count of bits, off the two words of its record.
+// A frame's count of bits, off the two words of its record; 0 for the records of other kinds.
 #[no_mangle]
 pub extern "C" fn kernelstill_frame_bits(head: u64, value: u64) -> u64
-    ensures { λ r. ⌜ r ≡ frameBitsOf (kindOf head) value ⌝ }
+    ensures { λ r. ⌜ r ≡ cond (isFrameHead head) (frameBitsOf (kindOf head) value) 0 ⌝ }
 {
-    controller::frame_bits(head, value) as u64
+    if controller::is_frame_head(head) {
+        return controller::frame_bits(head, value) as u64;
+    }
+    0
 }
 
 // How many bytes of the tray a frame of so many bits fills.
@@ -207,7 +214,7 @@ pub extern "C" fn kernelstill_frame_part(tray: &[u8], bits: usize) -> usize
 pub extern "C" fn kernelstill_hex_line(line: &[u8], bytes: &mut [u8]) -> u64
     ensures { λ r. ⌜ (record { number = r; bytes = now (bytes .exit) }) ≡ hexLeftOf (now (line .entry)) (now (bytes .entry)) ⌝ }
 {
-    if bytes.len() < 32 {
+    if bytes.len() < LINE_BYTES {
         return WRONG_BUFFERS;
     }
     let answer = listing::read_line(line, bytes);

@@ -1,5 +1,5 @@
 // The text that programs read and print: the hexadecimal line and the input's lines, and the lines of the listing and of the model's state.
-// No public call asks anything of its caller.
+// No public call asks anything of its caller, but `read_line` asks for room.
 ghost use mathlib.Core.Path.{_≡_};
 ghost use mathlib.Core.Bool.{true, cond};
 ghost use mathlib.Core.List.{[], _∷_, _++_};

@@ -1,32 +1,49 @@
 -- The library for hosts: a call on an image is the call on its state, and the image carries the state whole.
 -- Assumes nothing.
 use mathlib.Core.Path.{_≡_}
-use mathlib.Core.Bool.{true}
+use mathlib.Core.Bool.{true, false}
 use mathlib.Core.List.{List}
 use Prim.Native.Nat.{ℕ}
 use lib.ListN.{length}
+use Rattle.controller.specs.Plan.{planFits}
 use Rattle.decoder.specs.declared.Decoder.{Decoder}
+use Rattle.decoder.specs.Opening.{openOf, openingNumber}
 use Rattle.decoder.specs.Take.{Call, takeOf}
-use Rattle.image.specs.Image.{imageOf, stateOf, imageFits, Widths}
-use Rattle.kernelstill.specs.Take.{toldLength, turnedAway, handedOn, takeLeftOf}
+use Rattle.image.specs.Image.{imageLength, imageOf, stateOf, imageFits, Widths, Formed}
+use Rattle.kernelstill.specs.Open.{emptyPlan, planOf, openLeftOf}
+use Rattle.kernelstill.specs.Take.{resultLength, refusedCall, answered, takeLeftOf}
 
 -- The image of a state is well-formed, and read back it is that state.
-pub record Carries (d : Decoder) : Type 0 where
+pub record RoundTrip (d : Decoder) : Type 0 where
   pub fits : imageFits (imageOf d) ≡ true
   pub back : stateOf (imageOf d) ≡ d
 
--- A call on the image of a state, whatever the state and the call, hands on what the call on that state leaves.
-abbrev pub Wraps : Decoder → Type 0
-Wraps d =
-    (told : List ℕ) → length told ≡ toldLength → (c : Call) → takeLeftOf (imageOf d) told c ≡ handedOn (imageOf d) told (takeOf d c)
+-- An opening writes the image of what the opening of its plan gives, refused or not, and answers its number. The empty plan, to which numbers too wide
+-- for a plan come, does not open.
+pub record SameOpening (mask csr feen cnt cycle : ℕ) (image : List ℕ) : Type 0 where
+  pub number : openLeftOf mask csr feen cnt cycle image .number ≡ openingNumber (openOf (planOf mask csr feen cnt) cycle .opening)
+  pub written : openLeftOf mask csr feen cnt cycle image .image ≡ imageOf (openOf (planOf mask csr feen cnt) cycle .decoder)
 
--- A call that answers a number but 0 leaves image, told, store, tray and list as they were, whatever words the image has.
-abbrev pub Untouched : List ℕ → List ℕ → Call → Type 0
-Untouched image told c =
-    let left = takeLeftOf image told c in
-    (left .number ≡ 0 → ⊥) → left ≡ turnedAway (left .number) image told c
+-- A call on the image of a state, whatever the state and the call, answers what the call on that state leaves.
+abbrev pub SameCall : Decoder → Type 0
+SameCall d =
+    (result : List ℕ) → length result ≡ resultLength → (c : Call) → takeLeftOf (imageOf d) result c ≡ answered (imageOf d) result (takeOf d c)
+
+-- A call that answers a number but 0 leaves image, result, store, tray and list as they were, whatever words the image has.
+abbrev pub Unchanged : List ℕ → List ℕ → Call → Type 0
+Unchanged image result c =
+    let left = takeLeftOf image result c in
+    (left .number ≡ 0 → ⊥) → left ≡ refusedCall (left .number) image result c
+
+-- What is well-formed by the round trip is well-formed by widths, and the other way round.
+pub record ByWidths (image : List ℕ) : Type 0 where
+  pub only : imageFits image ≡ true → Formed image
+  pub all : Formed image → imageFits image ≡ true
 
 pub record HostPromise : Type 0 where
-  pub carries : (d : Decoder) → Widths d → Carries d
-  pub wraps : (d : Decoder) → Widths d → Wraps d
-  pub untouched : (image told : List ℕ) (c : Call) → Untouched image told c
+  pub round-trip : (d : Decoder) → Widths d → RoundTrip d
+  pub by-widths : (image : List ℕ) → ByWidths image
+  pub same-opening : (mask csr feen cnt cycle : ℕ) (image : List ℕ) → length image ≡ imageLength → SameOpening mask csr feen cnt cycle image
+  pub empty-refused : planFits emptyPlan ≡ false
+  pub same-call : (d : Decoder) → Widths d → SameCall d
+  pub unchanged : (image result : List ℕ) (c : Call) → Unchanged image result c

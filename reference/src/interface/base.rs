@@ -3,7 +3,7 @@
 use super::call::Take;
 use super::dirty;
 use super::image::{image, Image};
-use super::layout::TOLD_WORDS;
+use super::layout::RESULT_WORDS;
 use super::states::WITH_FIELD5;
 use crate::group::Group;
 use crate::plan::Plan;
@@ -89,6 +89,6 @@ pub fn call(image: &[u64], random: &mut Random) -> Take {
         tray: dirty::tray(random),
         list: dirty::words(random, 10),
         free: 3,
-        told: dirty::words(random, TOLD_WORDS),
+        result: dirty::words(random, RESULT_WORDS),
     }
 }

@@ -1,5 +1,15 @@
 //! A call of the interface, and its request to the driver.
 
+/// The functions' numbers, as the driver has them.
+mod function {
+    pub const OPEN: u64 = 1;
+    pub const TAKE: u64 = 2;
+    pub const FRAME_BITS: u64 = 3;
+    pub const FRAME_PART: u64 = 4;
+    pub const HEX_LINE: u64 = 5;
+    pub const RECORD_LINE: u64 = 6;
+}
+
 /// A call with all that it lends.
 #[derive(Clone, Debug)]
 pub enum Call {
@@ -44,7 +54,7 @@ pub struct Take {
     pub tray: Vec<u8>,
     pub list: Vec<u64>,
     pub free: u64,
-    pub told: Vec<u64>,
+    pub result: Vec<u64>,
 }
 
 /// The pointer that a slice of length 0 goes with.
@@ -61,7 +71,7 @@ impl Call {
         match self {
             Call::Open(open) => open.image.is_empty(),
             Call::Take(take) => {
-                [&take.image, &take.list, &take.told]
+                [&take.image, &take.list, &take.result]
                     .iter()
                     .any(|words| words.is_empty())
                     || take.input.is_empty()
@@ -91,23 +101,25 @@ impl Call {
                     cycle,
                     image,
                 } = open;
-                request.words(&[1, *mask, *csr, *feen, *cnt, *cycle]);
+                request.words(&[function::OPEN, *mask, *csr, *feen, *cnt, *cycle]);
                 request.words_slice(image);
             }
             Call::Take(take) => request.take(take),
-            Call::FrameBits { head, value } => request.words(&[3, *head, *value]),
+            Call::FrameBits { head, value } => {
+                request.words(&[function::FRAME_BITS, *head, *value])
+            }
             Call::FramePart { tray, bits } => {
-                request.words(&[4]);
+                request.words(&[function::FRAME_PART]);
                 request.bytes_slice(tray);
                 request.words(&[*bits]);
             }
             Call::HexLine { line, bytes } => {
-                request.words(&[5]);
+                request.words(&[function::HEX_LINE]);
                 request.bytes_slice(line);
                 request.bytes_slice(bytes);
             }
             Call::RecordLine { line, head, value } => {
-                request.words(&[6]);
+                request.words(&[function::RECORD_LINE]);
                 request.bytes_slice(line);
                 request.words(&[*head, *value]);
             }
@@ -144,7 +156,7 @@ impl Request {
     }
 
     fn take(&mut self, take: &Take) {
-        self.words(&[2]);
+        self.words(&[function::TAKE]);
         self.words_slice(&take.image);
         self.bytes_slice(&take.input);
         self.words(&[take.first, take.count]);
@@ -154,6 +166,6 @@ impl Request {
         self.bytes_slice(&take.tray);
         self.words_slice(&take.list);
         self.words(&[take.free]);
-        self.words_slice(&take.told);
+        self.words_slice(&take.result);
     }
 }

@@ -3,14 +3,13 @@
 use super::call::{Call, Take};
 use super::checker::Checker;
 use super::dirty;
-use super::image::{first_is_free, state};
-use super::layout::{at, CLOCK_OVER, DONE, FIT, LIST_FULL, RECORD_LINE_BYTES, TOLD_WORDS};
+use super::image::{first_is_free, image, state, Image};
+use super::layout::{at, CLOCK_OVER, DONE, LIST_FULL, OK, RECORD_LINE_BYTES, RESULT_WORDS};
 use crate::compose::Stream;
 use crate::generate::bits;
 use crate::limits::{CLOCK_LIMIT, RECORD_WORDS};
 use crate::random::Random;
 use crate::record::Record;
-use crate::state::State;
 use std::io;
 
 /// What goes from each call to the next.
@@ -25,7 +24,8 @@ pub struct Session {
 #[derive(Debug, PartialEq, Eq)]
 pub struct Ran {
     records: Vec<[u64; 2]>,
-    state: Option<State>,
+    /// With 0 for the words that mean nothing.
+    image: Option<Image>,
     store: Vec<u32>,
     tray: Vec<u8>,
 }
@@ -54,7 +54,7 @@ pub fn run(
     }
     Ok(Ran {
         records: runner.records,
-        state: state(&runner.session.image),
+        image: state(&runner.session.image).map(|state| image(&state)),
         store: runner.session.store,
         tray: runner.session.tray,
     })
@@ -133,7 +133,7 @@ impl Runner<'_> {
         loop {
             let (answer, after) = self.take(&piece, &list, random)?;
             match answer {
-                FIT => {}
+                OK => {}
                 CLOCK_OVER => {
                     // The rest has no cycles; go on with what has.
                     piece.left = CLOCK_LIMIT - self.session.image[at::NEXT];
@@ -144,8 +144,8 @@ impl Runner<'_> {
                     return self.checker.claim(self.call_name(), Some(fault));
                 }
             }
-            let [taken, written, ending] = after.told[..] else {
-                unreachable!("three words are told");
+            let [taken, written, ending] = after.result[..] else {
+                unreachable!("a result has three words");
             };
             piece.first += taken;
             piece.left -= taken;
@@ -180,10 +180,10 @@ impl Runner<'_> {
             tray: self.session.tray.clone(),
             list: list.words.clone(),
             free: list.free as u64,
-            told: dirty::words(random, TOLD_WORDS),
+            result: dirty::words(random, RESULT_WORDS),
         };
         let (answer, after) = self.checker.take(self.call_name(), take)?;
-        if answer == FIT {
+        if answer == OK {
             self.session.image.clone_from(&after.image);
             self.session.store.clone_from(&after.store);
             self.session.tray.clone_from(&after.tray);

@@ -46,7 +46,7 @@ fn buffers(call: &Call) -> Vec<Buffer> {
             Buffer::store(&take.store),
             Buffer::bytes("tray", &take.tray),
             Buffer::words("list", &take.list),
-            Buffer::words("told", &take.told),
+            Buffer::words("result", &take.result),
         ],
         Call::FrameBits { .. } | Call::FramePart { .. } => Vec::new(),
         Call::HexLine { bytes, .. } => vec![Buffer::bytes("bytes", bytes)],

@@ -5,7 +5,7 @@ use super::call::{Call, Take};
 use super::checker::Checker;
 use super::dirty;
 use super::image::image;
-use super::layout::{at, CLOCK_OVER, FIT, INPUT_BYTES, WRONG_BUFFERS, WRONG_RANGE};
+use super::layout::{at, CLOCK_OVER, INPUT_BYTES, OK, RESULT_WORDS, WRONG_BUFFERS, WRONG_RANGE};
 use crate::limits::{CLOCK_LIMIT, STORE_WORDS, TRAY_BYTES};
 use crate::random::Random;
 use std::io;
@@ -39,7 +39,7 @@ fn changed(fit: &Take, change: impl FnOnce(&mut Take)) -> Take {
 /// Accepted exactly at one length.
 fn number_at(length: usize, right: usize) -> u64 {
     if length == right {
-        FIT
+        OK
     } else {
         WRONG_BUFFERS
     }
@@ -58,9 +58,9 @@ fn buffers(fit: &Take) -> Vec<Edge> {
         edges.push((format!("a tray of {length} bytes"), number, take));
     }
     for length in 0..=5 {
-        let take = changed(fit, |take| take.told.resize(length, 77));
-        let number = number_at(length, 3);
-        edges.push((format!("{length} told words"), number, take));
+        let take = changed(fit, |take| take.result.resize(length, 77));
+        let number = number_at(length, RESULT_WORDS);
+        edges.push((format!("a result of {length} words"), number, take));
     }
     edges
 }
@@ -74,7 +74,7 @@ fn lists(fit: &Take, random: &mut Random) -> Vec<Edge> {
         for free in (0..=end).chain(past) {
             let words = dirty::words(random, length);
             let take = changed(fit, |take| (take.list, take.free) = (words, free));
-            let number = if free <= end { FIT } else { WRONG_BUFFERS };
+            let number = if free <= end { OK } else { WRONG_BUFFERS };
             let name = format!("free word {free} of a list of {length}");
             edges.push((name, number, take));
         }
@@ -89,7 +89,7 @@ fn inputs(fit: &Take, random: &mut Random) -> Vec<Edge> {
     for length in INPUT_BYTES - 1..=INPUT_BYTES + 2 {
         let bits = length as u64 * 8;
         let number = if length <= INPUT_BYTES {
-            FIT
+            OK
         } else {
             WRONG_RANGE
         };
@@ -129,7 +129,7 @@ fn ranges(fit: &Take) -> Vec<Edge> {
                 });
                 let end = u128::from(first) + u128::from(count);
                 let number = if end <= u128::from(bits) {
-                    FIT
+                    OK
                 } else {
                     WRONG_RANGE
                 };
@@ -153,7 +153,7 @@ fn clocks(fit: &Take) -> Vec<Edge> {
                     take.count = count;
                     (take.image[at::NEXT], take.image[at::BASE]) = (next, base);
                 });
-                let number = if count <= left { FIT } else { CLOCK_OVER };
+                let number = if count <= left { OK } else { CLOCK_OVER };
                 let name = format!("{count} bits with {left} cycles left, base {base}");
                 edges.push((name, number, take));
             }

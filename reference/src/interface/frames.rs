@@ -8,9 +8,13 @@ use crate::random::Random;
 use crate::slow;
 use std::io;
 
+/// WrFrontEnd, RdFrontEnd and WrReceiver.
+const FRAME_KINDS: [u64; 3] = [0x24, 0x25, 0x26];
+
 pub fn check(checker: &mut Checker) -> io::Result<()> {
     let mut random = Random::new(0xF8A3);
     counts(checker, &mut random)?;
+    other_kinds(checker, &mut random)?;
     parts(checker, &mut random)
 }
 
@@ -22,7 +26,7 @@ fn counts(checker: &mut Checker, random: &mut Random) -> io::Result<()> {
             1 => 0xFFFF,
             _ => random.word() as u16,
         };
-        for kind in [0x24, 0x25, 0x26] {
+        for kind in FRAME_KINDS {
             let by_cnt = match kind {
                 0x26 => slow::receiver_bits(cnt),
                 _ => slow::control_bits(cnt) << 16 | slow::data_bits(cnt),
@@ -32,6 +36,19 @@ fn counts(checker: &mut Checker, random: &mut Random) -> io::Result<()> {
                 let name = format!("bits of frame {head:#X} {value:#X}");
                 checker.check(name, &Call::FrameBits { head, value })?;
             }
+        }
+    }
+    Ok(())
+}
+
+/// Records of every other kind, which end no frame.
+fn other_kinds(checker: &mut Checker, random: &mut Random) -> io::Result<()> {
+    for kind in (0..=0xFF).filter(|kind| !FRAME_KINDS.contains(kind)) {
+        let any = random.word();
+        for value in [0, 1, 0x0008_0010, u64::from(any as u32), any, u64::MAX] {
+            let head = random.word() & !0xFF00 | kind << 8;
+            let name = format!("bits of no frame {head:#X} {value:#X}");
+            checker.numbered(name, 0, &Call::FrameBits { head, value })?;
         }
     }
     Ok(())

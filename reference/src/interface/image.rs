@@ -75,14 +75,19 @@ fn write_recogniser(recogniser: &Recogniser, words: &mut Image) {
             words[at::COMMAND] = u64::from(field3);
             words[at::ADDRESS] = u64::from(field4);
             words[at::COUNT] = u64::from(received);
-            if slow::keeps_field5(field3) {
-                words[at::HELD] = u64::from(held);
-            }
-            if is_front_end(u64::from(field3)) {
-                words[at::FIRST] = u64::from(group.first);
-                words[at::UNSTEADY] = u64::from(group.unsteady);
-            }
+            write_field5(field3, held, group, words);
         }
+    }
+}
+
+/// The words of Field 5 that only some commands use.
+fn write_field5(field3: u8, held: u32, group: Group, words: &mut Image) {
+    if slow::keeps_field5(field3) {
+        words[at::HELD] = u64::from(held);
+    }
+    if is_front_end(u64::from(field3)) {
+        words[at::FIRST] = u64::from(group.first);
+        words[at::UNSTEADY] = u64::from(group.unsteady);
     }
 }
 

@@ -3,7 +3,7 @@
 use crate::limits::{FIFOS, STORE_WORDS, TRAY_BYTES};
 
 pub const IMAGE_WORDS: usize = 68;
-pub const TOLD_WORDS: usize = 3;
+pub const RESULT_WORDS: usize = 3;
 pub const RECORD_LINE_BYTES: usize = 28;
 pub const LINE_BYTES: usize = 32;
 pub const INPUT_BYTES: usize = 65_536;
@@ -13,7 +13,7 @@ pub const LAYOUT: u64 = 1;
 const _: () = assert!(STORE_WORDS == 2048 && TRAY_BYTES == 8192);
 
 /// The refusal numbers that the cases name; 0 is none.
-pub const FIT: u64 = 0;
+pub const OK: u64 = 0;
 pub const WRONG_PLAN: u64 = 1;
 pub const WRONG_CYCLE: u64 = 2;
 pub const UNSOUND: u64 = 3;
@@ -23,7 +23,7 @@ pub const CLOCK_OVER: u64 = 6;
 pub const WRONG_CHARACTER: u64 = 7;
 pub const WRONG_LENGTH: u64 = 8;
 
-/// How a taking call ended, as it is told.
+/// How a taking call ended, by its result.
 pub const DONE: u64 = 0;
 pub const FRAME: u64 = 1;
 pub const LIST_FULL: u64 = 2;
@@ -64,7 +64,8 @@ pub mod phase {
     pub const FIELD5: u64 = 4;
 }
 
-/// The recogniser's words; one that the phase does not use is 0.
+/// The recogniser's words. From an opening on, one that the phase does not
+/// use is 0, but for `at::FIRST` inside a WrReceiver.
 pub const RECOGNISER: std::ops::RangeInclusive<usize> = at::SHIFT..=at::UNSTEADY;
 
 /// The largest value of the word at a place that is not beyond its width.

@@ -4,7 +4,7 @@ use super::call::Call;
 use super::checker::Checker;
 use super::dirty;
 use super::layout::{
-    FIT, LINE_BYTES, RECORD_LINE_BYTES, WRONG_BUFFERS, WRONG_CHARACTER, WRONG_LENGTH,
+    LINE_BYTES, OK, RECORD_LINE_BYTES, WRONG_BUFFERS, WRONG_CHARACTER, WRONG_LENGTH,
 };
 use crate::random::Random;
 use std::io;
@@ -42,7 +42,7 @@ fn buffers(checker: &mut Checker, what: &str, line: &[u8], random: &mut Random) 
         } else if line.len() % 2 == 1 || line.len() > MOST {
             WRONG_LENGTH
         } else {
-            FIT
+            OK
         };
         let name = format!("line of {} {what} into {length} bytes", line.len());
         let bytes = dirty::bytes(random, length);
@@ -96,16 +96,19 @@ fn records(checker: &mut Checker, random: &mut Random) -> io::Result<()> {
     let edges = [0, u64::MAX, 0x0123_4567_89AB_CDEF, 0xFEDC_BA98_7654_3210];
     let random_heads: Vec<_> = dirty::words(random, 500);
     for head in edges.into_iter().chain(random_heads) {
-        let value = u64::from(head.rotate_left(21) as u32);
-        for length in lengths {
-            let number = if length < RECORD_LINE_BYTES {
-                WRONG_BUFFERS
-            } else {
-                FIT
-            };
-            let line = dirty::bytes(random, length);
-            let name = format!("record {head:#X} {value:#X} into {length} bytes");
-            checker.numbered(name, number, &Call::RecordLine { line, head, value })?;
+        // A value as records have it, and one of more than 32 bits.
+        let value = head.rotate_left(21);
+        for value in [u64::from(value as u32), value | 1 << 32] {
+            for length in lengths {
+                let number = if length < RECORD_LINE_BYTES {
+                    WRONG_BUFFERS
+                } else {
+                    OK
+                };
+                let line = dirty::bytes(random, length);
+                let name = format!("record {head:#X} {value:#X} into {length} bytes");
+                checker.numbered(name, number, &Call::RecordLine { line, head, value })?;
+            }
         }
     }
     Ok(())

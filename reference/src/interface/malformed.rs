@@ -4,7 +4,7 @@ use super::base;
 use super::call::Call;
 use super::checker::Checker;
 use super::image::{image, uses, Image};
-use super::layout::{at, largest, name, FIT, IMAGE_WORDS, LAYOUT, RECOGNISER, UNSOUND};
+use super::layout::{at, largest, name, IMAGE_WORDS, LAYOUT, OK, RECOGNISER, UNSOUND};
 use crate::random::Random;
 use std::io;
 
@@ -29,7 +29,7 @@ fn lengths(
     for length in [0, 1, IMAGE_WORDS - 1, IMAGE_WORDS, IMAGE_WORDS + 1] {
         let mut take = base::call(image, random);
         take.image.resize(length, 0);
-        let number = if length == IMAGE_WORDS { FIT } else { UNSOUND };
+        let number = if length == IMAGE_WORDS { OK } else { UNSOUND };
         let name = format!("malformed, {phase}, an image of {length} words");
         checker.numbered(name, number, &Call::Take(take))?;
     }
@@ -75,7 +75,7 @@ fn unused(
             take.image[place] = word;
             take.count = count;
             let name = format!("unused word, {phase}, {} {word:#X}", name(place));
-            checker.numbered(name, FIT, &Call::Take(take))?;
+            checker.numbered(name, OK, &Call::Take(take))?;
         }
     }
     Ok(())

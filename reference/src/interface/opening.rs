@@ -3,7 +3,7 @@
 use super::call::{Call, Open};
 use super::checker::Checker;
 use super::dirty;
-use super::layout::{FIT, IMAGE_WORDS, UNSOUND, WRONG_CYCLE, WRONG_PLAN};
+use super::layout::{IMAGE_WORDS, OK, UNSOUND, WRONG_CYCLE, WRONG_PLAN};
 use crate::limits::CLOCK_LIMIT;
 use crate::random::Random;
 use std::io;
@@ -80,7 +80,7 @@ pub fn check(checker: &mut Checker) -> io::Result<()> {
                 } else if length != IMAGE_WORDS {
                     UNSOUND
                 } else {
-                    FIT
+                    OK
                 };
                 let (name, call) = opening(plan, cycle, length, &mut random);
                 checker.numbered(name, number, &call)?;

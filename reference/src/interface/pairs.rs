@@ -54,9 +54,9 @@ const FAULTS: [Fault; 29] = [
     }),
     fault(WRONG_BUFFERS, "tray one long", |t| t.tray.push(9)),
     fault(WRONG_BUFFERS, "no tray", |t| t.tray.clear()),
-    fault(WRONG_BUFFERS, "told one short", |t| t.told.truncate(2)),
-    fault(WRONG_BUFFERS, "told one long", |t| t.told.push(9)),
-    fault(WRONG_BUFFERS, "nothing told", |t| t.told.clear()),
+    fault(WRONG_BUFFERS, "result one short", |t| t.result.truncate(2)),
+    fault(WRONG_BUFFERS, "result one long", |t| t.result.push(9)),
+    fault(WRONG_BUFFERS, "no result", |t| t.result.clear()),
     fault(WRONG_BUFFERS, "free word one past the end", |t| {
         t.free = t.list.len() as u64 + 1;
     }),

@@ -4,7 +4,7 @@ use super::base;
 use super::call::Call;
 use super::checker::Checker;
 use super::image::{image, Image};
-use super::layout::{at, phase, FIT, UNSOUND};
+use super::layout::{at, phase, OK, UNSOUND};
 use crate::limits::{CLOCK_LIMIT, FIFOS};
 use crate::plan::Plan;
 use crate::random::Random;
@@ -25,7 +25,7 @@ pub fn check(checker: &mut Checker) -> io::Result<()> {
         clauses.extend(run_modes(&image));
         clauses.extend(recognisers(&image));
         for (name, sound, image) in clauses {
-            let number = if sound { FIT } else { UNSOUND };
+            let number = if sound { OK } else { UNSOUND };
             let name = format!("soundness, {phase}, {name}");
             let take = base::call(&image, &mut random);
             checker.numbered(name, number, &Call::Take(take))?;

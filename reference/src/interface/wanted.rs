@@ -3,7 +3,7 @@
 use super::call::{Call, Open, Take};
 use super::image::{free_places, image, state};
 use super::layout::{
-    DONE, FIT, FRAME, IMAGE_WORDS, LINE_BYTES, LIST_FULL, RECORD_LINE_BYTES, TOLD_WORDS, UNSOUND,
+    DONE, FRAME, IMAGE_WORDS, LINE_BYTES, LIST_FULL, OK, RECORD_LINE_BYTES, RESULT_WORDS, UNSOUND,
     WRONG_BUFFERS, WRONG_PLAN,
 };
 use crate::hex::hex_line;
@@ -32,7 +32,7 @@ pub fn wanted(call: &Call) -> Wanted {
         Call::Take(after) => return taking(after),
         Call::FrameBits { head, value } => {
             let record = Record::from_words([*head, *value]);
-            record.frame_bits().expect("a frame's record")
+            record.frame_bits().unwrap_or(0)
         }
         Call::FramePart { tray, bits } => frame_part(tray, *bits).len() as u64,
         Call::HexLine { line, bytes } => reading(line, bytes),
@@ -56,7 +56,7 @@ fn opening(call: &mut Open) -> u64 {
         return number.unwrap_or(UNSOUND);
     }
     call.image.copy_from_slice(&image(&state));
-    number.unwrap_or(FIT)
+    number.unwrap_or(OK)
 }
 
 /// `None` where a number is beyond its width: no such address or mask exists.
@@ -71,24 +71,29 @@ fn plan(call: &Open) -> Option<Plan> {
 
 fn taking(call: &Take) -> Wanted {
     let mut after = call.clone();
-    let answer = take_into(&mut after);
-    Wanted {
-        answer,
-        free: match answer {
-            FIT => free_places(&call.image, &after.image),
-            _ => Vec::new(),
+    match take_into(&mut after) {
+        Ok(taken) => Wanted {
+            answer: OK,
+            free: match taken {
+                0 => Vec::new(),
+                _ => free_places(&call.image, &after.image),
+            },
+            after: Call::Take(after),
         },
         // What was lent, not what the reader left: nothing changes.
-        after: Call::Take(if answer == FIT { after } else { call.clone() }),
+        Err(number) => Wanted {
+            answer: number,
+            free: Vec::new(),
+            after: Call::Take(call.clone()),
+        },
     }
 }
 
-fn take_into(call: &mut Take) -> u64 {
-    let Some(state) = state(&call.image).filter(sound) else {
-        return UNSOUND;
-    };
-    if call.told.len() != TOLD_WORDS {
-        return WRONG_BUFFERS;
+/// The bits taken. With none the image stays, word for word.
+fn take_into(call: &mut Take) -> Result<u64, u64> {
+    let state = state(&call.image).filter(sound).ok_or(UNSOUND)?;
+    if call.result.len() != RESULT_WORDS {
+        return Err(WRONG_BUFFERS);
     }
     let answer = take(
         state,
@@ -104,11 +109,13 @@ fn take_into(call: &mut Take) -> u64 {
         Ending::Done => DONE,
         Ending::Frame => FRAME,
         Ending::ListFull => LIST_FULL,
-        Ending::Refused(number) => return u64::from(number),
+        Ending::Refused(number) => return Err(number.into()),
     };
-    call.image.copy_from_slice(&image(&answer.state));
-    call.told = vec![answer.bits_taken, answer.records_written, ending];
-    FIT
+    if answer.bits_taken != 0 {
+        call.image.copy_from_slice(&image(&answer.state));
+    }
+    call.result = vec![answer.bits_taken, answer.records_written, ending];
+    Ok(answer.bits_taken)
 }
 
 fn reading(line: &[u8], bytes: &mut [u8]) -> u64 {
@@ -118,7 +125,7 @@ fn reading(line: &[u8], bytes: &mut [u8]) -> u64 {
     match hex_line(line) {
         Ok(read) => {
             bytes[..read.len()].copy_from_slice(&read);
-            FIT
+            OK
         }
         Err(number) => u64::from(number),
     }
@@ -131,5 +138,5 @@ fn writing(line: &mut [u8], record: [u64; 2]) -> u64 {
     let mut written = Vec::new();
     push_record(&mut written, &Record::from_words(record));
     line[..RECORD_LINE_BYTES].copy_from_slice(&written);
-    FIT
+    OK
 }

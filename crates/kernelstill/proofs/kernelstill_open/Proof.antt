@@ -1,12 +1,18 @@
 -- `kernelstill_open` is the opening of the plan of four numbers, with its state as an image.
 -- Assumes nothing.
+use mathlib.Core.List.{List}
 use mathlib.Core.Path.{_≡_, ap, _∙_}
+use Prim.Native.Nat.{ℕ}
+use lib.ListN.{length}
 use borrow.Author.Needs.{needs}
 use Rattle.controller.specs.declared.Plan.{Plan}
 use Rattle.decoder.specs.declared.Opened.{Opened}
 use Rattle.decoder.specs.Opening.{openOf}
+use Rattle.decoder.proofs.Stays.{start-sound}
+use Rattle.image.specs.Image.{imageLength, imageOf, stateOf}
 use Rattle.kernelstill.specs.Open.{OpenLeft, planOf, openedInto, openLeftOf}
-use Rattle.kernelstill.proofs.Laws.{filled, no-room, no-room-refused}
+use Rattle.kernelstill.specs.Take.{Holds}
+use Rattle.kernelstill.proofs.Laws.{filled, no-room, no-room-refused, holds}
 use Rattle.kernelstill.proofs.kernelstill_open.Statement.{statement}
 use Rattle.kernelstill.proofs.kernelstill_open.Tie as tie
 
@@ -21,6 +27,15 @@ asked : (n : tie.After-opening-number)
     ≡ openLeftOf (n .before .before .before .before .args .mask) (n .before .before .before .before .args .csr) (n .before .before .before .before .args .feen) (n .before .before .before .before .args .cnt) (n .before .before .before .before .args .cycle) (n .before .before .before .before .args .image .now)
 unfolding openLeftOf
 asked n = ap (λ (o : Opened). openedInto o (n .before .before .before .before .args .image .now)) (state n)
+
+-- what was written holds the start state
+carried : (n : tie.After-opening-number) (image : List ℕ) → length image ≡ imageLength
+    → image ≡ imageOf (n .before .start .result .decoder) → stateOf image ≡ n .before .start .result .decoder
+    → Holds image (openOf (planOf (n .before .before .before .before .args .mask) (n .before .before .before .before .args .csr) (n .before .before .before .before .args .feen) (n .before .before .before .before .args .cnt)) (n .before .before .before .before .args .cycle) .decoder)
+carried n image long is back =
+    let a = n .before .before .before .before .args in
+    let e = ap (λ (o : Opened). o .decoder) (state n) in
+    holds _ image (start-sound (planOf (a .mask) (a .csr) (a .feen) (a .cnt)) (a .cycle)) long (is ∙ ap imageOf e) (back ∙ e)
 
 plan-of-requires : tie.Need-plan-of-requires
 plan-of-requires c κs = search needs
@@ -54,7 +69,7 @@ unfolding openLeftOf
 returns-3 c =
     let i = c .before .before .before .before .before in
     let n = i .before in
-    (filled (n .before .start .result) (n .before .before .before .before .args .image .now) _ (n .opening-number .ensures) (i .if1 .left) _ (c .before .before .write .ensures .0) ∙ asked n, λ long. c .before .before .write .ensures .1 ∙ ap (λ (o : Opened). o .decoder) (state n))
+    (filled (n .before .start .result) (n .before .before .before .before .args .image .now) _ (n .opening-number .ensures) (i .if1 .left) _ (c .before .before .write .ensures .0) ∙ asked n, λ long. carried n (c .before .before .write .last .1 .0) (c .before .before .write .kept .1 .0 ∙ long) (c .before .before .write .ensures .0) (c .before .before .write .ensures .1))
 
 pub kernelstill-open-spec : {M : Type 1} → statement M
 kernelstill-open-spec =

@@ -8,7 +8,7 @@ use borrow.Author.Tests.{not-true, not-false}
 use Rattle.decoder.specs.declared.Decoder.{Decoder}
 use Rattle.decoder.specs.Take.{Call, Left, takeOf}
 use Rattle.kernelstill.specs.Take.{soundImage}
-use Rattle.kernelstill.proofs.Laws.{sound-length, unsound, untold, refused, accepted}
+use Rattle.kernelstill.proofs.Laws.{sound-length, unsound, no-result, refused, accepted, moved-on}
 use Rattle.kernelstill.proofs.kernelstill_take.Statement.{statement}
 use Rattle.kernelstill.proofs.kernelstill_take.Tie as tie
 
@@ -26,7 +26,7 @@ returns : tie.Need-returns
 returns c =
     let a = c .before .before .before .before .before .before .before .before .before .args in
     let call : Call = record { input = a .input .now; first = a .first; count = a .count; store = a .store .now; tray = a .tray .now; list = a .list .now; free = a .free } in
-    (unsound (a .image .now) (a .told .now) call (sym (c .before .sound-image .ensures) ∙ not-true (c .before .sound-image .result) (c .if1 .taken)), λ z. absurd (omega (arith, z)))
+    (unsound (a .image .now) (a .result .now) call (sym (c .before .sound-image .ensures) ∙ not-true (c .before .sound-image .result) (c .if1 .taken)), λ z. absurd (omega (arith, z)))
 
 same-length-2 : tie.Need-same-length-2
 same-length-2 c = search needs
@@ -35,7 +35,7 @@ returns-2 : tie.Need-returns-2
 returns-2 c =
     let a = c .before .before .before .before .before .before .before .before .before .before .args in
     let call : Call = record { input = a .input .now; first = a .first; count = a .count; store = a .store .now; tray = a .tray .now; list = a .list .now; free = a .free } in
-    (untold (a .image .now) (a .told .now) call (sound (c .before)) (c .if2 .taken), λ z. absurd (omega (arith, z)))
+    (no-result (a .image .now) (a .result .now) call (sound (c .before)) (c .if2 .taken), λ z. absurd (omega (arith, z)))
 
 read-requires : tie.Need-read-requires
 read-requires c κs = sound-length _ (sound (c .before .before))
@@ -64,10 +64,10 @@ returns-3 c =
     let i = t .before .before .before .before .before .before in
     let a = i .before .before .before .before .before .before .before .before .before .before .args in
     let call : Call = record { input = a .input .now; first = a .first; count = a .count; store = a .store .now; tray = a .tray .now; list = a .list .now; free = a .free } in
-    (refused (a .image .now) (a .told .now) call (sound (i .before)) (i .if2 .left) (t .before .before .before .before .read .result) (t .before .before .before .before .read .ensures) _ (t .take .ensures) _ (c .before .ending-number .ensures) (c .if3 .taken), λ z. absurd (c .if3 .taken z))
+    (refused (a .image .now) (a .result .now) call (sound (i .before)) (i .if2 .left) (t .before .before .before .before .read .result) (t .before .before .before .before .read .ensures) _ (t .take .ensures) _ (c .before .ending-number .ensures) (c .if3 .taken), λ z. absurd (c .if3 .taken z))
 
-tell-requires : tie.Need-tell-requires
-tell-requires c κs = search needs
+write-result-requires : tie.Need-write-result-requires
+write-result-requires c κs = search needs
 
 write-requires : tie.Need-write-requires
 write-requires c κs = sound-length _ (sound (c .before .before .before .before .before .before .before .before .before .before .before .before .before .before .before .before .before .before .before .before .before .before))
@@ -93,9 +93,11 @@ returns-4 c =
     let t = n .before .before .before .before .before .before .before .before in
     let i = t .before .before .before .before .before .before in
     let a = i .before .before .before .before .before .before .before .before .before .before .args in
-    let call : Call = record { input = a .input .now; first = a .first; count = a .count; store = a .store .now; tray = a .tray .now; list = a .list .now; free = a .free } in (
-      accepted (a .image .now) (a .told .now) call (sound (i .before)) (i .if2 .left) (t .before .before .before .before .read .result) (t .before .before .before .before .read .ensures) _ (t .take .ensures) _ (n .ending-number .ensures) (c .before .before .before .before .before .before .before .before .before .if3 .left) _ _ (c .before .before .write .ensures .0) (c .before .before .before .before .before .before .before .tell .ensures),
-      λ z. c .before .before .write .ensures .1 ∙ ap (λ (l : Left). l .taken .decoder) (t .take .ensures ∙ ap (λ (d : Decoder). takeOf d call) (t .before .before .before .before .read .ensures)),
+    let call : Call = record { input = a .input .now; first = a .first; count = a .count; store = a .store .now; tray = a .tray .now; list = a .list .now; free = a .free } in
+    let e = t .take .ensures ∙ ap (λ (d : Decoder). takeOf d call) (t .before .before .before .before .read .ensures) in
+    let w = c .before .before .write in (
+      accepted (a .image .now) (a .result .now) call (sound (i .before)) (i .if2 .left) (t .before .before .before .before .read .result) (t .before .before .before .before .read .ensures) _ (t .take .ensures) _ (n .ending-number .ensures) (c .before .before .before .before .before .before .before .before .before .if3 .left) _ _ (w .ensures .0) (c .before .before .before .before .before .before .before .write-result .ensures),
+      λ z. moved-on (a .image .now) call (sound (i .before)) _ (ap (λ (l : Left). l .taken .decoder) e) (w .last .1 .0) (w .kept .1 .0) (w .ensures .0) (w .ensures .1),
     )
 
 pub kernelstill-take-spec : {M : Type 1} → statement M
@@ -115,7 +117,7 @@ kernelstill-take-spec =
     same-length-5
     same-length-6
     returns-3
-    tell-requires
+    write-result-requires
     write-requires
     same-length-7
     same-length-8

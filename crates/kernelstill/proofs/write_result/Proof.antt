@@ -1,0 +1,36 @@
+-- `write-result` writes three words over three.
+-- Assumes nothing.
+use Rattle.image.proofs.Puts.{covered}
+use Rattle.kernelstill.specs.Take.{resultOf}
+use borrow.Author.Needs.{needs}
+use Rattle.kernelstill.proofs.write_result.Statement.{statement}
+use Rattle.kernelstill.proofs.write_result.Tie as tie
+
+slice-write-result : tie.Need-slice-write-result
+slice-write-result c = search needs
+
+slice-write-result-2 : tie.Need-slice-write-result-2
+slice-write-result-2 c = search needs
+
+ending-code-requires : tie.Need-ending-code-requires
+ending-code-requires c κs = search needs
+
+slice-write-result-3 : tie.Need-slice-write-result-3
+slice-write-result-3 c = search needs
+
+same-length : tie.Need-same-length
+same-length c = search needs
+
+returns : tie.Need-returns
+returns c = rw (c .ending-code .ensures) (covered (c .before .before .args .result .now) (resultOf (c .before .before .args .answer)) (c .before .before .pre))
+
+pub write-result-spec : {M : Type 1} → statement M
+write-result-spec =
+    tie.close
+    (tie.spec
+    slice-write-result
+    slice-write-result-2
+    ending-code-requires
+    slice-write-result-3
+    same-length
+    returns)
