@@ -12,7 +12,7 @@ use std::fs::{self, Permissions};
 use std::os::unix::fs::PermissionsExt;
 use std::path::{Path, PathBuf};
 use std::sync::OnceLock;
-use std::time::{Duration, Instant};
+use std::time::Duration;
 
 /// Scripts that stand in for all three programs; REAL is the program itself.
 const SCRIPTS: [(&str, &str); 9] = [
@@ -124,11 +124,10 @@ fn wrong_output_is_told_with_its_place() {
 
 #[test]
 fn output_without_end_is_cut_off() {
-    let begun = Instant::now();
+    // One that is not cut off would be given up as hanging.
     for fault in faults(&tested("prints-for-ever"), "paper/listing") {
         assert!(matches!(fault, Some(Fault::Differs(_))), "{fault:?}");
     }
-    assert!(begun.elapsed() < Duration::from_secs(8));
 }
 
 #[test]
