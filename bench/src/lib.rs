@@ -32,39 +32,39 @@ extern "C" {
 }
 
 /// What a call is lent beside its input.
+#[derive(Clone, PartialEq, Debug)]
 pub struct Buffers {
     pub store: Vec<u32>,
     pub tray: Vec<u8>,
     pub list: Vec<u64>,
 }
 
-/// Opens with the default plan at cycle 0 and takes all bits of the input;
-/// answers the records written.
-pub fn take_fresh(input: &[u8], b: &mut Buffers) -> usize {
+/// Opens with the default plan at cycle 0 and takes `count` bits from bit
+/// `first` on; answers the records written, 0 where the call is refused.
+pub fn take_fresh(input: &[u8], first: usize, count: usize, b: &mut Buffers, free: usize) -> usize {
     let mut image = [0; 68];
     let mut result = [0; 3];
     // Each slice is lent for its call only, and no two overlap.
-    let number = unsafe {
-        let number = kernelstill_open(0x007F, 0, 2, 5, 0, image.as_mut_ptr(), image.len());
-        assert_eq!(number, 0, "the opening is refused");
+    let opened = unsafe { kernelstill_open(0x007F, 0, 2, 5, 0, image.as_mut_ptr(), image.len()) };
+    assert_eq!(opened, 0, "the opening is refused");
+    unsafe {
         kernelstill_take(
             image.as_mut_ptr(),
             image.len(),
             input.as_ptr(),
             input.len(),
-            0,
-            8 * input.len(),
+            first,
+            count,
             b.store.as_mut_ptr(),
             b.store.len(),
             b.tray.as_mut_ptr(),
             b.tray.len(),
             b.list.as_mut_ptr(),
             b.list.len(),
-            0,
+            free,
             result.as_mut_ptr(),
             result.len(),
         )
     };
-    assert_eq!(number, 0, "the call is refused");
     result[1] as usize
 }

@@ -13,7 +13,7 @@ const CALL: usize = 65_536;
 const TURNS: usize = 40;
 
 fn proved(input: &[u8], b: &mut Buffers) -> usize {
-    take_fresh(input, b)
+    take_fresh(input, 0, 8 * input.len(), b, 0)
 }
 
 fn separate(input: &[u8], b: &mut Buffers) -> usize {
