@@ -15,6 +15,10 @@ pub cases : (b : Bool) → (b ≡ true) ⊎ (b ≡ false)
 cases true = inl refl
 cases false = inr refl
 
+pub holds-true : (b : Bool) → T b → b ≡ true
+holds-true true t = refl
+holds-true false t = absurd t
+
 -- What holds of both branches holds of the choice.
 pub choice : {A : Type 0} (P : A → Type 0) (b : Bool) {x y : A} → (b ≡ true → P x) → (b ≡ false → P y) → P (cond b x y)
 choice P true f g = f refl

@@ -23,7 +23,7 @@ use Rattle.controller.specs.Records.{wordsOf}
 use Rattle.controller.specs.Registers.{registerOf}
 use Rattle.controller.specs.Parts.{withBase, withL1id, withPointers}
 use Rattle.controller.specs.Commands.{actOf, fastEffect, zeros16}
-use Rattle.decoder.specs.Entries.{entryWords}
+use Rattle.taking.specs.Entries.{entryWords}
 use Rattle.damage.specs.Records.{Counters, counters, entriesOf, counted}
 
 -- The phases outside Slow commands, and the events that lead into none.

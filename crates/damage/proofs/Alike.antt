@@ -6,7 +6,7 @@ use mathlib.Core.List.{List, [], _∷_, _++_}
 use Prim.Native.Nat.{ℕ, _+_, _-_, _%_}
 use native.Mathlib.Omega.{arith}
 use lib.Dec.{ltb, T}
-use Rattle.decoder.specs.Entries.{Entry}
+use Rattle.taking.specs.Entries.{Entry}
 use Rattle.damage.specs.Commands.{Command, lv1, bcr, ecr, cal, sync, eventOf}
 use Rattle.damage.specs.Streams.{Item, itemSize}
 use Rattle.damage.specs.Table.{Instead, itself, damage, affected, bitHit, insteadOf}

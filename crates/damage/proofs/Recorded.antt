@@ -9,7 +9,7 @@ use lib.Dec.{leb, ltb, T, leb→le, ltb→lt, nltb→le}
 use lib.ListN.{length}
 use Rattle.bits.proofs.Truth.{and-left, and-right, cond-case}
 use Rattle.recogniser.specs.declared.Event.{Event}
-use Rattle.decoder.specs.Entries.{Entry}
+use Rattle.taking.specs.Entries.{Entry}
 use Rattle.damage.specs.Commands.{Command, widthOf}
 use Rattle.damage.specs.Streams.{Item, itemSize}
 use Rattle.damage.specs.Table.{Instead, nothing, at, itself, damage, hitsFast, insteadOf}

@@ -17,12 +17,12 @@ use Rattle.recogniser.specs.Step.{stepOf}
 use Rattle.controller.specs.Registers.{cntOf}
 use Rattle.controller.specs.Records.{wordsOf}
 use Rattle.decoder.specs.declared.Decoder.{Decoder}
-use Rattle.decoder.specs.Entries.{Entry, entryWords}
-use Rattle.decoder.specs.Run.{stateAfter, wordsAfter}
-use Rattle.decoder.specs.Turn.{World, turnOf}
-use Rattle.decoder.specs.Take.{Call, takeOf, worldOf}
-use Rattle.decoder.specs.Calls.{bitsTaken, wordsStanding, allBits, allWords}
-use Rattle.decoder.proofs.Calls.{call-kept}
+use Rattle.taking.specs.Entries.{Entry, entryWords}
+use Rattle.taking.specs.Run.{stateAfter, wordsAfter}
+use Rattle.taking.specs.Turn.{World, turnOf}
+use Rattle.taking.specs.Take.{Call, takeOf, worldOf}
+use Rattle.taking.specs.Calls.{bitsTaken, wordsStanding, allBits, allWords}
+use Rattle.taking.proofs.Calls.{call-kept}
 use Rattle.damage.specs.Commands.{Command, widthOf}
 use Rattle.damage.specs.Streams.{Item, itemSize, streamBits, timed, inverted}
 use Rattle.damage.specs.Table.{damage, hitsFast, itself, insteadOf}

@@ -7,7 +7,7 @@ use mathlib.Core.List.{List, [], _∷_, _++_}
 use Prim.Native.Nat.{ℕ, _+_, _-_, _/_, _%_}
 use lib.Dec.{eqb, ltb, T}
 use Rattle.controller.specs.Records.{kindLv1, kindFast}
-use Rattle.decoder.specs.Entries.{Entry}
+use Rattle.taking.specs.Entries.{Entry}
 use Rattle.damage.specs.Streams.{Item, itemSize}
 use Rattle.damage.specs.Table.{affected, insteadOf}
 use Rattle.damage.specs.Records.{Counters, itemEntries, itemCounted, cleanEntries, insteadEntries}

@@ -9,7 +9,7 @@ use Rattle.recogniser.specs.declared.Event.the-variants.{Nothing, Lv1, Fast, Ba
 use Rattle.controller.specs.Registers.{registerOf}
 use Rattle.controller.specs.Records.{kindLv1, kindFast, kindBadFast, flagFlip, flagSent}
 use Rattle.decoder.specs.declared.Decoder.{Decoder}
-use Rattle.decoder.specs.Entries.{Entry, entry}
+use Rattle.taking.specs.Entries.{Entry, entry}
 use Rattle.damage.specs.Commands.{widthOf, eventOf}
 use Rattle.damage.specs.Streams.{Item, itemSize}
 use Rattle.damage.specs.Table.{Instead, nothing, at, insteadOf}

@@ -1,10 +1,3 @@
-pub mod Ranges
-pub mod Runs
-pub mod Ends
-pub mod Calls
-pub mod Refusals
-pub mod Stretched
-pub mod Loop
-pub mod Slows
+pub mod Field5
+pub mod Fits
 pub mod Soundness
-pub mod Stays

@@ -5,8 +5,8 @@ use mathlib.Core.Path.{_≡_, refl, subst⁻¹}
 use Prim.Native.Nat.{_≤_}
 use lib.Dec.{T}
 use borrow.Author.Tests.{le-leb, leb-true, not-true}
-use Rattle.bits.proofs.Truth.{both}
-use Rattle.recogniser.specs.Fit.{fitOf}
+use Rattle.bits.proofs.Truth.{holds-true, both}
+use Rattle.decoder.specs.Fit.{fitOf}
 use Rattle.controller.specs.Plan.{planFits}
 use Rattle.controller.specs.Registers.{cntOf}
 use Rattle.controller.specs.Sound.{pointersFit, missingZero}
@@ -14,11 +14,7 @@ use Rattle.decoder.specs.declared.Decoder.{Decoder}
 use Rattle.decoder.specs.Limits.{clockLimit}
 use Rattle.decoder.specs.Sound.{insideSlow, soundOf}
 
--- A test as an equation, and a test that fails wherever another passes.
-holds : (b : Bool) → T b → b ≡ true
-holds true t = refl
-holds false t = absurd t
-
+-- A test that fails wherever another passes.
 off-where : (a b : Bool) → (T a → b ≡ false) → (a && b) ≡ false
 off-where true b f = f tt
 off-where false b f = refl
@@ -55,7 +51,7 @@ module _ (d : Decoder) where
   pub sound-parts : T (soundOf d) → Sound d
   unfolding soundOf
   sound-parts t =
-      let p = both _ _ (holds (soundOf d) t) in
+      let p = both _ _ (holds-true (soundOf d) t) in
       let q = both _ _ (p .1) in
       let b = both _ _ (q .1) in
       let w = both _ _ (b .1) in

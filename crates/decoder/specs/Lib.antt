@@ -1,8 +1,4 @@
 pub mod Limits
 pub mod Opening
+pub mod Fit
 pub mod Sound
-pub mod Entries
-pub mod Run
-pub mod Turn
-pub mod Take
-pub mod Calls

@@ -4,7 +4,7 @@ use mathlib.Core.Bool.{Bool, true, false, not, _&&_}
 use lib.Dec.{leb}
 use Rattle.recogniser.specs.declared.Phase.{Phase}
 use Rattle.recogniser.specs.declared.Phase.the-variants.{Hunt, Body, Field3, Field4, Field5}
-use Rattle.recogniser.specs.Fit.{fitOf}
+use Rattle.decoder.specs.Fit.{fitOf}
 use Rattle.controller.specs.Plan.{planFits}
 use Rattle.controller.specs.Registers.{cntOf}
 use Rattle.controller.specs.Sound.{pointersFit, missingZero}

@@ -1,14 +1,11 @@
-// The public calls: opening, taking bits, and the soundness and refusals that guard them. None asks anything of its caller.
+// The state that is kept between calls: opening it, and whether a state is sound.
 ghost use mathlib.Core.Path.{_≡_};
-ghost use Prim.Native.Nat.{_+_, _*_, _/_, _≤_, _^_};
-ghost use lib.ListN.{length, set};
+ghost use Prim.Native.Nat.{_<_, _^_};
 ghost use Rattle.decoder.specs.Opening.{openedAt, openOf};
+ghost use Rattle.decoder.specs.Fit.{hasField5, keeps, nibbleFits, field4Fits, field5Fits, fitOf};
 ghost use Rattle.decoder.specs.Sound.{insideSlow, soundOf};
-ghost use Rattle.decoder.specs.Take.{buffersFit, rangeFits, takenOf, takeOf};
-use controller::Cycle;
 use controller::Model;
 use controller::Plan;
-use recogniser::Event;
 use recogniser::Phase;
 use recogniser::Recogniser;
 
@@ -33,29 +30,6 @@ pub struct Opened {
     pub opening: Opening,
 }
 
-// How a taking call ends; the last four are its refusals, numbers 3 to 6.
-pub enum Ending {
-    Done,
-    Frame,
-    ListFull,
-    Unsound,
-    WrongBuffers,
-    WrongRange,
-    ClockOver,
-}
-
-// What a taking call tells beside the state: bits taken, records written, and its ending.
-pub struct Told {
-    pub bits: usize,
-    pub records: usize,
-    pub ending: Ending,
-}
-
-pub struct Taken {
-    pub decoder: Decoder,
-    pub told: Told,
-}
-
 // Whether RunMode must be off in this phase.
 fn inside_slow(phase: Phase) -> bool
     ensures { λ r. ⌜ r ≡ insideSlow phase ⌝ }
@@ -69,36 +43,86 @@ fn inside_slow(phase: Phase) -> bool
     }
 }
 
-// A record's two words at the start of the rest of the list.
-fn write_record(rest: &mut [u64], head: u64, value: u64)
-    requires { ⌜ 2 ≤ length (now rest) ⌝ }
-    ensures { λ _. ⌜ now (rest .exit) ≡ set (set (now (rest .entry)) 0 head) 1 value ⌝ }
+// Two to the power of a count of bits.
+fn power(count: u32) -> u32
+    requires { ⌜ count < 32 ⌝ }
+    ensures { λ r. ⌜ r ≡ 2 ^ count ⌝ }
 {
-    rest[0] = head;
-    rest[1] = value;
+    1 << count
 }
 
-// Whether a call's store, tray and first free word are fit, by their lengths.
-fn buffers_fit(store: &[u32], tray: &[u8], list: &[u64], free: usize) -> bool
-    ensures { λ r. ⌜ r ≡ buffersFit (length (now (store .entry))) (length (now (tray .entry))) (length (now (list .entry))) free ⌝ }
+// Whether the command has a Field 5.
+fn has_field5(command: u8) -> bool
+    ensures { λ r. ⌜ r ≡ hasField5 command ⌝ }
 {
-    let store_fits = store.len() == Decoder::STORE_LENGTH;
-    let tray_fits = tray.len() == Decoder::TRAY_LENGTH;
-    store_fits & (tray_fits & (free <= list.len()))
+    if command <= 6 {
+        return true;
+    }
+    command == 10
 }
 
-// Whether the input is not too long and the range ends within it; no sum here can wrap.
-fn range_fits(input: &[u8], first: usize, count: usize) -> bool
-    ensures { λ r. ⌜ r ≡ rangeFits (length (now (input .entry))) first count ⌝ }
+// Whether the command keeps the bits of its Field 5.
+fn keeps_bits(command: u8) -> bool
+    ensures { λ r. ⌜ r ≡ keeps command ⌝ }
 {
-    if Decoder::INPUT_LIMIT < input.len() {
+    match command {
+        0 => true,
+        2 => true,
+        10 => true,
+        _ => false,
+    }
+}
+
+// Whether the bits of a body, Field 3 or Field 4 are fewer than four and fit their width.
+fn nibble_fits(r: Recogniser) -> bool
+    ensures { λ o. ⌜ o ≡ nibbleFits r ⌝ }
+{
+    if r.count < 4 {
+        return (r.shift as u32) < power(r.count);
+    }
+    false
+}
+
+fn field4_fits(r: Recogniser) -> bool
+    ensures { λ o. ⌜ o ≡ field4Fits r ⌝ }
+{
+    if nibble_fits(r) {
+        return r.command < 16;
+    }
+    false
+}
+
+fn field5_fits(r: Recogniser, cnt: u16) -> bool
+    ensures { λ o. ⌜ o ≡ field5Fits r cnt ⌝ }
+{
+    let command = r.command;
+    if !has_field5(command) {
         return false;
     }
-    let end = 8 * input.len();
-    if end < first {
+    if 16 <= r.address {
         return false;
     }
-    count <= end - first
+    if recogniser::length(command, cnt) <= r.count {
+        return false;
+    }
+    if keeps_bits(command) {
+        return r.held < power(r.count);
+    }
+    true
+}
+
+// Whether a sound state may hold this recogniser, by the present contents of the CNT register.
+fn fit(r: Recogniser, cnt: u16) -> bool
+    ensures { λ o. ⌜ o ≡ fitOf r cnt ⌝ }
+{
+    let phase = r.phase;
+    match phase {
+        Phase::Hunt => r.shift < 32,
+        Phase::Body => nibble_fits(r),
+        Phase::Field3 => nibble_fits(r),
+        Phase::Field4 => field4_fits(r),
+        Phase::Field5 => field5_fits(r, cnt),
+    }
 }
 
 impl Decoder {
@@ -176,130 +200,7 @@ impl Decoder {
         let slow = inside_slow(phase);
         let stopped = !(slow & model.running);
         let cnt = model.cnt(plan);
-        let fits = recogniser::fit(recogniser, cnt);
+        let fits = fit(recogniser, cnt);
         opens & (clock & (base & (writes_fit & (reads_fit & (missing & (stopped & fits))))))
-    }
-
-    fn refused(self, ending: Ending) -> Taken
-        ensures { λ r. ⌜ r ≡ (record { decoder = self; told = record { bits = 0; records = 0; ending = ending } }) ⌝ }
-    {
-        Taken {
-            decoder: self,
-            told: Told {
-                bits: 0,
-                records: 0,
-                ending: ending,
-            },
-        }
-    }
-
-    // The state that the loop's locals make up.
-    fn joined(plan: Plan, next: u64, recogniser: Recogniser, model: Model) -> Decoder
-        ensures { λ r. ⌜ r ≡ (record { plan = plan; next = next; recogniser = recogniser; model = model }) ⌝ }
-    {
-        Decoder {
-            plan: plan,
-            next: next,
-            recogniser: recogniser,
-            model: model,
-        }
-    }
-
-    // What a call tells after so many bits, with the list filled up to a word.
-    fn told(self, bits: usize, words: usize, ending: Ending) -> Taken
-        ensures { λ r. ⌜ r ≡ (record { decoder = self; told = record { bits = bits; records = words / 2; ending = ending } }) ⌝ }
-    {
-        Taken {
-            decoder: self,
-            told: Told {
-                bits: bits,
-                records: words / Decoder::LIST_UNIT,
-                ending: ending,
-            },
-        }
-    }
-
-    // A call that is not refused, stretch by stretch. The recogniser, CNT and the counts are locals; arrays are touched only when an event asks for it.
-    fn run(
-        self,
-        input: &[u8],
-        first: usize,
-        count: usize,
-        store: &mut [u32],
-        tray: &mut [u8],
-        list: &mut [u64],
-        free: usize,
-    ) -> Taken
-        requires { ⌜ (self .next + count ≤ 2 ^ 48) × (length (now store) ≡ 2048) ⌝ }
-        requires { ⌜ (length (now input) ≤ 65536) × (first + count ≤ 8 * length (now input)) × (free ≤ length (now list)) ⌝ }
-        ensures { λ r. ⌜ (record { taken = r; store = now (store .exit); tray = now (tray .exit); list = now (list .exit) }) ≡ takenOf self (record { input = now (input .entry); first = first; count = count; store = now (store .entry); tray = now (tray .entry); list = now (list .entry); free = free }) ⌝ }
-    {
-        let plan = self.plan;
-        let start = self.next;
-        let mut recogniser = self.recogniser;
-        let mut model = self.model;
-        let mut cnt = model.cnt(plan);
-        let mut taken: usize = 0;
-        let mut at = free;
-        while taken < count {
-            if list.len() - at < Decoder::LIST_UNIT {
-                let d = Decoder::joined(plan, start + taken as u64, recogniser, model);
-                return d.told(taken, at - free, Ending::ListFull);
-            }
-            let stretch = recogniser.stretch(input, first + taken, first + count, cnt);
-            let next = stretch.next;
-            recogniser = next;
-            taken = taken + stretch.taken;
-            let event = stretch.event;
-            if let Event::Nothing = event {
-                continue;
-            }
-            frames::keep(tray, event);
-            let acted = model.act(plan, event, start + taken as u64 - 1, store);
-            let m = acted.model;
-            model = m;
-            cnt = m.cnt(plan);
-            let cycle = acted.cycle;
-            let Cycle::Record { head, value } = cycle else {
-                continue;
-            };
-            write_record(&mut list[at..], head, value);
-            at = at + Decoder::LIST_UNIT;
-            if controller::is_frame_head(head) {
-                let d = Decoder::joined(plan, start + taken as u64, recogniser, model);
-                return d.told(taken, at - free, Ending::Frame);
-            }
-        }
-        let d = Decoder::joined(plan, start + count as u64, recogniser, model);
-        d.told(taken, at - free, Ending::Done)
-    }
-
-    // Takes bits `first` to `first + count` of the input, one a cycle, and writes their records into the rest of the list from word `free` on. It stops
-    // after a frame's record, and where fewer than two words are free. An unfit call is turned away with its number, and changes nothing.
-    pub fn take(
-        self,
-        input: &[u8],
-        first: usize,
-        count: usize,
-        store: &mut [u32],
-        tray: &mut [u8],
-        list: &mut [u64],
-        free: usize,
-    ) -> Taken
-        ensures { λ r. ⌜ (record { taken = r; store = now (store .exit); tray = now (tray .exit); list = now (list .exit) }) ≡ takeOf self (record { input = now (input .entry); first = first; count = count; store = now (store .entry); tray = now (tray .entry); list = now (list .entry); free = free }) ⌝ }
-    {
-        if !self.sound() {
-            return self.refused(Ending::Unsound);
-        }
-        if !buffers_fit(store, tray, list, free) {
-            return self.refused(Ending::WrongBuffers);
-        }
-        if !range_fits(input, first, count) {
-            return self.refused(Ending::WrongRange);
-        }
-        if Decoder::CLOCK_LIMIT - self.next < count as u64 {
-            return self.refused(Ending::ClockOver);
-        }
-        self.run(input, first, count, store, tray, list, free)
     }
 }

@@ -10,28 +10,24 @@ use lib.Dec.{eqb, leb, T}
 use lib.ListN.{length}
 use lib.Seq.{sets}
 use borrow.Author.Tests.{eq-eqb, ne-eqb, lt-ltb, le-ltb, le-leb, lt-leb, leb-true, leb-false}
-use Rattle.bits.proofs.Truth.{both, cases}
+use Rattle.bits.proofs.Truth.{both, cases, holds-true}
 use Rattle.decoder.specs.declared.Decoder.{Decoder}
 use Rattle.decoder.specs.declared.Opened.{Opened}
 use Rattle.decoder.specs.Opening.{openingNumber}
 use Rattle.decoder.specs.Sound.{soundOf}
-use Rattle.decoder.specs.Take.{Call, Left, takeOf, endingNumber}
-use Rattle.decoder.proofs.Stays.{take-sound}
+use Rattle.taking.specs.Take.{Call, Left, takeOf, endingNumber}
+use Rattle.taking.proofs.Stays.{take-sound}
 use Rattle.image.specs.Image.{imageLength, imageOf, stateOf, imageFits}
 use Rattle.image.proofs.Images.{fits-length, written-fits}
-use Rattle.listing.specs.declared.HexLine.{HexLine}
-use Rattle.listing.specs.Block.{Block, block, putOf}
+use Rattle.hexlines.specs.declared.HexLine.{HexLine}
+use Rattle.text.specs.Block.{Block, block, putOf}
 use Rattle.listing.specs.Digits.{charactersOf}
-use Rattle.listing.specs.Line.{Read, hexNumber, readAs, readOf}
+use Rattle.hexlines.specs.Line.{Read, hexNumber, readAs, readOf}
 use Rattle.listing.specs.Records.{numbersLine, recordLine}
-use Rattle.listing.proofs.Puts.{put-fits, put-over}
+use Rattle.text.proofs.Puts.{put-fits, put-over}
 use Rattle.kernelstill.specs.Open.{OpenLeft, openedInto}
 use Rattle.kernelstill.specs.Take.{TakeLeft, resultLength, resultOf, refusedCall, answered, soundImage, takeLeftOf, Holds}
 use Rattle.kernelstill.specs.Lines.{LineLeft, hexLeftOf, recordLeftOf}
-
-holds-true : (b : Bool) → T b → b ≡ true
-holds-true true t = refl
-holds-true false t = absurd t
 
 -- Opening.
 abbrev pub openLeft : ℕ → List ℕ → OpenLeft

@@ -6,7 +6,7 @@ use Prim.Native.Nat.{ℕ}
 use lib.Dec.{ltb, leb}
 use lib.ListN.{length}
 use lib.Seq.{sets}
-use Rattle.listing.specs.Line.{hexOf}
+use Rattle.hexlines.specs.Line.{hexOf}
 use Rattle.listing.specs.Records.{recordLine}
 
 -- A refusal number, 0 for none, and the buffer's later contents.

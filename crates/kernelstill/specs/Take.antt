@@ -7,11 +7,11 @@ use Prim.Native.Nat.{ℕ}
 use lib.Dec.{eqb}
 use lib.ListN.{length}
 use Rattle.decoder.specs.declared.Decoder.{Decoder}
-use Rattle.decoder.specs.declared.Ending.{Ending}
-use Rattle.decoder.specs.declared.Ending.the-variants.{Done, Frame, ListFull, Unsound, WrongBuffers, WrongRange, ClockOver}
-use Rattle.decoder.specs.declared.Told.{Told}
+use Rattle.taking.specs.declared.Ending.{Ending}
+use Rattle.taking.specs.declared.Ending.the-variants.{Done, Frame, ListFull, Unsound, WrongBuffers, WrongRange, ClockOver}
+use Rattle.taking.specs.declared.Told.{Told}
 use Rattle.decoder.specs.Sound.{soundOf}
-use Rattle.decoder.specs.Take.{Call, Left, takeOf, endingNumber}
+use Rattle.taking.specs.Take.{Call, Left, takeOf, endingNumber}
 use Rattle.image.specs.Image.{imageOf, stateOf, imageFits}
 
 -- A refusal number, 0 for none, and each buffer's later contents.

@@ -5,7 +5,7 @@ ghost use mathlib.Core.Path.{_≡_};
 ghost use lib.ListN.{length};
 ghost use Rattle.controller.specs.Records.{kindOf, isFrameHead, frameBitsOf};
 ghost use Rattle.decoder.specs.Opening.{openOf, openingNumber};
-ghost use Rattle.decoder.specs.Take.{takeOf, endingNumber};
+ghost use Rattle.taking.specs.Take.{takeOf, endingNumber};
 ghost use Rattle.image.specs.Image.{imageLength, stateOf};
 ghost use Rattle.frames.specs.Tray.{partOf};
 ghost use Rattle.kernelstill.specs.Open.{emptyPlan, planOf, openLeftOf};
@@ -13,9 +13,9 @@ ghost use Rattle.kernelstill.specs.Take.{endingCode, resultLength, resul
 ghost use Rattle.kernelstill.specs.Lines.{hexLeftOf, recordLeftOf};
 use controller::Plan;
 use decoder::Decoder;
-use decoder::Ending;
 use decoder::Opening;
-use decoder::Told;
+use taking::Ending;
+use taking::Told;
 
 // The words of a taking call's result: bits taken, records written, ending.
 const RESULT_WORDS: usize = 3;
@@ -176,7 +176,7 @@ pub extern "C" fn kernelstill_take(
         return WRONG_BUFFERS;
     }
     let decoder = image::read(image);
-    let taken = decoder.take(input, first, count, store, tray, list, free);
+    let taken = taking::take(decoder, input, first, count, store, tray, list, free);
     let answer = taken.told;
     let ending = answer.ending;
     let number = ending_number(ending);
@@ -217,7 +217,7 @@ pub extern "C" fn kernelstill_hex_line(line: &[u8], bytes: &mut [u8]) -> u64
     if bytes.len() < LINE_BYTES {
         return WRONG_BUFFERS;
     }
-    let answer = listing::read_line(line, bytes);
+    let answer = hexlines::read_line(line, bytes);
     answer.number() as u64
 }
 

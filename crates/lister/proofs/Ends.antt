@@ -11,13 +11,13 @@ use lib.Seq.{length-take-le, getD-take}
 use borrow.Author.Tests.{leb-true, eqb-true, ne-eqb}
 use Rattle.bits.proofs.Truth.{both, choice}
 use Rattle.bits.specs.Bits.{bitsOf}
-use Rattle.listing.specs.declared.HexLine.{HexLine}
-use Rattle.listing.specs.declared.Seen.{Seen}
-use Rattle.listing.specs.Block.{block, putAll, putOf}
-use Rattle.listing.specs.Line.{countFits, hexNumber, hexCount}
-use Rattle.listing.specs.Lines.{fresh, answerOf, saidBy, saidFrom}
+use Rattle.hexlines.specs.declared.HexLine.{HexLine}
+use Rattle.hexlines.specs.declared.Seen.{Seen}
+use Rattle.text.specs.Block.{block, putAll, putOf}
+use Rattle.hexlines.specs.Line.{countFits, hexNumber, hexCount}
+use Rattle.hexlines.specs.Lines.{fresh, answerOf, saidBy, saidFrom}
 use Rattle.listing.specs.Records.{refusedLine}
-use Rattle.listing.proofs.Puts.{put-fits}
+use Rattle.text.proofs.Puts.{put-fits}
 use Rattle.listing.proofs.Texts.{line-length}
 use Rattle.lister.specs.declared.Lister.{Lister}
 use Rattle.lister.specs.Listing.{outcome, printed, bitsThen, lineAfter, listingOf}

@@ -12,10 +12,10 @@ use borrow.Author.Tests.{le-leb, ltb-false}
 use Rattle.bits.proofs.Truth.{choice}
 use Rattle.decoder.specs.Limits.{clockLimit}
 use Rattle.decoder.proofs.Soundness.{sound-parts}
-use Rattle.listing.specs.declared.Seen.{Seen}
-use Rattle.listing.specs.declared.Fed.{Fed}
-use Rattle.listing.specs.Lines.{fresh, upToFeed, fedOf, saidBy, saidFrom}
-use Rattle.listing.proofs.Lines.{fed-ended, fed-open, fed-next, fed-on}
+use Rattle.hexlines.specs.declared.Seen.{Seen}
+use Rattle.hexlines.specs.declared.Fed.{Fed}
+use Rattle.hexlines.specs.Lines.{fresh, upToFeed, fedOf, saidBy, saidFrom}
+use Rattle.hexlines.proofs.Lines.{fed-ended, fed-open, fed-next, fed-on}
 use Rattle.lister.specs.declared.Lister.{Lister}
 use Rattle.lister.specs.Listing.{Outcome, printed, bitsText, listingOf}
 use Rattle.lister.specs.Going.{Going, going, worldOf, restOf, whole, Ready, Turns, leftOf, Ends, Goes}

@@ -8,10 +8,10 @@ use native.Mathlib.Omega.{arith}
 use lib.ListN.{length, set, take, drop}
 use Rattle.bits.proofs.Truth.{clash}
 use Rattle.controller.specs.Plan.{defaultPlan}
-use Rattle.decoder.proofs.Stays.{start-sound}
-use Rattle.listing.specs.declared.Seen.{Seen}
-use Rattle.listing.specs.Text.{lineFeed}
-use Rattle.listing.specs.Lines.{nothingSeen, saidFrom}
+use Rattle.taking.proofs.Stays.{start-sound}
+use Rattle.hexlines.specs.declared.Seen.{Seen}
+use Rattle.text.specs.Text.{lineFeed}
+use Rattle.hexlines.specs.Lines.{nothingSeen, saidFrom}
 use Rattle.lister.specs.declared.Lister.{Lister}
 use Rattle.lister.specs.Going.{start, going, Ready, Within, Refilled}
 

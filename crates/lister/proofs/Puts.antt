@@ -6,9 +6,9 @@ use Prim.Native.Nat.{ℕ, _+_, _≤_}
 use native.Mathlib.Omega.{arith}
 use lib.ListN.{length, take, drop, length-append}
 use lib.Seq.{length-sets, sets-eq, take-at, length-take-le}
-use Rattle.listing.specs.Block.{Block, block, putAll, putOf}
+use Rattle.text.specs.Block.{Block, block, putAll, putOf}
 use Rattle.lister.specs.Listing.{Outcome, printed}
-use Rattle.listing.proofs.Puts.{Left, room, again, put-fits}
+use Rattle.text.proofs.Puts.{Left, room, again, put-fits}
 
 -- the next piece of a text, by a call that puts a line where it fits
 pub again-of : {out₀ : List ℕ} {at : ℕ} {whole out : List ℕ} {place : ℕ} {rest : List ℕ} → Left out₀ at whole out place rest

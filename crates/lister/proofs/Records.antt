@@ -8,9 +8,9 @@ use native.Mathlib.Numerals.{add-one}
 use native.Mathlib.Omega.{arith}
 use lib.ListN.{length, getD, drop, length-append, length-drop}
 use lib.Seq.{drop-cons}
-use Rattle.listing.specs.Block.{block, putAll, putOf}
+use Rattle.text.specs.Block.{block, putAll, putOf}
 use Rattle.listing.specs.Records.{recordLine}
-use Rattle.listing.proofs.Puts.{Left, begun, room, again, over}
+use Rattle.text.proofs.Puts.{Left, begun, room, again, over}
 use Rattle.lister.specs.Listing.{frameText, recordText, wordsText}
 use Rattle.lister.proofs.Puts.{again-of}
 

@@ -13,10 +13,10 @@ use Rattle.frames.specs.Tray.{partOf}
 use Rattle.controller.specs.declared.Cycle.{Cycle}
 use Rattle.controller.specs.declared.Cycle.the-variants.{Nothing, Record}
 use Rattle.controller.specs.Records.{kindOf, isFrameHead, frameBitsOf}
-use Rattle.decoder.specs.declared.Ending.{Ending}
-use Rattle.decoder.specs.declared.Ending.the-variants.{Frame, ListFull, Done}
-use Rattle.decoder.specs.Run.{Run, ended, oneBit, oneRecord, afterCycle, runOf, stateAfter}
-use Rattle.decoder.specs.Turn.{World, turnOf}
+use Rattle.taking.specs.declared.Ending.{Ending}
+use Rattle.taking.specs.declared.Ending.the-variants.{Frame, ListFull, Done}
+use Rattle.taking.specs.Run.{Run, ended, oneBit, oneRecord, afterCycle, runOf, stateAfter}
+use Rattle.taking.specs.Turn.{World, turnOf}
 use Rattle.listing.specs.Records.{recordLine, frameLine}
 use Rattle.listing.proofs.Texts.{line-length, frame-length}
 use Rattle.lister.specs.Listing.{frameText, recordText, wordsText, cycleText, bitsText}

@@ -11,10 +11,10 @@ use Rattle.bits.proofs.Truth.{choice}
 use Rattle.controller.specs.Plan.{existsAt}
 use Rattle.controller.specs.Registers.{readOf}
 use Rattle.decoder.specs.declared.Decoder.{Decoder}
-use Rattle.listing.specs.Text.{ascii}
-use Rattle.listing.specs.Block.{block, putAll, putOf}
+use Rattle.text.specs.Text.{ascii}
+use Rattle.text.specs.Block.{block, putAll, putOf}
 use Rattle.listing.specs.State.{l1idLine, baseLine, runmodeLine}
-use Rattle.listing.proofs.Puts.{Left, begun, room, again}
+use Rattle.text.proofs.Puts.{Left, begun, room, again}
 use Rattle.listing.proofs.Texts.{line-length}
 use Rattle.lister.specs.State.{textsFrom, registerText, pointersText, wordText, stateText}
 use Rattle.lister.proofs.Puts.{again-of}

@@ -11,17 +11,17 @@ use lib.Seq.{sets, sets-eq, take-at}
 use borrow.Author.Tests.{le-leb, leb-true, ne-eqb}
 use Rattle.bits.specs.Bits.{bitsOf}
 use Rattle.decoder.specs.declared.Decoder.{Decoder}
-use Rattle.decoder.specs.declared.Ending.the-variants.{ClockOver}
+use Rattle.taking.specs.declared.Ending.the-variants.{ClockOver}
 use Rattle.decoder.specs.Limits.{clockLimit}
 use Rattle.decoder.specs.Sound.{soundOf}
-use Rattle.decoder.specs.Run.{Run, runOf, stateAfter}
-use Rattle.decoder.specs.Turn.{World, turnOf}
-use Rattle.decoder.specs.Take.{Call, Left, refused, clockFits, takenOf, takeOf}
-use Rattle.decoder.specs.Calls.{worldLeft}
-use Rattle.decoder.proofs.Runs.{run-faithful}
-use Rattle.decoder.proofs.Loop.{length-bits}
-use Rattle.decoder.proofs.Calls.{call-kept}
-use Rattle.decoder.proofs.Refusals.{buffers, range, taken, clock-over}
+use Rattle.taking.specs.Run.{Run, runOf, stateAfter}
+use Rattle.taking.specs.Turn.{World, turnOf}
+use Rattle.taking.specs.Take.{Call, Left, refused, clockFits, takenOf, takeOf}
+use Rattle.taking.specs.Calls.{worldLeft}
+use Rattle.taking.proofs.Runs.{run-faithful}
+use Rattle.taking.proofs.Loop.{length-bits}
+use Rattle.taking.proofs.Calls.{call-kept}
+use Rattle.taking.proofs.Refusals.{buffers, range, taken, clock-over}
 use Rattle.lister.specs.Listing.{Outcome, outcome, printed, bitsThen, wordsText, bitsText}
 use Rattle.lister.proofs.Runs.{run-prints, run-takes}
 

@@ -10,10 +10,10 @@ use lib.ListN.{length, take}
 use borrow.Author.Tests.{eqb-false}
 use Rattle.bits.proofs.Truth.{choice}
 use Rattle.decoder.specs.Sound.{soundOf}
-use Rattle.decoder.specs.Take.{Call, Left, takeOf}
-use Rattle.decoder.proofs.Stays.{take-sound}
-use Rattle.listing.specs.Block.{block, putAll}
-use Rattle.listing.specs.Lines.{saidFrom}
+use Rattle.taking.specs.Take.{Call, Left, takeOf}
+use Rattle.taking.proofs.Stays.{take-sound}
+use Rattle.text.specs.Block.{block, putAll}
+use Rattle.hexlines.specs.Lines.{saidFrom}
 use Rattle.lister.specs.declared.Lister.{Lister}
 use Rattle.lister.specs.Listing.{printed, wordsText, listingOf}
 use Rattle.lister.specs.Going.{Going, going, worldOf, restOf, whole, Ready, Turns, leftOf, Takes}

@@ -10,8 +10,8 @@ use Rattle.bits.specs.Bits.{bitsOf}
 use Rattle.controller.specs.Plan.{defaultPlan}
 use Rattle.decoder.specs.Opening.{openOf}
 use Rattle.decoder.specs.Sound.{soundOf}
-use Rattle.decoder.specs.Turn.{World}
-use Rattle.listing.specs.Lines.{fresh, saidBy, saidFrom}
+use Rattle.taking.specs.Turn.{World}
+use Rattle.hexlines.specs.Lines.{fresh, saidBy, saidFrom}
 use Rattle.lister.specs.declared.Lister.{Lister}
 use Rattle.lister.specs.Listing.{Outcome, outcome, printed, bitsThen, listingOf}
 

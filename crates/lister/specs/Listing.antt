@@ -10,10 +10,10 @@ use Rattle.frames.specs.Tray.{partOf}
 use Rattle.controller.specs.declared.Cycle.{Cycle}
 use Rattle.controller.specs.declared.Cycle.the-variants.{Nothing, Record}
 use Rattle.controller.specs.Records.{kindOf, isFrameHead, frameBitsOf}
-use Rattle.decoder.specs.Run.{stateAfter}
-use Rattle.decoder.specs.Turn.{World, turnOf}
-use Rattle.decoder.specs.Take.{clockFits}
-use Rattle.listing.specs.Line.{Hex}
+use Rattle.taking.specs.Run.{stateAfter}
+use Rattle.taking.specs.Turn.{World, turnOf}
+use Rattle.taking.specs.Take.{clockFits}
+use Rattle.hexlines.specs.Line.{Hex}
 use Rattle.listing.specs.Records.{recordLine, refusedLine, frameLine}
 
 -- "after a frame of at least one bit, ">" and its bytes"; a program may leave the frames out.

@@ -3,16 +3,16 @@ ghost use mathlib.Core.Path.{_≡_};
 ghost use mathlib.Core.Bool.{true, false};
 ghost use Prim.Native.Nat.{_+_, _<_, _≤_};
 ghost use lib.ListN.{length};
-ghost use Rattle.listing.specs.Block.{block, putAll};
+ghost use Rattle.text.specs.Block.{block, putAll};
 ghost use Rattle.lister.specs.Listing.{recordText, wordsText};
 ghost use Rattle.lister.specs.State.{textsFrom, registerText, pointersText, wordText, stateText};
 ghost use Rattle.lister.specs.Going.{start, going, leftOf, goesOn, Ready, Turns, Takes, Ended, Fed, Goes, Refilled};
 use controller::Model;
 use controller::Plan;
 use decoder::Decoder;
+use hexlines::Seen;
 use libc::STDIN_FILENO;
 use libc::STDOUT_FILENO;
-use listing::Seen;
 
 // What a program prints beside the records: the frames, and at the end of the run the controller as the commands left it.
 pub struct Prints {
@@ -107,7 +107,7 @@ impl Lister {
         let d = self.decoder;
         let bytes = self.bytes;
         let mut list = [0u64; LIST];
-        let taken = d.take(&bytes, self.first, self.count, store, tray, &mut list, 0);
+        let taken = taking::take(d, &bytes, self.first, self.count, store, tray, &mut list, 0);
         let told = taken.told;
         let n = told.records * 2;
         let decoder = taken.decoder;

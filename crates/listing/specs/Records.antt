@@ -3,7 +3,7 @@
 use mathlib.Core.List.{List, [], _∷_, _++_}
 use Prim.Native.Char.{code}
 use Prim.Native.Nat.{ℕ, _+_, _/_, _%_}
-use Rattle.listing.specs.Text.{ascii, lineFeed}
+use Rattle.text.specs.Text.{ascii, lineFeed}
 use Rattle.listing.specs.Digits.{charactersOf}
 
 -- What stands after a number: a space while more follow, else the line feed.

@@ -3,7 +3,7 @@
 use mathlib.Core.Bool.{Bool, cond}
 use mathlib.Core.List.{List, [], _∷_}
 use Prim.Native.Nat.{ℕ}
-use Rattle.listing.specs.Text.{ascii}
+use Rattle.text.specs.Text.{ascii}
 use Rattle.listing.specs.Records.{lineOf}
 
 -- A register: its address and what it holds.

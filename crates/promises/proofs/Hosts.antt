@@ -9,10 +9,10 @@ use lib.ListN.{length}
 use borrow.Author.Tests.{eq-eqb, ne-eqb}
 use Rattle.controller.specs.Plan.{planFits}
 use Rattle.decoder.specs.declared.Decoder.{Decoder}
-use Rattle.decoder.specs.declared.Ending.{Ending}
+use Rattle.taking.specs.declared.Ending.{Ending}
 use Rattle.decoder.specs.Sound.{soundOf}
-use Rattle.decoder.specs.Take.{Call, Left, refused, takeOf, endingNumber}
-use Rattle.decoder.proofs.Refusals.{unsound}
+use Rattle.taking.specs.Take.{Call, Left, refused, takeOf, endingNumber}
+use Rattle.taking.proofs.Refusals.{unsound}
 use Rattle.image.specs.Image.{imageLength, imageOf, stateOf, Widths}
 use Rattle.image.proofs.Images.{image-fits, read-back}
 use Rattle.image.proofs.Forms.{formed, formed-fits}

@@ -5,14 +5,14 @@ use Prim.Native.Nat.{_+_, _-_}
 use native.Mathlib.Omega.{arith}
 use lib.ListN.{length}
 use Rattle.decoder.specs.declared.Decoder.{Decoder}
-use Rattle.decoder.specs.Run.{Run, runOf, stateAfter, wordsAfter}
-use Rattle.decoder.specs.Turn.{World, turnOf}
-use Rattle.decoder.specs.Take.{Call, offered, worldOf, takenOf}
-use Rattle.decoder.proofs.Runs.{run-faithful}
-use Rattle.decoder.proofs.Ends.{run-ended}
-use Rattle.decoder.proofs.Calls.{call-kept, carried-words, carried-world}
-use Rattle.decoder.proofs.Loop.{length-bits}
-use Rattle.decoder.proofs.Stays.{start-sound, take-sound}
+use Rattle.taking.specs.Run.{Run, runOf, stateAfter, wordsAfter}
+use Rattle.taking.specs.Turn.{World, turnOf}
+use Rattle.taking.specs.Take.{Call, offered, worldOf, takenOf}
+use Rattle.taking.proofs.Runs.{run-faithful}
+use Rattle.taking.proofs.Ends.{run-ended}
+use Rattle.taking.proofs.Calls.{call-kept, carried-words, carried-world}
+use Rattle.taking.proofs.Loop.{length-bits}
+use Rattle.taking.proofs.Stays.{start-sound, take-sound}
 use Rattle.promises.specs.Records.{Exact, Ends, Cuts, SecondDemand}
 
 exact : (d : Decoder) (c : Call) → Exact d c

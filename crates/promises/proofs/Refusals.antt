@@ -10,14 +10,14 @@ use borrow.Author.Tests.{le-leb, lt-leb, ltb-true, ltb-false}
 use Rattle.controller.specs.declared.Plan.{Plan}
 use Rattle.controller.specs.Plan.{existsAt, planFits}
 use Rattle.decoder.specs.declared.Decoder.{Decoder}
-use Rattle.decoder.specs.declared.Ending.{Ending}
-use Rattle.decoder.specs.declared.Ending.the-variants.{Unsound, WrongBuffers, WrongRange, ClockOver}
+use Rattle.taking.specs.declared.Ending.{Ending}
+use Rattle.taking.specs.declared.Ending.the-variants.{Unsound, WrongBuffers, WrongRange, ClockOver}
 use Rattle.decoder.specs.Opening.{openOf}
 use Rattle.decoder.specs.Sound.{soundOf}
-use Rattle.decoder.specs.Turn.{turnOf}
-use Rattle.decoder.specs.Take.{Call, Left, offered, worldOf, refused, clockFits, takenOf, takeOf, endingNumber}
-use Rattle.decoder.proofs.Ends.{run-ended}
-use Rattle.decoder.proofs.Refusals.{buffers, range, unsound, wrong-buffers, wrong-range, clock-over, taken}
+use Rattle.taking.specs.Turn.{turnOf}
+use Rattle.taking.specs.Take.{Call, Left, offered, worldOf, refused, clockFits, takenOf, takeOf, endingNumber}
+use Rattle.taking.proofs.Ends.{run-ended}
+use Rattle.taking.proofs.Refusals.{buffers, range, unsound, wrong-buffers, wrong-range, clock-over, taken}
 use Rattle.promises.specs.Refusals.{firstOf, threeInMask, threeDiffer, takingRows, Opens, Takes, FirstDemand}
 
 -- tests turned round

@@ -8,7 +8,7 @@ use lib.ListN.{length}
 use Rattle.controller.specs.Plan.{planFits}
 use Rattle.decoder.specs.declared.Decoder.{Decoder}
 use Rattle.decoder.specs.Opening.{openOf, openingNumber}
-use Rattle.decoder.specs.Take.{Call, takeOf}
+use Rattle.taking.specs.Take.{Call, takeOf}
 use Rattle.image.specs.Image.{imageLength, imageOf, stateOf, imageFits, Widths, Formed}
 use Rattle.kernelstill.specs.Open.{emptyPlan, planOf, openLeftOf}
 use Rattle.kernelstill.specs.Take.{resultLength, refusedCall, answered, takeLeftOf}

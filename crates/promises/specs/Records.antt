@@ -11,14 +11,14 @@ use lib.ListN.{length, take}
 use Rattle.controller.specs.declared.Plan.{Plan}
 use Rattle.controller.specs.Records.{isFrameHead}
 use Rattle.decoder.specs.declared.Decoder.{Decoder}
-use Rattle.decoder.specs.declared.Ending.the-variants.{Done, Frame, ListFull}
+use Rattle.taking.specs.declared.Ending.the-variants.{Done, Frame, ListFull}
 use Rattle.decoder.specs.Limits.{listUnit}
 use Rattle.decoder.specs.Opening.{openOf}
 use Rattle.decoder.specs.Sound.{soundOf}
-use Rattle.decoder.specs.Run.{stateAfter, wordsAfter}
-use Rattle.decoder.specs.Turn.{World, turnOf}
-use Rattle.decoder.specs.Take.{Call, offered, worldOf, takenOf, takeOf}
-use Rattle.decoder.specs.Calls.{bitsTaken, wordsStanding, worldLeft, Request, carriedBits, carriedWords, carriedWorld}
+use Rattle.taking.specs.Run.{stateAfter, wordsAfter}
+use Rattle.taking.specs.Turn.{World, turnOf}
+use Rattle.taking.specs.Take.{Call, offered, worldOf, takenOf, takeOf}
+use Rattle.taking.specs.Calls.{bitsTaken, wordsStanding, worldLeft, Request, carriedBits, carriedWords, carriedWorld}
 
 -- A call, refused or not, leaves and writes what the bits that it took say, cycle by cycle: none missing and none added.
 pub record Exact (d : Decoder) (c : Call) : Type 0 where

@@ -9,10 +9,10 @@ use lib.ListN.{length}
 use Rattle.controller.specs.declared.Plan.{Plan}
 use Rattle.controller.specs.Plan.{existsAt, defaultPlan}
 use Rattle.decoder.specs.declared.Decoder.{Decoder}
-use Rattle.decoder.specs.declared.Ending.{Ending}
+use Rattle.taking.specs.declared.Ending.{Ending}
 use Rattle.decoder.specs.Opening.{openedAt, openOf, openingNumber}
 use Rattle.decoder.specs.Sound.{soundOf}
-use Rattle.decoder.specs.Take.{Call, refused, takenOf, takeOf, endingNumber}
+use Rattle.taking.specs.Take.{Call, refused, takenOf, takeOf, endingNumber}
 
 -- A row of the refusal table: its number, and whether it turns this call away.
 pub record Row : Type 0 where

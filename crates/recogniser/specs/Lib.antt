@@ -3,5 +3,3 @@ pub mod Hunting
 pub mod Fields
 pub mod Groups
 pub mod Step
-pub mod Fit
-pub mod Stretch

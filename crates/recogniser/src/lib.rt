@@ -1,17 +1,13 @@
 // One clock cycle of the command line: what the bit completes, and where the recogniser stands after it.
 // It owns only what the chip triplicates; registers, counters and RunMode belong to the model.
 ghost use mathlib.Core.Path.{_≡_};
-ghost use Prim.Native.Nat.{_*_, _-_, _<_, _≤_, _^_};
-ghost use lib.ListN.{length};
+ghost use Prim.Native.Nat.{_<_};
 ghost use Rattle.recogniser.specs.Parts.{shifted, startOf, heard, gatheredOf};
 ghost use Rattle.recogniser.specs.declared.Phase.the-variants.{Hunt};
 ghost use Rattle.recogniser.specs.Hunting.{meaningOf, isFast, huntBy, huntOf, bodyOf};
 ghost use Rattle.recogniser.specs.Fields.{lengthOf, isSlow, isFrame, keptOf, endsOf, slowOf, field3Of, field4Of, keptFieldOf};
 ghost use Rattle.recogniser.specs.Groups.{groupOf, unsteadyOf, storesOf, placeOf, frameEventOf, frameFieldOf};
 ghost use Rattle.recogniser.specs.Step.{field5Of, stepOf};
-ghost use Rattle.recogniser.specs.Stretch.{isQuiet, stretched, standing, huntOn, bodyOn, stretchOf};
-ghost use Rattle.bits.specs.Bits.{bitsOf};
-ghost use Rattle.recogniser.specs.Fit.{hasField5, keeps, nibbleFits, field4Fits, field5Fits, fitOf};
 
 // Where the recogniser stands.
 pub enum Phase {
@@ -93,29 +89,22 @@ pub struct Heard {
     pub event: Event,
 }
 
-// Several cycles at once: how many, the recogniser after them, and what the last of them asks for.
-pub struct Stretch {
-    pub taken: usize,
-    pub next: Recogniser,
-    pub event: Event,
-}
-
 // The window with a new bit at its low end, and without its oldest.
-fn window_with(window: u8, bit: u8) -> u8
+pub fn window_with(window: u8, bit: u8) -> u8
     requires { ⌜ bit < 2 ⌝ }
     ensures { λ r. ⌜ r ≡ shifted 5 window bit ⌝ }
 {
     ((window << 1) | bit) & 31
 }
 
-fn nibble_with(nibble: u8, bit: u8) -> u8
+pub fn nibble_with(nibble: u8, bit: u8) -> u8
     requires { ⌜ bit < 2 ⌝ }
     ensures { λ r. ⌜ r ≡ shifted 4 nibble bit ⌝ }
 {
     ((nibble << 1) | bit) & 15
 }
 
-fn classify(window: u8) -> Meaning
+pub fn classify(window: u8) -> Meaning
     ensures { λ r. ⌜ r ≡ meaningOf window ⌝ }
 {
     match window {
@@ -123,18 +112,6 @@ fn classify(window: u8) -> Meaning
         0b11100 | 0b11111 | 0b11001 | 0b10101 | 0b01101 => Meaning::Trigger { flip: true },
         0b10110 => Meaning::Header,
         _ => Meaning::Quiet,
-    }
-}
-
-// Whether the window means nothing.
-fn is_quiet(window: u8) -> bool
-    ensures { λ r. ⌜ r ≡ isQuiet (meaningOf window) ⌝ }
-{
-    let m = classify(window);
-    match m {
-        Meaning::Quiet => true,
-        Meaning::Trigger { flip } => false,
-        Meaning::Header => false,
     }
 }
 
@@ -174,7 +151,7 @@ fn is_frame(command: u8) -> bool
 }
 
 // The cycles of Field 5, by the command and the CNT register.
-fn length(command: u8, cnt: u16) -> u32
+pub fn length(command: u8, cnt: u16) -> u32
     ensures { λ r. ⌜ r ≡ lengthOf command cnt ⌝ }
 {
     let n = cnt as u32;
@@ -258,7 +235,7 @@ fn place(command: u8, count: u32) -> u32
 
 impl Heard {
     // What was heard, and hunting on with this window.
-    fn hunting(window: u8, event: Event) -> Self
+    pub fn hunting(window: u8, event: Event) -> Self
         ensures { λ r. ⌜ r ≡ heard (startOf Hunt window 0 0) event ⌝ }
     {
         Heard {
@@ -268,7 +245,7 @@ impl Heard {
     }
 
     // What a window means, while hunting.
-    fn hunted(window: u8) -> Self
+    pub fn hunted(window: u8) -> Self
         ensures { λ r. ⌜ r ≡ huntBy window (meaningOf window) ⌝ }
     {
         let m = classify(window);
@@ -279,21 +256,6 @@ impl Heard {
                 next: Recogniser::start(Phase::Body, 0, 0, 0),
                 event: Event::Nothing,
             },
-        }
-    }
-}
-
-impl Stretch {
-    // So many cycles, of which the last was heard so.
-    fn of(taken: usize, last: Heard) -> Self
-        ensures { λ r. ⌜ r ≡ stretched taken last ⌝ }
-    {
-        let next = last.next;
-        let event = last.event;
-        Stretch {
-            taken: taken,
-            next: next,
-            event: event,
         }
     }
 }
@@ -335,7 +297,7 @@ impl Recogniser {
         Heard::hunted(window_with(self.shift, bit))
     }
 
-    fn body(self, bit: u8) -> Heard
+    pub fn body(self, bit: u8) -> Heard
         requires { ⌜ bit < 2 ⌝ }
         ensures { λ r. ⌜ r ≡ bodyOf self bit ⌝ }
     {
@@ -506,153 +468,5 @@ impl Recogniser {
             Phase::Field4 => self.field4(bit, cnt),
             Phase::Field5 => self.field5(bit, cnt),
         }
-    }
-
-    // Hunting on, up to the first window that means something or to the end.
-    fn hunt_on(self, input: &[u8], place: usize, end: usize) -> Stretch
-        requires { ⌜ (place < end) × (end ≤ 8 * length (now input)) × (length (now input) ≤ 1048576) ⌝ }
-        ensures { λ r. ⌜ r ≡ huntOn (self .shift) (bitsOf (now (input .entry)) place (end - place)) ⌝ }
-    {
-        let mut window = self.shift;
-        let mut at = place;
-        while at < end {
-            window = window_with(window, bits::bit_at(input, at));
-            at = at + 1;
-            if is_quiet(window) {
-                continue;
-            }
-            return Stretch::of(at - place, Heard::hunted(window));
-        }
-        Stretch::of(at - place, Heard::hunting(window, Event::Nothing))
-    }
-
-    // The same phase, with these bits of it received.
-    fn standing(mut self, shift: u8, count: u32) -> Recogniser
-        ensures { λ r. ⌜ r ≡ standing self shift count ⌝ }
-    {
-        self.shift = shift;
-        self.count = count;
-        self
-    }
-
-    // A body, up to its fourth bit or to the end.
-    fn body_on(self, input: &[u8], place: usize, end: usize) -> Stretch
-        requires { ⌜ (place < end) × (end ≤ 8 * length (now input)) × (length (now input) ≤ 1048576) ⌝ }
-        ensures { λ r. ⌜ r ≡ bodyOn self (bitsOf (now (input .entry)) place (end - place)) ⌝ }
-    {
-        let mut nibble = self.shift;
-        let mut count = self.count;
-        let mut at = place;
-        while at < end {
-            let bit = bits::bit_at(input, at);
-            at = at + 1;
-            if 3 <= count {
-                return Stretch::of(at - place, self.standing(nibble, count).body(bit));
-            }
-            nibble = nibble_with(nibble, bit);
-            count = count + 1;
-        }
-        Stretch {
-            taken: at - place,
-            next: self.standing(nibble, count),
-            event: Event::Nothing,
-        }
-    }
-
-    // One cycle or more of the input, up to the end at most, by the present contents of the CNT register; all but the last ask for nothing.
-    pub fn stretch(self, input: &[u8], place: usize, end: usize, cnt: u16) -> Stretch
-        requires { ⌜ (place < end) × (end ≤ 8 * length (now input)) × (length (now input) ≤ 1048576) ⌝ }
-        ensures { λ r. ⌜ r ≡ stretchOf self cnt (bitsOf (now (input .entry)) place (end - place)) ⌝ }
-    {
-        let phase = self.phase;
-        match phase {
-            Phase::Hunt => self.hunt_on(input, place, end),
-            Phase::Body => self.body_on(input, place, end),
-            Phase::Field3 => Stretch::of(1, self.field3(bits::bit_at(input, place))),
-            Phase::Field4 => Stretch::of(1, self.field4(bits::bit_at(input, place), cnt)),
-            Phase::Field5 => Stretch::of(1, self.field5(bits::bit_at(input, place), cnt)),
-        }
-    }
-
-    // Whether the bits of a body, Field 3 or Field 4 are fewer than four and fit their width.
-    fn nibble_fits(self) -> bool
-        ensures { λ r. ⌜ r ≡ nibbleFits self ⌝ }
-    {
-        if self.count < 4 {
-            return (self.shift as u32) < power(self.count);
-        }
-        false
-    }
-
-    fn field4_fits(self) -> bool
-        ensures { λ r. ⌜ r ≡ field4Fits self ⌝ }
-    {
-        if self.nibble_fits() {
-            return self.command < 16;
-        }
-        false
-    }
-
-    fn field5_fits(self, cnt: u16) -> bool
-        ensures { λ r. ⌜ r ≡ field5Fits self cnt ⌝ }
-    {
-        let command = self.command;
-        if !has_field5(command) {
-            return false;
-        }
-        if 16 <= self.address {
-            return false;
-        }
-        if length(command, cnt) <= self.count {
-            return false;
-        }
-        if keeps_bits(command) {
-            return self.held < power(self.count);
-        }
-        true
-    }
-}
-
-// Two to the power of a count of bits.
-fn power(count: u32) -> u32
-    requires { ⌜ count < 32 ⌝ }
-    ensures { λ r. ⌜ r ≡ 2 ^ count ⌝ }
-{
-    1 << count
-}
-
-// Whether the command has a Field 5.
-fn has_field5(command: u8) -> bool
-    ensures { λ r. ⌜ r ≡ hasField5 command ⌝ }
-{
-    if command <= 6 {
-        return true;
-    }
-    command == 10
-}
-
-// Whether the command keeps the bits of its Field 5.
-fn keeps_bits(command: u8) -> bool
-    ensures { λ r. ⌜ r ≡ keeps command ⌝ }
-{
-    match command {
-        0 => true,
-        2 => true,
-        10 => true,
-        _ => false,
-    }
-}
-
-// Whether a sound state may hold this recogniser, by the present contents of the CNT register.
-pub fn fit(r: Recogniser, cnt: u16) -> bool
-    ensures { λ o. ⌜ o ≡ fitOf r cnt ⌝ }
-{
-    let phase = r.phase;
-    match phase {
-        Phase::Hunt => r.shift < 32,
-        Phase::Body => r.nibble_fits(),
-        Phase::Field3 => r.nibble_fits(),
-        Phase::Field4 => r.field4_fits(),
-        Phase::Field5 => r.field5_fits(cnt),
     }
 }

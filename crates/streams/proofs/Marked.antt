@@ -2,15 +2,15 @@
 -- Assumes nothing.
 use mathlib.Core.Path.{refl}
 use Rattle.recogniser.specs.Step.{stepOf}
-use Rattle.recogniser.specs.Fit.{fitOf}
+use Rattle.decoder.specs.Fit.{fitOf}
 use Rattle.frames.specs.Tray.{trayOf}
 use Rattle.controller.specs.Plan.{planFits}
 use Rattle.controller.specs.Sound.{everyFrom, pointersFit, missingZero}
 use Rattle.controller.specs.Fifos.{writeOf}
 use Rattle.controller.specs.Commands.{actOf}
 use Rattle.decoder.specs.Sound.{soundOf}
-use Rattle.decoder.specs.Turn.{turnOf}
-use Rattle.decoder.specs.Take.{takenOf, takeOf}
+use Rattle.taking.specs.Turn.{turnOf}
+use Rattle.taking.specs.Take.{takenOf, takeOf}
 use Rattle.streams.specs.Marked.{MarkedStreams}
 
 pub marked : MarkedStreams

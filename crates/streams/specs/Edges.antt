@@ -19,10 +19,10 @@ use Rattle.controller.specs.Records.{frameBitsOf}
 use Rattle.decoder.specs.declared.Decoder.{Decoder}
 use Rattle.decoder.specs.Limits.{clockLimit, storeLength, trayLength}
 use Rattle.decoder.specs.declared.Opening.the-variants.{Accepted}
-use Rattle.decoder.specs.declared.Ending.the-variants.{Done, Frame, ClockOver}
+use Rattle.taking.specs.declared.Ending.the-variants.{Done, Frame, ClockOver}
 use Rattle.decoder.specs.Opening.{openedAt, openOf, opened}
-use Rattle.decoder.specs.Take.{Call, takeOf, endingNumber}
-use Rattle.decoder.specs.Calls.{wordsStanding}
+use Rattle.taking.specs.Take.{Call, takeOf, endingNumber}
+use Rattle.taking.specs.Calls.{wordsStanding}
 use Rattle.streams.specs.Marked.{running}
 
 -- The recogniser at the start of a WrFrontEnd's Field 5, and with so many of its bits received.

@@ -9,12 +9,12 @@ use Rattle.bits.specs.Bits.{numberOf}
 use Rattle.controller.specs.Plan.{defaultPlan}
 use Rattle.controller.specs.Parts.{withRunning, withRegisters}
 use Rattle.decoder.specs.declared.Decoder.{Decoder}
-use Rattle.decoder.specs.declared.Ending.{Ending}
+use Rattle.taking.specs.declared.Ending.{Ending}
 use Rattle.decoder.specs.Limits.{storeLength, trayLength}
-use Rattle.decoder.specs.Entries.{entryWords}
+use Rattle.taking.specs.Entries.{entryWords}
 use Rattle.decoder.specs.Opening.{openedAt}
-use Rattle.decoder.specs.Take.{Call, takeOf}
-use Rattle.decoder.specs.Calls.{wordsStanding}
+use Rattle.taking.specs.Take.{Call, takeOf}
+use Rattle.taking.specs.Calls.{wordsStanding}
 use Rattle.streams.specs.Table.{Row, table}
 
 -- Bits packed into bytes, highest bit first, the last byte filled up with zeros.

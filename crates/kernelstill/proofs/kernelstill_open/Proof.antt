@@ -8,7 +8,7 @@ use borrow.Author.Needs.{needs}
 use Rattle.controller.specs.declared.Plan.{Plan}
 use Rattle.decoder.specs.declared.Opened.{Opened}
 use Rattle.decoder.specs.Opening.{openOf}
-use Rattle.decoder.proofs.Stays.{start-sound}
+use Rattle.taking.proofs.Stays.{start-sound}
 use Rattle.image.specs.Image.{imageLength, imageOf, stateOf}
 use Rattle.kernelstill.specs.Open.{OpenLeft, planOf, openedInto, openLeftOf}
 use Rattle.kernelstill.specs.Take.{Holds}

@@ -4,7 +4,7 @@ use Prim.Native.Nat.{_-_, _≤_}
 use native.Mathlib.Omega.{arith}
 use mathlib.Core.Path.{refl}
 use borrow.Author.Needs.{needs}
-use Rattle.listing.proofs.Puts.{Left, begun, over}
+use Rattle.text.proofs.Puts.{Left, begun, over}
 use Rattle.lister.specs.State.{textsFrom, pointersText}
 use Rattle.lister.proofs.States.{texts-put, texts-over}
 use Rattle.lister.proofs.put_pointers.Statement.{statement}

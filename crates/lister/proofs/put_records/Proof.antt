@@ -4,7 +4,7 @@ use Prim.Native.Nat.{_*_, _-_, _/_, _≤_}
 use native.Mathlib.Omega.{arith}
 use lib.ListN.{length, drop}
 use borrow.Author.Needs.{needs}
-use Rattle.listing.proofs.Puts.{Left, begun, over}
+use Rattle.text.proofs.Puts.{Left, begun, over}
 use Rattle.lister.specs.Listing.{wordsText}
 use Rattle.lister.proofs.Records.{words-room, words-again, words-over}
 use Rattle.lister.proofs.put_records.Statement.{statement}

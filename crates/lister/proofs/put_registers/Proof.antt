@@ -5,7 +5,7 @@ use native.Mathlib.Omega.{arith}
 use mathlib.Core.Path.{sym, _∙_}
 use borrow.Author.Needs.{needs}
 use borrow.Author.Tests.{not-true, not-false}
-use Rattle.listing.proofs.Puts.{Left, begun, over}
+use Rattle.text.proofs.Puts.{Left, begun, over}
 use Rattle.lister.specs.State.{textsFrom, registerText}
 use Rattle.lister.proofs.States.{texts-put, texts-none, texts-over}
 use Rattle.lister.proofs.put_registers.Statement.{statement}

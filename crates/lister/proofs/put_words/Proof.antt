@@ -6,7 +6,7 @@ use mathlib.Core.Path.{_≡_, refl}
 use lib.ListN.{length}
 use borrow.Author.Needs.{needs}
 use borrow.Author.Tests.{eq-eqb, ne-eqb}
-use Rattle.listing.proofs.Puts.{Left, over}
+use Rattle.text.proofs.Puts.{Left, over}
 use Rattle.lister.specs.State.{textsFrom, wordText}
 use Rattle.lister.proofs.States.{texts-begun, texts-put, texts-none, texts-over}
 use Rattle.lister.proofs.put_words.Statement.{statement}

@@ -7,7 +7,7 @@ use lib.ListN.{length}
 use borrow.Author.Needs.{needs}
 use borrow.Author.Tests.{leb-true, leb-false, not-true, not-false}
 use Rattle.listing.specs.Records.{lineOf}
-use Rattle.listing.proofs.Puts.{Left, begun, room, again, put-fits, put-over}
+use Rattle.text.proofs.Puts.{Left, begun, room, again, put-fits, put-over}
 use Rattle.listing.proofs.Texts.{line-length}
 use Rattle.listing.proofs.put_line.Statement.{statement}
 use Rattle.listing.proofs.put_line.Tie as tie

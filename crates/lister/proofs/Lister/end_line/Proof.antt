@@ -3,9 +3,9 @@
 use mathlib.Core.Path.{_≡_, sym, ap, _∙_}
 use native.Mathlib.Omega.{arith}
 use borrow.Author.Needs.{needs}
-use Rattle.listing.specs.declared.HexLine.{HexLine}
-use Rattle.listing.specs.Line.{hexNumber}
-use Rattle.listing.specs.Lines.{answerOf}
+use Rattle.hexlines.specs.declared.HexLine.{HexLine}
+use Rattle.hexlines.specs.Line.{hexNumber}
+use Rattle.hexlines.specs.Lines.{answerOf}
 use Rattle.lister.specs.Going.{going}
 use Rattle.lister.proofs.Ends.{fit, refused, accepted}
 use Rattle.lister.proofs.Lister.end_line.Statement.{statement}

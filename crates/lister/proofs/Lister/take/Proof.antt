@@ -6,7 +6,7 @@ use native.Mathlib.Omega.{arith}
 use lib.ListN.{length, take, replicate}
 use lib.Seq.{length-take-le}
 use borrow.Author.Needs.{needs}
-use Rattle.decoder.specs.Take.{Left}
+use Rattle.taking.specs.Take.{Left}
 use Rattle.lister.specs.Going.{Going, going}
 use Rattle.lister.proofs.Takes.{Took}
 use Rattle.lister.proofs.Turns.{callOf, call-took, call-fits, takes}

@@ -1,0 +1,37 @@
+-- The lengths of Field 5 of the commands that keep their bits, and of those that have none.
+-- Assumes nothing.
+use mathlib.Core.Path.{_≡_}
+use mathlib.Core.Bool.{_||_}
+use mathlib.Core.Logic.{⊎-elim}
+use Prim.Native.Nat.{ℕ, _≤_, _<_}
+use native.Mathlib.Omega.{arith}
+use borrow.Author.Tests.{lt-leb, ne-eqb}
+use lib.Dec.{T, leb, eqb, eqb→eq, nleb→lt, lit≤, T-not}
+use Rattle.bits.proofs.Truth.{or-case, or-else, stable}
+use Rattle.recogniser.specs.Fields.{lengthOf}
+use Rattle.decoder.specs.Fit.{hasField5, keeps}
+
+-- What is kept of a Field 5 is at most 27 bits.
+pub kept-most : (command cnt : ℕ) → T (keeps command) → lengthOf command cnt ≤ 27
+kept-most command cnt t =
+    ⊎-elim (λ e. rw (eqb→eq command 0 e) (lit≤ tt))
+    (λ u. ⊎-elim (λ e. rw (eqb→eq command 2 e) (lit≤ tt)) (λ e. rw (eqb→eq command 10 e) (lit≤ tt))
+    (or-case (eqb command 2) (eqb command 10) u))
+    (or-case (eqb command 0) (eqb command 2 || eqb command 10) t)
+
+length-none : (command cnt : ℕ) → 6 < command → (command ≡ 10 → ⊥) → lengthOf command cnt ≡ 0
+length-none command cnt h n =
+    simp (
+      lt-leb command 1 (omega arith),
+      lt-leb command 3 (omega arith),
+      lt-leb command 5 (omega arith),
+      ne-eqb command 6 (omega arith),
+      ne-eqb command 10 n,
+    )
+
+-- A command with bits of Field 5 is one that has it.
+pub length-has : (command cnt : ℕ) → 0 < lengthOf command cnt → T (hasField5 command)
+length-has command cnt h =
+    or-else (leb command 6) (eqb command 10)
+    (λ t. stable (eqb command 10)
+    (λ n. omega (arith, length-none command cnt (nleb→lt command 6 t) (λ e. T-not (eqb command 10) n (rw e tt)))))

@@ -1,0 +1,166 @@
+-- A step keeps a recogniser fit, phase by phase.
+-- Assumes nothing.
+use mathlib.Core.Path.{_≡_, refl, ap}
+use mathlib.Core.Bool.{Bool, not, _||_}
+use Prim.Native.Nat.{ℕ, _+_, _^_, _<_}
+use native.Mathlib.Omega.{arith}
+use lib.Dec.{T, ltb, eqb, ltb→lt, lt→ltb, nleb→lt}
+use lib.Ieee.Fits.{and-i, and-l, and-r}
+use Rattle.bits.proofs.Truth.{cond-case, cond-taken}
+use Rattle.recogniser.specs.declared.Phase.{Phase}
+use Rattle.recogniser.specs.declared.Phase.the-variants.{Hunt, Body, Field3, Field4, Field5}
+use Rattle.recogniser.specs.declared.Meaning.{Meaning}
+use Rattle.recogniser.specs.declared.Meaning.the-variants.{Quiet, Trigger, Header}
+use Rattle.recogniser.specs.declared.Recogniser.{Recogniser}
+use Rattle.recogniser.specs.declared.Group.{Group}
+use Rattle.recogniser.specs.declared.Heard.{Heard}
+use Rattle.recogniser.specs.Parts.{shifted, startOf, gatheredOf}
+use Rattle.recogniser.specs.Hunting.{isFast, meaningOf, huntBy, bodyOf}
+use Rattle.recogniser.specs.Fields.{isFrame, lengthOf, endsOf, keptOf, field3Of, field4Of}
+use Rattle.recogniser.specs.Groups.{groupOf, unsteadyOf}
+use Rattle.recogniser.specs.Step.{field5Of, stepBy, stepOf}
+use Rattle.decoder.specs.Fit.{hasField5, keeps, nibbleFits, field4Fits, heldFits, field5Fits, fitBy, fitOf}
+use Rattle.recogniser.proofs.Shift.{below, wider, grown}
+use Rattle.decoder.proofs.Field5.{length-has}
+
+-- What the test of Field 5 says.
+record InField5 (r : Recogniser) (cnt : ℕ) : Type 0 where
+  has : T (hasField5 (r .command))
+  address : r .address < 16
+  count : r .count < lengthOf (r .command) cnt
+  held : T (keeps (r .command)) → r .held < 2 ^ r .count
+
+module _ (r : Recogniser) where
+  nibble : r .count < 4 → r .shift < 2 ^ r .count → T (nibbleFits r)
+  nibble p q = and-i (ltb (r .count) 4) _ (lt→ltb (r .count) 4 p) (lt→ltb (r .shift) (2 ^ r .count) q)
+
+  shift-fits : T (nibbleFits r) → r .shift < 2 ^ r .count
+  shift-fits t = ltb→lt (r .shift) (2 ^ r .count) (and-r (ltb (r .count) 4) _ t)
+
+  in-field5 : (cnt : ℕ) → InField5 r cnt → T (field5Fits r cnt)
+  in-field5 cnt f =
+      and-i (hasField5 (r .command)) _ (f .has)
+      (and-i (ltb (r .address) 16) _ (lt→ltb (r .address) 16 (f .address))
+      (and-i (ltb (r .count) (lengthOf (r .command) cnt)) _ (lt→ltb (r .count) _ (f .count))
+      (cond-case T (keeps (r .command)) (λ k. lt→ltb (r .held) (2 ^ r .count) (f .held k)) (λ _. tt))))
+
+  of-field5 : (cnt : ℕ) → T (field5Fits r cnt) → InField5 r cnt
+  of-field5 cnt t =
+      let u = and-r (hasField5 (r .command)) _ t in
+      let v = and-r (ltb (r .address) 16) _ u in
+      let w = and-r (ltb (r .count) (lengthOf (r .command) cnt)) (heldFits r) v in
+      record {
+        has = and-l (hasField5 (r .command)) _ t;
+        address = ltb→lt (r .address) 16 (and-l (ltb (r .address) 16) _ u);
+        count = ltb→lt (r .count) _ (and-l (ltb (r .count) (lengthOf (r .command) cnt)) _ v);
+        held = λ k. ltb→lt (r .held) (2 ^ r .count) (rw (cond-taken (keeps (r .command)) _ _ k) at w);
+      }
+
+-- One bit further in Field 5, with what is held then.
+abbrev further : Recogniser → ℕ → Group → Bool → Recogniser
+further r held group unsteady = record {
+  phase = r .phase;
+  shift = r .shift;
+  count = r .count + 1;
+  command = r .command;
+  address = r .address;
+  held = held;
+  group = group;
+  unsteady = unsteady;
+}
+
+abbrev pub Fit : ℕ → Heard → Type 0
+Fit cnt h = T (fitOf (h .next) cnt)
+
+pub hunt-fits : (w cnt : ℕ) → w < 32 → (m : Meaning) → Fit cnt (huntBy w m)
+unfolding fitOf
+hunt-fits w cnt h Quiet = lt→ltb w 32 h
+hunt-fits w cnt h (Trigger flip) = tt
+hunt-fits w cnt h Header = tt
+
+module _ (r : Recogniser) (bit cnt : ℕ) (b : bit < 2) where
+  gathered : T (nibbleFits r) → T (ltb (r .count) 3) → T (nibbleFits (gatheredOf r (shifted 4 (r .shift) bit) .next))
+  gathered t q =
+      nibble (gatheredOf r (shifted 4 (r .shift) bit) .next)
+      (omega (arith, ltb→lt (r .count) 3 q))
+      (grown (r .shift) bit b 4 (r .count) (shift-fits r t))
+
+  pub body-fits : r .phase ≡ Body → T (nibbleFits r) → Fit cnt (bodyOf r bit)
+  unfolding fitOf
+  body-fits e t =
+      cond-case (Fit cnt) (ltb (r .count) 3) (λ q. rw e (gathered t q))
+      (λ _. cond-case (Fit cnt) (isFast (shifted 4 (r .shift) bit)) (λ _. tt)
+      (λ _. cond-case (Fit cnt) (eqb (shifted 4 (r .shift) bit) 0b1011) (λ _. tt) (λ _. tt)))
+
+  pub field3-fits : r .phase ≡ Field3 → T (nibbleFits r) → Fit cnt (field3Of r bit)
+  unfolding fitOf
+  field3-fits e t =
+      cond-case (Fit cnt) (ltb (r .count) 3) (λ q. rw e (gathered t q))
+      (λ _. lt→ltb (shifted 4 (r .shift) bit) 16 (below 4 (r .shift) bit))
+
+  pub field4-fits : r .phase ≡ Field4 → T (field4Fits r) → Fit cnt (field4Of r bit cnt)
+  unfolding fitOf
+  field4-fits e t =
+      cond-case (Fit cnt) (ltb (r .count) 3)
+      (λ q. rw e
+      (and-i (nibbleFits (gatheredOf r (shifted 4 (r .shift) bit) .next)) _
+      (gathered (and-l (nibbleFits r) _ t) q) (and-r (nibbleFits r) _ t)))
+      (λ _. cond-case (Fit cnt) (ltb 0 (lengthOf (r .command) cnt))
+      (λ q. in-field5 (startOf Field5 0 (r .command) (shifted 4 (r .shift) bit)) cnt (record {
+        has = length-has (r .command) cnt (ltb→lt 0 _ q);
+        address = below 4 (r .shift) bit;
+        count = ltb→lt 0 _ q;
+        held = λ _. omega arith;
+      }))
+      (λ _. cond-case (Fit cnt) (isFrame (r .command)) (λ _. tt) (λ _. tt)))
+
+  -- Field 5 goes on.
+  goes-on : (held : ℕ) (group : Group) (unsteady : Bool) →
+      T (field5Fits r cnt) → T (not (endsOf r cnt)) → (T (keeps (r .command)) → held < 2 ^ (r .count + 1)) →
+      T (field5Fits (further r held group unsteady) cnt)
+  goes-on held group unsteady t q k =
+      let f = of-field5 r cnt t in
+      in-field5 (further r held group unsteady) cnt (record {
+        has = f .has;
+        address = f .address;
+        count = nleb→lt (lengthOf (r .command) cnt) (r .count + 1) q;
+        held = k;
+      })
+
+  kept-fits : r .held < 2 ^ r .count → keptOf (r .command) (r .held) bit < 2 ^ (r .count + 1)
+  kept-fits h =
+      let g = grown (r .held) bit b 32 (r .count) h in
+      cond-case (λ (v : ℕ). v < 2 ^ (r .count + 1)) (eqb (r .command) 1 || eqb (r .command) 3) (λ _. omega arith) (λ _. g)
+
+  pub field5-fits : r .phase ≡ Field5 → T (field5Fits r cnt) → Fit cnt (field5Of r bit cnt)
+  unfolding fitOf
+  field5-fits e t =
+      let h = of-field5 r cnt t .held in
+      cond-case (Fit cnt) (isFrame (r .command))
+      (λ _. cond-case (Fit cnt) (endsOf r cnt) (λ _. tt)
+      (λ q. rw e
+      (goes-on (r .held) (groupOf (r .group) (r .count) bit) (unsteadyOf r bit) t q (λ k. wider (r .held) (r .count) (h k)))))
+      (λ _. cond-case (Fit cnt) (endsOf r cnt) (λ _. tt)
+      (λ q. rw e (goes-on (keptOf (r .command) (r .held) bit) (r .group) (r .unsteady) t q (λ k. kept-fits (h k)))))
+
+-- The test by the phase.
+pub fit-at : (r : Recogniser) (cnt : ℕ) {p : Phase} → r .phase ≡ p → fitOf r cnt ≡ fitBy p r cnt
+unfolding fitOf
+fit-at r cnt e = ap (λ (q : Phase). fitBy q r cnt) e
+
+-- The start of a hunt is fit.
+pub start-fits : (cnt : ℕ) → T (fitOf (startOf Hunt 0 0 0) cnt)
+unfolding fitOf
+start-fits cnt = tt
+
+step-fits-by : (r : Recogniser) (bit cnt : ℕ) → bit < 2 → (p : Phase) → r .phase ≡ p → T (fitBy p r cnt) → Fit cnt (stepBy p r bit cnt)
+step-fits-by r bit cnt b Hunt e t = hunt-fits (shifted 5 (r .shift) bit) cnt (below 5 (r .shift) bit) (meaningOf (shifted 5 (r .shift) bit))
+step-fits-by r bit cnt b Body e t = body-fits r bit cnt b e t
+step-fits-by r bit cnt b Field3 e t = field3-fits r bit cnt b e t
+step-fits-by r bit cnt b Field4 e t = field4-fits r bit cnt b e t
+step-fits-by r bit cnt b Field5 e t = field5-fits r bit cnt b e t
+
+-- A step keeps a recogniser fit.
+pub step-fits : (r : Recogniser) (bit cnt : ℕ) → bit < 2 → T (fitOf r cnt) → T (fitOf (stepOf r bit cnt .next) cnt)
+unfolding stepOf fitOf
+step-fits r bit cnt b t = step-fits-by r bit cnt b (r .phase) refl t

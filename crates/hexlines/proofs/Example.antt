@@ -1,0 +1,48 @@
+-- Lines of document 01 and some others, computed from the definitions.
+-- Assumes nothing.
+use mathlib.Core.List.{List, [], _∷_, _++_}
+use mathlib.Core.Path.{_≡_, refl}
+use Prim.Native.Char.{code}
+use Prim.Native.Nat.{ℕ}
+use lib.ListN.{replicate}
+use Rattle.text.specs.Text.{ascii}
+use Rattle.hexlines.specs.Line.{Hex, hexOf, refused}
+use Rattle.hexlines.specs.Lines.{linesFrom, linesOf, hexesOf, fresh, withCharacter, answerOf, saidBy, saidFrom}
+
+abbrev fit : List ℕ → Hex
+fit bytes = record { number = 0; bytes = bytes }
+
+-- The two lines of document 01's listing; an empty line; a lower-case digit; a space; an odd count; a wrong character with an odd count; 64 digits, and 66.
+abbrev input : List ℕ
+input =
+    ascii "B5C074\nE0B080\n\n0a\n0 \nABC\nG\n" ++ replicate 64 (code "F") ++ ascii "\n" ++ replicate 66 (code "F") ++ ascii "\n"
+
+abbrev answers : List Hex
+answers =
+    fit (0xB5 ∷ 0xC0 ∷ 0x74 ∷ [])
+    ∷ fit (0xE0 ∷ 0xB0 ∷ 0x80 ∷ [])
+    ∷ fit []
+    ∷ refused 7
+    ∷ refused 7
+    ∷ refused 8
+    ∷ refused 7
+    ∷ fit (replicate 32 0xFF)
+    ∷ refused 8
+    ∷ []
+
+pub by-lines : hexesOf (linesOf input) ≡ answers
+unfolding linesFrom hexesOf hexOf
+by-lines = refl
+
+pub by-characters : saidFrom fresh input ≡ answers
+unfolding saidFrom withCharacter saidBy answerOf
+by-characters = refl
+
+-- "A line ends at a line feed or at the end of the input; nothing after the last line feed is no line."
+pub ends : linesOf (ascii "AB\nCD") ≡ ascii "AB" ∷ ascii "CD" ∷ []
+unfolding linesFrom
+ends = refl
+
+pub none : linesOf [] ≡ []
+unfolding linesFrom
+none = refl

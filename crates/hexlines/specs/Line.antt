@@ -1,0 +1,58 @@
+-- The hexadecimal line: what it says, and what a call that reads one answers (document 01, "A taking call": the refusal table).
+-- Assumes nothing.
+use mathlib.Core.Bool.{Bool, cond, _&&_}
+use mathlib.Core.List.{List, []}
+use Prim.Native.Nat.{ℕ, _%_}
+use lib.Dec.{leb, eqb}
+use lib.ListN.{length}
+use lib.Seq.{sets}
+use Rattle.hexlines.specs.declared.HexLine.{HexLine}
+use Rattle.hexlines.specs.declared.HexLine.the-variants.{Bytes, WrongCharacter, WrongLength}
+use Rattle.hexlines.specs.Digits.{allDigits, bytesOf}
+
+-- A line's refusal number, 0 for none, and its bytes.
+pub record Hex : Type 0 where
+  pub number : ℕ
+  pub bytes : List ℕ
+
+-- "a refused line gives no bytes"
+abbrev pub refused : ℕ → Hex
+refused number = record { number = number; bytes = [] }
+
+-- Number 8, turned round: "the count of digits is odd, or above 64".
+abbrev pub countFits : ℕ → Bool
+countFits n = eqb (n % 2) 0 && leb n 64
+
+-- Number 7 at "a character is not 0-9 or A-F", else number 8, else the bytes: "the lowest number wins".
+unfoldable pub hexOf : List ℕ → Hex
+hexOf line =
+    cond (allDigits line)
+    (cond (countFits (length line)) (record { number = 0; bytes = bytesOf line }) (refused 8))
+    (refused 7)
+
+-- The refusal number of each answer; 0 is none.
+abbrev pub hexNumber : HexLine → ℕ
+hexNumber (Bytes count) = 0
+hexNumber WrongCharacter = 7
+hexNumber WrongLength = 8
+
+-- How many bytes each answer tells.
+abbrev pub hexCount : HexLine → ℕ
+hexCount (Bytes count) = count
+hexCount WrongCharacter = 0
+hexCount WrongLength = 0
+
+-- An answer by its number and count, with the lent buffer's later contents.
+pub record Read : Type 0 where
+  pub number : ℕ
+  pub count : ℕ
+  pub buffer : List ℕ
+
+abbrev pub readAs : HexLine → List ℕ → Read
+readAs answer buffer = record { number = hexNumber answer; count = hexCount answer; buffer = buffer }
+
+-- The line's bytes stand at the buffer's start, and nothing else in it changes; a refused line changes nothing.
+unfoldable pub readOf : List ℕ → List ℕ → Read
+readOf line buffer =
+    let hex = hexOf line in
+    record { number = hex .number; count = length (hex .bytes); buffer = sets buffer 0 (hex .bytes) }

@@ -1,0 +1,74 @@
+-- Several cycles at once, as the taking loop walks them: hunting up to the first window that means something, a body up to its end, else one cycle.
+-- How far a stretch goes is no promise to anybody: `proofs/Stretches.antt` shows that each is as many single cycles, all but the last of which ask for nothing.
+-- Assumes nothing.
+use mathlib.Core.Bool.{Bool, true, false, cond}
+use mathlib.Core.List.{List, [], _∷_}
+use Prim.Native.Nat.{ℕ, suc}
+use lib.Dec.{ltb}
+use Rattle.recogniser.specs.declared.Phase.{Phase}
+use Rattle.recogniser.specs.declared.Phase.the-variants.{Hunt, Body, Field3, Field4, Field5}
+use Rattle.recogniser.specs.declared.Meaning.{Meaning}
+use Rattle.recogniser.specs.declared.Meaning.the-variants.{Quiet, Trigger, Header}
+use Rattle.recogniser.specs.declared.Event.the-variants.{Nothing, Lv1}
+use Rattle.recogniser.specs.declared.Recogniser.{Recogniser}
+use Rattle.recogniser.specs.declared.Heard.{Heard}
+use Rattle.stretches.specs.declared.Stretch.{Stretch}
+use Rattle.recogniser.specs.Parts.{shifted, startOf, idle, heard}
+use Rattle.recogniser.specs.Hunting.{meaningOf, bodyOf}
+use Rattle.recogniser.specs.Step.{stepOf}
+
+-- So many cycles, where the recogniser stands after them, and what the last of them asks for.
+abbrev pub stretched : ℕ → Heard → Stretch
+stretched taken h = record { taken = taken; next = h .next; event = h .event }
+
+abbrev pub oneMore : Stretch → Stretch
+oneMore s = record { taken = suc (s .taken); next = s .next; event = s .event }
+
+-- The same phase, with these bits of it received.
+abbrev pub standing : Recogniser → ℕ → ℕ → Recogniser
+standing r shift count = record {
+  phase = r .phase;
+  shift = shift;
+  count = count;
+  command = r .command;
+  address = r .address;
+  held = r .held;
+  group = r .group;
+  unsteady = r .unsteady;
+}
+
+-- Whether a window's meaning is nothing.
+abbrev pub isQuiet : Meaning → Bool
+isQuiet Quiet = true
+isQuiet (Trigger flip) = false
+isQuiet Header = false
+
+-- Hunting with a window.
+abbrev pub huntBeyond : ℕ → Meaning → Stretch → Stretch
+huntBeyond w Quiet rest = oneMore rest
+huntBeyond w (Trigger flip) rest = stretched 1 (heard idle (Lv1 flip))
+huntBeyond w Header rest = stretched 1 (heard (startOf Body 0 0 0) Nothing)
+
+abbrev pub huntOn : ℕ → List ℕ → Stretch
+huntOn w [] = stretched 0 (heard (startOf Hunt w 0 0) Nothing)
+huntOn w (bit ∷ bits) = let v = shifted 5 w bit in huntBeyond v (meaningOf v) (huntOn v bits)
+
+-- A body.
+abbrev pub bodyOn : Recogniser → List ℕ → Stretch
+bodyOn r [] = stretched 0 (heard r Nothing)
+bodyOn r (bit ∷ bits) = cond (ltb (r .count) 3) (oneMore (bodyOn (bodyOf r bit .next) bits)) (stretched 1 (bodyOf r bit))
+
+-- One cycle.
+abbrev pub stepOn : Recogniser → ℕ → List ℕ → Stretch
+stepOn r cnt [] = stretched 0 (heard r Nothing)
+stepOn r cnt (bit ∷ bits) = stretched 1 (stepOf r bit cnt)
+
+abbrev pub stretchBy : Phase → Recogniser → ℕ → List ℕ → Stretch
+stretchBy Hunt r cnt bits = huntOn (r .shift) bits
+stretchBy Body r cnt bits = bodyOn r bits
+stretchBy Field3 r cnt bits = stepOn r cnt bits
+stretchBy Field4 r cnt bits = stepOn r cnt bits
+stretchBy Field5 r cnt bits = stepOn r cnt bits
+
+unfoldable pub stretchOf : Recogniser → ℕ → List ℕ → Stretch
+stretchOf r cnt bits = stretchBy (r .phase) r cnt bits

@@ -1,0 +1,9 @@
+pub mod Ranges
+pub mod Runs
+pub mod Ends
+pub mod Calls
+pub mod Refusals
+pub mod Stretched
+pub mod Loop
+pub mod Slows
+pub mod Stays

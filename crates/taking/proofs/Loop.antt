@@ -1,0 +1,266 @@
+-- What the taking loop keeps, and what each way through its body does to that.
+-- Assumes nothing.
+use mathlib.Core.Path.{_≡_, _∙_, refl, sym, ap}
+use mathlib.Core.Bool.{true, false, cond}
+use mathlib.Core.List.{List, _∷_, _++_}
+use Prim.Native.Nat.{ℕ, zero, suc, _+_, _-_, _/_, _<_, _≤_}
+use native.Mathlib.Nat.{add-zero}
+use native.Mathlib.Omega.{arith}
+use borrow.Author.Tests.{lt-ltb}
+use lib.ListN.{length, set, take, drop, length-set, length-take, length-drop, take-append-drop}
+use lib.Seq.{sets, set-append-left, take-set-le, drop-set-add}
+use Rattle.bits.specs.Bits.{bitOf, bitsOf}
+use Rattle.recogniser.specs.declared.Event.the-variants as event
+use Rattle.recogniser.specs.declared.Recogniser.{Recogniser}
+use Rattle.stretches.specs.declared.Stretch.{Stretch}
+use Rattle.stretches.specs.Stretch.{stretchOf}
+use Rattle.stretches.proofs.Stretches.{Passes, ends, last, more, stretch-passes, stretch-some, stretch-within}
+use Rattle.frames.specs.Tray.{trayOf}
+use Rattle.controller.specs.declared.Model.{Model}
+use Rattle.controller.specs.declared.Acted.{Acted}
+use Rattle.controller.specs.declared.Cycle.the-variants.{Nothing, Record}
+use Rattle.controller.specs.Registers.{cntOf}
+use Rattle.controller.specs.Records.{isFrameHead}
+use Rattle.controller.specs.Commands.{Effect, actOf}
+use Rattle.controller.specs.Sound.{eventFits}
+use Rattle.controller.proofs.Heard.{heard-fits}
+use Rattle.decoder.specs.declared.Decoder.{Decoder}
+use Rattle.taking.specs.declared.Ending.{Ending}
+use Rattle.taking.specs.declared.Ending.the-variants.{Done, Frame, ListFull}
+use Rattle.taking.specs.Run.{Run, ended, oneBit, oneRecord, afterCycle, runOf}
+use Rattle.taking.specs.Turn.{World, turnOf}
+use Rattle.taking.specs.Take.{Call, Left, finished, takenOf}
+use Rattle.taking.proofs.Stretched.{landed, bitsAhead, run-stretch}
+
+-- The world that the loop's locals make up, and the bits that are left.
+abbrev pub worldAt : Decoder → List ℕ → List ℕ → Recogniser → Model → ℕ → World
+worldAt d store tray r m taken = record {
+  decoder = record { plan = d .plan; next = d .next + taken; recogniser = r; model = m };
+  store = store;
+  tray = tray;
+}
+
+abbrev pub left : Call → ℕ → List ℕ
+left c taken = bitsOf (c .input) (c .first + taken) (c .count - taken)
+
+-- The answer at an end of the loop.
+abbrev pub answered : Call → World → ℕ → ℕ → Ending → List ℕ → Left
+answered c w taken at ending list = record {
+  taken = record { decoder = w .decoder; told = record { bits = taken; records = (at - c .free) / 2; ending = ending } };
+  store = w .store;
+  tray = w .tray;
+  list = list;
+}
+
+-- The run that is left, finished onto what is taken and written so far, is the whole call.
+pub record Going (d : Decoder) (c : Call) (store tray list : List ℕ) (r : Recogniser) (m : Model) (cnt taken at : ℕ) : Type 0 where
+  pub low : taken ≤ c .count
+  pub from : c .free ≤ at
+  pub fits : at ≤ length list
+  pub same : length list ≡ length (c .list)
+  pub long : length store ≡ length (c .store)
+  pub wide : length tray ≡ length (c .tray)
+  pub cnt-is : cnt ≡ cntOf (d .plan) m
+  pub rest : finished taken ((at - c .free) / 2) list at (runOf turnOf (left c taken) (worldAt d store tray r m taken) (length list - at)) ≡ takenOf d c
+
+pub begun : (d : Decoder) (c : Call) (cnt : ℕ) → c .free ≤ length (c .list) → cnt ≡ cntOf (d .plan) (d .model)
+    → Going d c (c .store) (c .tray) (c .list) (d .recogniser) (d .model) cnt 0 (c .free)
+unfolding takenOf
+begun d c cnt h e =
+    let a : c .first + 0 ≡ c .first = omega arith in
+    let b : d .next + 0 ≡ d .next = omega arith in
+    let s : c .count - 0 ≡ c .count = omega arith in
+    let z : (c .free - c .free) / 2 ≡ 0 = omega arith in
+    record { low = omega arith; from = omega arith; fits = h; same = refl; long = refl; wide = refl; cnt-is = e; rest = rw (a, b, s, z) }
+
+-- an end of the run
+ending : (c : Call) (w : World) (e : Ending) (taken at : ℕ) (list : List ℕ)
+    → answered c w taken at e list ≡ finished taken ((at - c .free) / 2) list at (ended w e)
+ending c w e taken at list = simp add-zero
+
+-- the bits left, where one is; and those after some of them
+one-bit : (s : List ℕ) (place n : ℕ) → 0 < n → bitsOf s place n ≡ bitOf s place ∷ bitsOf s (place + 1) (n - 1)
+one-bit s place zero h = absurd (omega arith)
+one-bit s place (suc n) h = let e : suc n - 1 ≡ n = omega arith in rw e
+
+pub length-bits : (s : List ℕ) (place n : ℕ) → length (bitsOf s place n) ≡ n
+length-bits s place zero = refl
+length-bits s place (suc n) = ap suc (length-bits s (place + 1) n)
+
+drop-bits : (s : List ℕ) (place n k : ℕ) → k ≤ n → drop k (bitsOf s place n) ≡ bitsOf s (place + k) (n - k)
+drop-bits s place n zero h = let e : place + 0 ≡ place = omega arith in let f : n - 0 ≡ n = omega arith in rw (e, f)
+drop-bits s place zero (suc k) h = absurd (omega arith)
+drop-bits s place (suc n) (suc k) h =
+    let e : place + 1 + k ≡ place + suc k = omega arith in
+    let f : suc n - suc k ≡ n - k = omega arith in
+    rw f (drop-bits s (place + 1) n k (omega arith) ∙ ap (λ p. bitsOf s p (n - k)) e)
+
+-- a record through the part of the list that begins at its place
+pub two-put : (l : List ℕ) (at x v : ℕ) → 2 ≤ length l - at
+    → take at l ++ (set (set (take (length l - at) (drop at l)) 0 x) 1 v ++ drop (length l - at) (drop at l)) ≡ set (set l at x) (at + 1) v
+two-put l at x v h =
+    let m = take (length l - at) (drop at l) in
+    let n : 0 < length m = simp (length-take, length-drop) (omega arith) in
+    let n₁ : 1 < length (set m 0 x) = simp (length-set, length-take, length-drop) (omega arith) in
+    let left : set (set m 0 x) 1 v ++ drop (length l - at) (drop at l) ≡ set (set (drop at l) 0 x) 1 v =
+    sym (set-append-left (set m 0 x) _ 1 v n₁)
+    ∙ ap (λ (z : List ℕ). set z 1 v) (sym (set-append-left m _ 0 x n) ∙ ap (λ (z : List ℕ). set z 0 x) (take-append-drop (length l - at) (drop at l)))
+    in
+    let z : at + 0 ≡ at = add-zero at in
+    let right : drop at (set (set l at x) (at + 1) v) ≡ set (set (drop at l) 0 x) 1 v =
+    drop-set-add at (set l at x) 1 v ∙ ap (λ (y : List ℕ). set y 1 v) (rw z at (drop-set-add at l 0 x))
+    in
+    let front : take at (set (set l at x) (at + 1) v) ≡ take at l =
+    take-set-le at (set l at x) (at + 1) v (omega arith) ∙ take-set-le at l at x (omega arith)
+    in
+    rw (left, ← right, ← front) (take-append-drop at (set (set l at x) (at + 1) v))
+
+-- no room for a record: no bit is taken
+no-room : (w : World) (bit : ℕ) (bits : List ℕ) (room : ℕ) → room < 2 → runOf turnOf (bit ∷ bits) w room ≡ ended w ListFull
+no-room w bit bits room h =
+    ap (λ b. cond b (ended w ListFull) (oneBit (afterCycle (runOf turnOf bits) (turnOf w bit .state) (turnOf w bit .cycle) room))) (lt-ltb room 2 h)
+
+-- a run with a record ahead of it, finished
+wrote-one : (taken at free x v : ℕ) (list : List ℕ) (r : Run World) → free ≤ at
+    → finished taken ((at - free) / 2) list at (oneRecord x v r) ≡ finished taken ((at + 2 - free) / 2) (set (set list at x) (at + 1) v) (at + 2) r
+wrote-one taken at free x v list r h =
+    let n : (at - free) / 2 + suc (suc (length (r .words))) / 2 ≡ (at + 2 - free) / 2 + length (r .words) / 2 = omega arith in
+    let a : suc at ≡ at + 1 = omega arith in
+    let b : suc (suc at) ≡ at + 2 = omega arith in
+    λ i. record {
+      taken = record { decoder = r .state .decoder; told = record { bits = taken + r .bits; records = n i; ending = r .ending } };
+      store = r .state .store;
+      tray = r .state .tray;
+      list = sets (set (set list at x) (a i) v) (b i) (r .words);
+    }
+
+passes-fit : {cnt : ℕ} {r : Recogniser} {bits : List ℕ} {s : Stretch} → Passes cnt r bits s → eventFits (s .event) ≡ true
+passes-fit (ends r) = refl
+passes-fit {cnt} (last r bit bits) = heard-fits r bit cnt
+passes-fit (more r bit bits s silent p) = passes-fit p
+
+module _ {d : Decoder} {c : Call} {store tray list : List ℕ} {r : Recogniser} {m : Model} {cnt taken at : ℕ} (g : Going d c store tray list r m cnt taken at) where
+  abbrev here : World
+  here = worldAt d store tray r m taken
+
+  pub done : c .count ≤ taken → answered c (worldAt d store tray r m (c .count)) taken at Done list ≡ takenOf d c
+  done h =
+      let e : c .count - taken ≡ 0 = omega arith in
+      let n : d .next + c .count ≡ d .next + taken = omega (arith, g .low) in
+      rw n (ending c here Done taken at list ∙ (rw e at (g .rest)))
+
+  module _ (more : taken < c .count) where
+    first : left c taken ≡ bitOf (c .input) (c .first + taken) ∷ bitsOf (c .input) (c .first + taken + 1) (c .count - taken - 1)
+    first = one-bit (c .input) (c .first + taken) (c .count - taken) (omega arith)
+
+    pub full : length list - at < 2 → answered c here taken at ListFull list ≡ takenOf d c
+    full h =
+        ending c here ListFull taken at list
+        ∙ ap (finished taken ((at - c .free) / 2) list at) (sym (no-room here (bitOf (c .input) (c .first + taken)) (bitsOf (c .input) (c .first + taken + 1) (c .count - taken - 1)) (length list - at) h))
+        ∙ (rw first at (g .rest))
+
+    -- after a stretch, given what its event did
+    module _ (room : 2 ≤ length list - at) (s : Stretch)
+        (walked : s ≡ stretchOf r cnt (bitsOf (c .input) (c .first + taken) (c .first + c .count - (c .first + taken)))) where
+      abbrev on : ℕ
+      on = taken + s .taken
+
+      went : s ≡ stretchOf r cnt (left c taken)
+      went = let e : c .first + c .count - (c .first + taken) ≡ c .count - taken = omega arith in rw e at walked
+
+      some : 1 ≤ s .taken
+      some = rw (went, first) (stretch-some r cnt _ _)
+
+      pub within : s .taken ≤ c .count - taken
+      within =
+          let h : s .taken ≤ length (left c taken) = rw went (stretch-within r cnt (left c taken)) in
+          rw (length-bits (c .input) (c .first + taken) (c .count - taken)) at h
+
+      pub moved : (1 ≤ s .taken) × (on ≤ c .count)
+      moved = (some, let h = within in omega arith)
+
+      passes : Passes cnt r (left c taken) s
+      passes = rw (went, first) (stretch-passes r cnt _ _)
+
+      -- what the last cycle of a stretch asks for has a record that fits
+      pub stretched-fits : eventFits (s .event) ≡ true
+      stretched-fits = passes-fit passes
+
+      after : drop (s .taken) (left c taken) ≡ left c on
+      after =
+          let e : c .first + taken + s .taken ≡ c .first + on = omega arith in
+          let f : c .count - taken - s .taken ≡ c .count - on = omega arith in
+          drop-bits (c .input) (c .first + taken) (c .count - taken) (s .taken) within ∙ (λ i. bitsOf (c .input) (e i) (f i))
+
+      -- the cycle of the stretch's last bit
+      time : d .next + taken + s .taken - 1 ≡ d .next + on - 1
+      time = omega arith
+
+      module _ (a : Acted) (store₁ tray₁ : List ℕ)
+          (did : _≡_ {A = Effect} (record { acted = a; store = store₁ }) (actOf (d .plan) m (s .event) (d .next + on - 1) store))
+          (put : tray₁ ≡ trayOf tray (s .event)) where
+        abbrev there : World
+        there = worldAt d store₁ tray₁ (s .next) (a .model) on
+
+        lands : landed here s ≡ record { state = there; cycle = a .cycle }
+        lands =
+            let e : d .next + taken + s .taken ≡ d .next + on = omega arith in
+            rw (time, e, ← did, put)
+
+        onward : finished on ((at - c .free) / 2) list at (afterCycle (runOf turnOf (left c on)) there (a .cycle) (length list - at)) ≡ takenOf d c
+        onward =
+            let e : (n : ℕ) → on + n ≡ taken + (s .taken + n) = λ n. omega arith in
+            let k : cntOf (d .plan) m ≡ cnt = sym (g .cnt-is) in
+            let run : Run World = afterCycle (runOf turnOf (left c on)) there (a .cycle) (length list - at) in
+            let to : runOf turnOf (left c taken) here (length list - at) ≡ bitsAhead (s .taken) run =
+            run-stretch cnt (length list - at) room passes here refl k
+            ∙ (λ i. bitsAhead (s .taken) (afterCycle (runOf turnOf (after i)) (lands i .state) (lands i .cycle) (length list - at))) in
+            rw (e (run .bits)) (ap (finished taken ((at - c .free) / 2) list at) (sym to) ∙ g .rest)
+
+        module _ (kept : length store₁ ≡ length store) (kept-tray : length tray₁ ≡ length tray) (cnt₁ : ℕ) (fresh : cnt₁ ≡ cntOf (d .plan) (a .model)) where
+          pub silent : a .cycle ≡ Nothing → Going d c store₁ tray₁ list (s .next) (a .model) cnt₁ on at
+          silent n = record {
+            low = moved .1;
+            from = g .from;
+            fits = g .fits;
+            same = g .same;
+            long = kept ∙ g .long;
+            wide = kept-tray ∙ g .wide;
+            cnt-is = fresh;
+            rest = rw n at onward;
+          }
+
+          module _ (x v : ℕ) (is : a .cycle ≡ Record x v) (list₁ : List ℕ) (wrote : list₁ ≡ set (set list at x) (at + 1) v) where
+            same-list : length list₁ ≡ length list
+            same-list = rw wrote (simp length-set)
+
+            next-run : Run World
+            next-run = cond (isFrameHead x) (ended there Frame) (runOf turnOf (left c on) there (length list - at - 2))
+
+            recorded : finished on ((at + 2 - c .free) / 2) list₁ (at + 2) next-run ≡ takenOf d c
+            unfolding next-run
+            recorded = rw wrote (sym (wrote-one on at (c .free) x v list next-run (g .from)) ∙ (rw is at onward))
+
+            pub framed : isFrameHead x ≡ true → answered c there on (at + 2) Frame list₁ ≡ takenOf d c
+            unfolding next-run
+            framed f = ending c there Frame on (at + 2) list₁ ∙ (rw f at recorded)
+
+            pub again : isFrameHead x ≡ false → Going d c store₁ tray₁ list₁ (s .next) (a .model) cnt₁ on (at + 2)
+            unfolding next-run
+            again f =
+                let e : length list - at - 2 ≡ length list₁ - (at + 2) = omega (arith, same-list) in
+                record {
+                  low = moved .1;
+                  from = let h = g .from in omega arith;
+                  fits = omega (arith, same-list);
+                  same = same-list ∙ g .same;
+                  long = kept ∙ g .long;
+                  wide = kept-tray ∙ g .wide;
+                  cnt-is = fresh;
+                  rest = rw e at (rw f at recorded);
+                }
+
+      -- a stretch that asks for nothing
+      pub quiet : s .event ≡ event.Nothing → Going d c store tray list (s .next) m cnt on at
+      unfolding actOf trayOf
+      quiet e = silent (record { model = m; cycle = Nothing }) store tray (rw e) (rw e) refl refl cnt (g .cnt-is) refl

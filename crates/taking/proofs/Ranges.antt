@@ -1,0 +1,23 @@
+-- The range test without a sum: what each comparison on the way decides.
+-- Assumes nothing.
+use mathlib.Core.Path.{_≡_, refl}
+use mathlib.Core.Bool.{Bool, true, false}
+use Prim.Native.Nat.{ℕ, _+_, _*_, _-_, _<_, _≤_}
+use native.Mathlib.Omega.{arith}
+use lib.Dec.{leb}
+use borrow.Author.Tests.{le-leb, lt-leb, leb-true, leb-false}
+use Rattle.taking.specs.Take.{rangeFits}
+
+module _ (input first count : ℕ) where
+  pub too-long : 65536 < input → false ≡ rangeFits input first count
+  too-long h = simp (lt-leb input 65536 h)
+
+  pub past-end : input ≤ 65536 → 8 * input < first → false ≡ rangeFits input first count
+  past-end h g = simp (le-leb input 65536 h, lt-leb (first + count) (8 * input) (omega arith))
+
+  same-test : (b : Bool) → leb count (8 * input - first) ≡ b → first ≤ 8 * input → leb (first + count) (8 * input) ≡ b
+  same-test true e h = le-leb (first + count) (8 * input) (let g = leb-true count (8 * input - first) e in omega arith)
+  same-test false e h = lt-leb (first + count) (8 * input) (let g = leb-false count (8 * input - first) e in omega arith)
+
+  pub within : input ≤ 65536 → first ≤ 8 * input → leb count (8 * input - first) ≡ rangeFits input first count
+  within h g = simp (le-leb input 65536 h, same-test (leb count (8 * input - first)) refl g)

@@ -1,0 +1,122 @@
+-- Opening gives a sound state, and a sound state stays sound over every cycle and every taking call.
+-- Assumes nothing.
+use mathlib.Core.Bool.{true, false, not}
+use mathlib.Core.List.{List}
+use mathlib.Core.Path.{_≡_, _∙_, refl}
+use Prim.Native.Nat.{ℕ, zero, suc, _+_, _-_, _<_, _≤_}
+use native.Mathlib.Nat.{le-refl}
+use native.Mathlib.Omega.{arith}
+use lib.Dec.{T, leb}
+use lib.ListN.{length, take}
+use borrow.Author.Tests.{leb-true, leb-false, not-false}
+use Rattle.bits.proofs.Truth.{choice}
+use Rattle.bits.specs.Bits.{bitOf, bitsOf}
+use Rattle.recogniser.specs.declared.Event.the-variants.{SlowBegins}
+use Rattle.recogniser.specs.declared.Recogniser.{Recogniser}
+use Rattle.recogniser.specs.declared.Heard.{Heard}
+use Rattle.decoder.specs.Fit.{fitOf}
+use Rattle.decoder.proofs.Fits.{start-fits, step-fits}
+use Rattle.controller.specs.declared.Plan.{Plan}
+use Rattle.controller.specs.declared.Model.{Model}
+use Rattle.controller.specs.Plan.{planFits, defaultPlan}
+use Rattle.controller.specs.Registers.{cntOf}
+use Rattle.controller.proofs.Laws.{after, zeros-fit, zeros-missing, writes-fit, reads-fit, missing-zero, base-low, cnt-kept, begins-stops, running-kept}
+use Rattle.decoder.specs.declared.Decoder.{Decoder}
+use Rattle.decoder.specs.declared.Opened.{Opened}
+use Rattle.decoder.specs.Limits.{clockLimit}
+use Rattle.decoder.specs.Opening.{openedAt, openOf}
+use Rattle.decoder.specs.Sound.{insideSlow, soundOf}
+use Rattle.taking.specs.Run.{runOf, stateAfter}
+use Rattle.taking.specs.Turn.{World, heardOf, turnOf}
+use Rattle.taking.specs.Take.{Call, Left, offered, worldOf, buffersFit, rangeFits, clockFits, takenOf, takeOf}
+use Rattle.taking.proofs.Runs.{run-faithful}
+use Rattle.taking.proofs.Slows.{Steps, over, begins, goes-on, slow-steps}
+use Rattle.decoder.proofs.Soundness.{sound, sound-parts}
+
+-- The start state of a plan that fits.
+opened-sound : (plan : Plan) (cycle : ℕ) → planFits plan ≡ true → cycle ≤ clockLimit → T (soundOf (openedAt plan cycle))
+opened-sound plan cycle p c = sound (openedAt plan cycle) (record {
+  plan = p;
+  next = c;
+  base = le-refl cycle;
+  writes = zeros-fit;
+  reads = zeros-fit;
+  missing = zeros-missing plan (openedAt plan cycle .model) refl;
+  stopped = λ _. refl;
+  fits = start-fits _;
+})
+
+default-fits : planFits defaultPlan ≡ true
+unfolding planFits
+default-fits = refl
+
+-- Opening gives a sound state, also where it is refused.
+pub start-sound : (plan : Plan) (cycle : ℕ) → T (soundOf (openOf plan cycle .decoder))
+unfolding openOf
+start-sound plan cycle =
+    let P : Opened → Type 0 = λ o. T (soundOf (o .decoder)) in
+    let default = opened-sound defaultPlan 0 default-fits (omega arith) in
+    choice P (not (planFits plan)) (λ _. default)
+    (λ p. choice P (leb clockLimit cycle) (λ _. default)
+    (λ c. opened-sound plan cycle (not-false _ p) (omega (arith, leb-false clockLimit cycle c))))
+
+-- RunMode stays off inside a Slow, and the recogniser stays fit by CNT as it then stands.
+module _ (plan : Plan) (m : Model) (r : Recogniser) (time : ℕ) (store : List ℕ) where
+  stays-stopped : {h : Heard} → Steps r h → (T (insideSlow (r .phase)) → m .running ≡ false)
+      → T (insideSlow (h .next .phase)) → after plan m (h .event) time store .running ≡ false
+  stays-stopped over off t = absurd t
+  stays-stopped begins off t = begins-stops plan m time store
+  stays-stopped (goes-on {e = e} k inside) off t = running-kept plan m e time store (k .running) ∙ off (inside t)
+
+  stays-fit : {h : Heard} → Steps r h → T (fitOf (h .next) (cntOf plan m)) → T (fitOf (h .next) (cntOf plan (after plan m (h .event) time store)))
+  stays-fit over t = start-fits _
+  stays-fit begins t = rw (cnt-kept plan m SlowBegins time store refl) t
+  stays-fit (goes-on {e = e} k inside) t = rw (cnt-kept plan m e time store (k .registers)) t
+
+-- A cycle keeps a sound state sound.
+pub turn-sound : (w : World) (bit : ℕ) → bit < 2 → T (soundOf (w .decoder)) → w .decoder .next < clockLimit → T (soundOf (turnOf w bit .state .decoder))
+unfolding turnOf
+turn-sound w bit b t below =
+    let d = w .decoder in
+    let s = sound-parts d t in
+    let h = heardOf d bit in
+    let k = slow-steps (d .recogniser) bit (cntOf (d .plan) (d .model)) in
+    sound (turnOf w bit .state .decoder) (record {
+      plan = s .plan;
+      next = omega arith;
+      base = omega (arith, base-low (d .plan) (d .model) (h .event) (d .next) (w .store) (s .base));
+      writes = writes-fit (d .plan) (d .model) (h .event) (d .next) (w .store) (s .writes);
+      reads = reads-fit (d .plan) (d .model) (h .event) (d .next) (w .store) (s .reads);
+      missing = missing-zero (d .plan) (d .model) (h .event) (d .next) (w .store) (s .missing);
+      stopped = stays-stopped (d .plan) (d .model) (d .recogniser) (d .next) (w .store) k (s .stopped);
+      fits = stays-fit (d .plan) (d .model) (d .recogniser) (d .next) (w .store) k (step-fits (d .recogniser) bit _ b (s .fits));
+    })
+
+-- So do the first bits of a range.
+stays-sound : (input : List ℕ) (n count first : ℕ) (w : World) → T (soundOf (w .decoder)) → w .decoder .next + count ≤ clockLimit
+    → T (soundOf (stateAfter turnOf w (take n (bitsOf input first count)) .decoder))
+unfolding turnOf
+stays-sound input zero count first w t h = t
+stays-sound input (suc n) zero first w t h = t
+stays-sound input (suc n) (suc count) first w t h =
+    stays-sound input n count (first + 1) (turnOf w (bitOf input first) .state)
+    (turn-sound w (bitOf input first) (omega arith) t (omega arith)) (omega arith)
+
+module _ (d : Decoder) (c : Call) (t : T (soundOf d)) where
+  taken-sound : d .next + c .count ≤ clockLimit → T (soundOf (takenOf d c .taken .decoder))
+  unfolding takenOf
+  taken-sound h =
+      let room = length (c .list) - c .free in
+      rw (run-faithful turnOf (offered c) (worldOf d c) room .state)
+      (stays-sound (c .input) (runOf turnOf (offered c) (worldOf d c) room .bits) (c .count) (c .first) (worldOf d c) t h)
+
+  -- So does a taking call, also where it is refused.
+  pub take-sound : T (soundOf (takeOf d c .taken .decoder))
+  unfolding takeOf
+  take-sound =
+      let P : Left → Type 0 = λ l. T (soundOf (l .taken .decoder)) in
+      choice P (not (soundOf d)) (λ _. t)
+      (λ _. choice P (not (buffersFit (length (c .store)) (length (c .tray)) (length (c .list)) (c .free))) (λ _. t)
+      (λ _. choice P (not (rangeFits (length (c .input)) (c .first) (c .count))) (λ _. t)
+      (λ _. choice P (not (clockFits (d .next) (c .count))) (λ _. t)
+      (λ e. taken-sound (leb-true _ _ (not-false _ e))))))

@@ -1,0 +1,422 @@
+-- The taking loop meets `takenOf`: each way through its body cites a lemma over what the loop keeps.
+-- Assumes nothing.
+use mathlib.Core.Path.{_∙_, sym}
+use Prim.Native.Nat.{_-_}
+use native.Mathlib.Omega.{arith}
+use borrow.Author.Needs.{needs}
+use lib.ListN.{length-take, length-drop}
+use Rattle.taking.proofs.Loop.{Going, begun, done, full, quiet, silent, again, framed, moved, stretched-fits, two-put}
+use Rattle.taking.proofs.run.Statement.{statement}
+use Rattle.taking.proofs.run.Tie as tie
+
+abbrev Inv-loop : tie.InvT-loop
+Inv-loop input first count store₀ tray₀ list₀ free plan start recogniser₀ model₀ cnt₀ taken₀ at₀ store tray list recogniser model cnt taken at =
+    Going (record { plan = plan; next = start; recogniser = recogniser₀; model = model₀ })
+    (record { input = input; first = first; count = count; store = store₀; tray = tray₀; list = list₀; free = free })
+    store tray list recogniser model cnt taken at
+
+abbrev μ-loop : tie.MeasureT-loop
+μ-loop input first count store₀ tray₀ list₀ free plan start recogniser₀ model₀ cnt₀ taken₀ at₀ store tray list recogniser model cnt taken at = count - taken
+
+cnt-requires : tie.Need-cnt-requires Inv-loop μ-loop
+cnt-requires c κs = search needs
+
+loop-holds : tie.Need-loop-holds Inv-loop μ-loop
+loop-holds c =
+    let c5 = c .before .before .before .before .before in
+    begun (c5 .before .before .before .args .decoder) _ _ (omega arith) (c .cnt .ensures)
+
+sub-if1 : tie.Need-sub-if1 Inv-loop μ-loop
+sub-if1 c = search needs
+
+add-joined : tie.Need-add-joined Inv-loop μ-loop
+add-joined c = search needs
+
+joined-requires : tie.Need-joined-requires Inv-loop μ-loop
+joined-requires c κs = search needs
+
+sub-told : tie.Need-sub-told Inv-loop μ-loop
+sub-told c = search needs
+
+told-requires : tie.Need-told-requires Inv-loop μ-loop
+told-requires c κs = search needs
+
+same-length : tie.Need-same-length Inv-loop μ-loop
+same-length c =
+    c .before .before .before .before .loop .inv .long
+
+same-length-2 : tie.Need-same-length-2 Inv-loop μ-loop
+same-length-2 c =
+    c .before .before .before .before .loop .inv .wide
+
+same-length-3 : tie.Need-same-length-3 Inv-loop μ-loop
+same-length-3 c =
+    c .before .before .before .before .loop .inv .same
+
+returns : tie.Need-returns Inv-loop μ-loop
+returns c =
+    rw (c .told .ensures, c .before .joined .ensures) (full (c .before .before .before .before .loop .inv) (c .before .before .before .loop-test .taken) (c .before .before .if1 .taken))
+
+add-advance : tie.Need-add-advance Inv-loop μ-loop
+add-advance c = search needs
+
+add-advance-2 : tie.Need-add-advance-2 Inv-loop μ-loop
+add-advance-2 c = search needs
+
+advance-requires : tie.Need-advance-requires Inv-loop μ-loop
+advance-requires c κs = search needs
+
+add-taken : tie.Need-add-taken Inv-loop μ-loop
+add-taken c =
+    let c5 = c .before .before .before .before .before in
+    let c10 = c5 .before .before .before .before .before in
+    let g = c5 .loop .inv in
+    let more = c .before .before .before .before .loop-test .taken in
+    let room = c .before .before .before .if1 .left in
+    let s = c .before .before .advance in
+    let m = moved g more room (s .result) (s .ensures) in
+    omega (arith, c5, c10 .before .before .before .before)
+
+enum-told : tie.Need-enum-told Inv-loop μ-loop
+enum-told c = search needs
+
+loop-less : tie.Need-loop-less Inv-loop μ-loop
+loop-less c =
+    let c5 = c .before .before .before .before .before in
+    let c10 = c5 .before .before .before .before .before in
+    let c15 = c10 .before .before .before .before .before in
+    let g = c5 .before .before .loop .inv in
+    let more = c5 .before .loop-test .taken in
+    let room = c5 .if1 .left in
+    let s = c .before .before .before .before .advance in
+    let m = moved g more room (s .result) (s .ensures) in
+    omega (arith, c5 .before .before, c15 .before)
+
+loop-again : tie.Need-loop-again Inv-loop μ-loop
+loop-again c =
+    let c5 = c .before .before .before .before .before in
+    let g = c5 .before .before .loop .inv in
+    let more = c5 .before .loop-test .taken in
+    let room = c5 .if1 .left in
+    let s = c .before .before .before .before .advance in
+    quiet g more room (s .result) (s .ensures) (c .enum-told .given .1)
+
+keep-requires : tie.Need-keep-requires Inv-loop μ-loop
+keep-requires c κs = search needs
+
+add-act : tie.Need-add-act Inv-loop μ-loop
+add-act c =
+    let c5 = c .before .before .before .before .before in
+    let c10 = c5 .before .before .before .before .before in
+    let c15 = c10 .before .before .before .before .before in
+    let g = c10 .loop .inv in
+    let more = c5 .before .before .before .before .loop-test .taken in
+    let room = c5 .before .before .before .if1 .left in
+    let s = c5 .before .before .advance in
+    let m = moved g more room (s .result) (s .ensures) in
+    omega (arith, c10, c15 .before .before .before .before)
+
+sub-act : tie.Need-sub-act Inv-loop μ-loop
+sub-act c =
+    let c5 = c .before .before .before .before .before in
+    let c10 = c5 .before .before .before .before .before in
+    let c15 = c10 .before .before .before .before .before in
+    let g = c10 .loop .inv in
+    let more = c5 .before .before .before .before .loop-test .taken in
+    let room = c5 .before .before .before .if1 .left in
+    let s = c5 .before .before .advance in
+    let m = moved g more room (s .result) (s .ensures) in
+    omega (arith, c10, c15 .before .before .before .before)
+
+act-requires : tie.Need-act-requires Inv-loop μ-loop
+act-requires c κs =
+    let c5 = c .before .before .before .before .before in
+    let c10 = c5 .before .before .before .before .before in
+    let c15 = c10 .before .before .before .before .before in
+    let c20 = c15 .before .before .before .before .before in
+    let g = c10 .before .loop .inv in
+    let more = c10 .loop-test .taken in
+    let room = c5 .before .before .before .before .if1 .left in
+    let s = c5 .before .before .before .advance in
+    let m = moved g more room (s .result) (s .ensures) in
+    (omega (arith, c10 .before, c20), (g .long ∙ c20 .pre .0 .1), stretched-fits g more room (s .result) (s .ensures))
+
+cnt-requires-2 : tie.Need-cnt-requires-2 Inv-loop μ-loop
+cnt-requires-2 c κs = search needs
+
+enum-known-cycle : tie.Need-enum-known-cycle Inv-loop μ-loop
+enum-known-cycle c = search needs
+
+enum-told-2 : tie.Need-enum-told-2 Inv-loop μ-loop
+enum-told-2 c = search needs
+
+loop-less-2 : tie.Need-loop-less-2 Inv-loop μ-loop
+loop-less-2 c =
+    let c5 = c .before .before .before .before .before in
+    let c10 = c5 .before .before .before .before .before in
+    let c15 = c10 .before .before .before .before .before in
+    let c20 = c15 .before .before .before .before .before in
+    let c25 = c20 .before .before .before .before .before in
+    let g = c15 .before .before .before .loop .inv in
+    let more = c15 .before .before .loop-test .taken in
+    let room = c15 .before .if1 .left in
+    let s = c15 .advance in
+    let m = moved g more room (s .result) (s .ensures) in
+    omega (arith, c15 .before .before .before, c25 .before .before)
+
+loop-again-2 : tie.Need-loop-again-2 Inv-loop μ-loop
+loop-again-2 c =
+    let c5 = c .before .before .before .before .before in
+    let c10 = c5 .before .before .before .before .before in
+    let c15 = c10 .before .before .before .before .before in
+    let g = c15 .before .before .before .loop .inv in
+    let more = c15 .before .before .loop-test .taken in
+    let room = c15 .before .if1 .left in
+    let s = c15 .advance in
+    let act = c5 .before .act .ensures in
+    let put = c10 .keep .ensures in
+    let store = c5 .store .given in
+    let tray = c5 .before .before .before .before .tray .given in
+    let cnt = c .before .before .cnt2 .ensures in
+    silent g more room (s .result) (s .ensures) _ _ _ act put store tray _ cnt (c .enum-told2 .given .1)
+
+mul-write-record : tie.Need-mul-write-record Inv-loop μ-loop
+mul-write-record c =
+    let c5 = c .before .before .before .before .before in
+    let c10 = c5 .before .before .before .before .before in
+    let c15 = c10 .before .before .before .before .before in
+    let c20 = c15 .before .before .before .before .before in
+    let c25 = c20 .before .before .before .before .before in
+    omega (arith, c15 .before .before, c15 .before .before .before .before, c15 .before .before .before .before, c25 .before .before .before)
+
+sub-write-record : tie.Need-sub-write-record Inv-loop μ-loop
+sub-write-record c = search needs
+
+part-write-record-start : tie.Need-part-write-record-start Inv-loop μ-loop
+part-write-record-start c = search needs
+
+part-write-record-end : tie.Need-part-write-record-end Inv-loop μ-loop
+part-write-record-end c = search needs
+
+write-record-requires : tie.Need-write-record-requires Inv-loop μ-loop
+write-record-requires c κs =
+    let c5 = c .before .before .before .before .before in
+    let c10 = c5 .before .before .before .before .before in
+    let c15 = c10 .before .before .before .before .before in
+    let c20 = c15 .before .before .before .before .before in
+    simp (length-take, length-drop) (omega (arith, c15 .before .before .before, c20))
+
+add-at : tie.Need-add-at Inv-loop μ-loop
+add-at c =
+    let c5 = c .before .before .before .before .before in
+    let c10 = c5 .before .before .before .before .before in
+    let c15 = c10 .before .before .before .before .before in
+    let c20 = c15 .before .before .before .before .before in
+    let c25 = c20 .before .before .before .before .before in
+    let c30 = c25 .before .before .before .before .before in
+    omega (arith, c20 .before, c20 .before .before .before, c .before, c30 .before .before)
+
+is-frame-head-requires : tie.Need-is-frame-head-requires Inv-loop μ-loop
+is-frame-head-requires c κs = search needs
+
+add-joined-2 : tie.Need-add-joined-2 Inv-loop μ-loop
+add-joined-2 c =
+    let c5 = c .before .before .before .before .before in
+    let c10 = c5 .before .before .before .before .before in
+    let c15 = c10 .before .before .before .before .before in
+    let c20 = c15 .before .before .before .before .before in
+    let c25 = c20 .before .before .before .before .before in
+    let c30 = c25 .before .before .before .before .before in
+    let g = c25 .loop .inv in
+    let more = c20 .before .before .before .before .loop-test .taken in
+    let room = c20 .before .before .before .if1 .left in
+    let s = c20 .before .before .advance in
+    let m = moved g more room (s .result) (s .ensures) in
+    omega (arith, c25, c30 .before .before .before .before)
+
+joined-requires-2 : tie.Need-joined-requires-2 Inv-loop μ-loop
+joined-requires-2 c κs = search needs
+
+sub-told-2 : tie.Need-sub-told-2 Inv-loop μ-loop
+sub-told-2 c =
+    let c5 = c .before .before .before .before .before in
+    let c10 = c5 .before .before .before .before .before in
+    let c15 = c10 .before .before .before .before .before in
+    let c20 = c15 .before .before .before .before .before in
+    let c25 = c20 .before .before .before .before .before in
+    let c30 = c25 .before .before .before .before .before in
+    let c35 = c30 .before .before .before .before .before in
+    omega (arith, c20 .before .before .before .before, c25 .before, c .before .before .before .before, c35)
+
+told-requires-2 : tie.Need-told-requires-2 Inv-loop μ-loop
+told-requires-2 c κs = search needs
+
+same-length-4 : tie.Need-same-length-4 Inv-loop μ-loop
+same-length-4 c =
+    let c5 = c .before .before .before .before .before in
+    let c10 = c5 .before .before .before .before .before in
+    let c15 = c10 .before .before .before .before .before in
+    let c20 = c15 .before .before .before .before .before in
+    let c25 = c20 .before .before .before .before .before in
+    c10 .before .before .before .before .store .given ∙ c25 .before .before .loop .inv .long
+
+same-length-5 : tie.Need-same-length-5 Inv-loop μ-loop
+same-length-5 c =
+    let c5 = c .before .before .before .before .before in
+    let c10 = c5 .before .before .before .before .before in
+    let c15 = c10 .before .before .before .before .before in
+    let c20 = c15 .before .before .before .before .before in
+    let c25 = c20 .before .before .before .before .before in
+    c15 .before .before .before .tray .given ∙ c25 .before .before .loop .inv .wide
+
+same-length-6 : tie.Need-same-length-6 Inv-loop μ-loop
+same-length-6 c =
+    let c5 = c .before .before .before .before .before in
+    let c10 = c5 .before .before .before .before .before in
+    let c15 = c10 .before .before .before .before .before in
+    let c20 = c15 .before .before .before .before .before in
+    let c25 = c20 .before .before .before .before .before in
+    c5 .list .given .1 ∙ c25 .before .before .loop .inv .same
+
+returns-2 : tie.Need-returns-2 Inv-loop μ-loop
+returns-2 c =
+    let c5 = c .before .before .before .before .before in
+    let c10 = c5 .before .before .before .before .before in
+    let c15 = c10 .before .before .before .before .before in
+    let c20 = c15 .before .before .before .before .before in
+    let c25 = c20 .before .before .before .before .before in
+    let g = c25 .before .before .loop .inv in
+    let more = c25 .before .loop-test .taken in
+    let room = c25 .if1 .left in
+    let s = c20 .before .before .before .before .advance in
+    let act = c15 .act .ensures in
+    let put = c15 .before .before .before .before .keep .ensures in
+    let store = c10 .before .before .before .before .store .given in
+    let tray = c15 .before .before .before .tray .given in
+    let cnt = c10 .before .cnt2 .ensures in
+    let is = c5 .before .before .before .before .cycle .given .1 in
+    let head = sym (c .before .before .before .is-frame-head .ensures) in
+    rw (c .told2 .ensures, c .before .joined2 .ensures)
+    (framed g more room (s .result) (s .ensures) _ _ _ act put store tray _ cnt _ _ is _ (rw (c5 .before .write-record .ensures) (two-put (c25 .before .before .loop .list) (c25 .before .before .loop .at) _ _ room)) (head ∙ c .before .before .if2 .taken))
+
+loop-less-3 : tie.Need-loop-less-3 Inv-loop μ-loop
+loop-less-3 c =
+    let c5 = c .before .before .before .before .before in
+    let c10 = c5 .before .before .before .before .before in
+    let c15 = c10 .before .before .before .before .before in
+    let c20 = c15 .before .before .before .before .before in
+    let c25 = c20 .before .before .before .before .before in
+    let c30 = c25 .before .before .before .before .before in
+    let g = c25 .loop .inv in
+    let more = c20 .before .before .before .before .loop-test .taken in
+    let room = c20 .before .before .before .if1 .left in
+    let s = c20 .before .before .advance in
+    let m = moved g more room (s .result) (s .ensures) in
+    omega (arith, c25, c30 .before .before .before .before)
+
+loop-again-3 : tie.Need-loop-again-3 Inv-loop μ-loop
+loop-again-3 c =
+    let c5 = c .before .before .before .before .before in
+    let c10 = c5 .before .before .before .before .before in
+    let c15 = c10 .before .before .before .before .before in
+    let c20 = c15 .before .before .before .before .before in
+    let c25 = c20 .before .before .before .before .before in
+    let g = c25 .loop .inv in
+    let more = c20 .before .before .before .before .loop-test .taken in
+    let room = c20 .before .before .before .if1 .left in
+    let s = c20 .before .before .advance in
+    let act = c10 .before .before .before .act .ensures in
+    let put = c15 .before .before .keep .ensures in
+    let store = c10 .before .before .store .given in
+    let tray = c15 .before .tray .given in
+    let cnt = c5 .before .before .before .before .cnt2 .ensures in
+    let is = c5 .before .before .cycle .given .1 in
+    let head = sym (c .before .is-frame-head .ensures) in
+    again g more room (s .result) (s .ensures) _ _ _ act put store tray _ cnt _ _ is _ (rw (c .before .before .before .before .write-record .ensures) (two-put (c25 .loop .list) (c25 .loop .at) _ _ room)) (head ∙ c .if2 .left)
+
+add-joined-3 : tie.Need-add-joined-3 Inv-loop μ-loop
+add-joined-3 c = search needs
+
+joined-requires-3 : tie.Need-joined-requires-3 Inv-loop μ-loop
+joined-requires-3 c κs = search needs
+
+sub-told-3 : tie.Need-sub-told-3 Inv-loop μ-loop
+sub-told-3 c = search needs
+
+told-requires-3 : tie.Need-told-requires-3 Inv-loop μ-loop
+told-requires-3 c κs = search needs
+
+same-length-7 : tie.Need-same-length-7 Inv-loop μ-loop
+same-length-7 c =
+    c .before .before .before .loop .inv .long
+
+same-length-8 : tie.Need-same-length-8 Inv-loop μ-loop
+same-length-8 c =
+    c .before .before .before .loop .inv .wide
+
+same-length-9 : tie.Need-same-length-9 Inv-loop μ-loop
+same-length-9 c =
+    c .before .before .before .loop .inv .same
+
+returns-3 : tie.Need-returns-3 Inv-loop μ-loop
+returns-3 c =
+    rw (c .told3 .ensures, c .before .joined3 .ensures) (done (c .before .before .before .loop .inv) (c .before .before .loop-test .left))
+
+pub run-spec : {M : Type 1} → statement M
+run-spec =
+    tie.close
+    (tie.spec
+    Inv-loop
+    μ-loop
+    cnt-requires
+    loop-holds
+    sub-if1
+    add-joined
+    joined-requires
+    sub-told
+    told-requires
+    same-length
+    same-length-2
+    same-length-3
+    returns
+    add-advance
+    add-advance-2
+    advance-requires
+    add-taken
+    enum-told
+    loop-less
+    loop-again
+    keep-requires
+    add-act
+    sub-act
+    act-requires
+    cnt-requires-2
+    enum-known-cycle
+    enum-told-2
+    loop-less-2
+    loop-again-2
+    mul-write-record
+    sub-write-record
+    part-write-record-start
+    part-write-record-end
+    write-record-requires
+    add-at
+    is-frame-head-requires
+    add-joined-2
+    joined-requires-2
+    sub-told-2
+    told-requires-2
+    same-length-4
+    same-length-5
+    same-length-6
+    returns-2
+    loop-less-3
+    loop-again-3
+    add-joined-3
+    joined-requires-3
+    sub-told-3
+    told-requires-3
+    same-length-7
+    same-length-8
+    same-length-9
+    returns-3)

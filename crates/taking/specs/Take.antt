@@ -1,0 +1,97 @@
+-- A taking call: what it is lent, what turns it away, what it answers and what its buffers hold then (document 01, "A taking call").
+-- Assumes nothing.
+use mathlib.Core.Bool.{Bool, cond, not, _&&_}
+use mathlib.Core.List.{List}
+use Prim.Native.Nat.{ℕ, _+_, _*_, _-_, _/_}
+use lib.Dec.{leb, eqb}
+use lib.ListN.{length}
+use lib.Seq.{sets}
+use Rattle.bits.specs.Bits.{bitsOf}
+use Rattle.decoder.specs.declared.Decoder.{Decoder}
+use Rattle.taking.specs.declared.Taken.{Taken}
+use Rattle.taking.specs.declared.Ending.{Ending}
+use Rattle.taking.specs.declared.Ending.the-variants.{Done, Frame, ListFull, Unsound, WrongBuffers, WrongRange, ClockOver}
+use Rattle.decoder.specs.Limits.{clockLimit, storeLength, trayLength, listUnit, inputLimit}
+use Rattle.decoder.specs.Sound.{soundOf}
+use Rattle.taking.specs.Run.{Run, runOf}
+use Rattle.taking.specs.Turn.{World, turnOf}
+
+-- "It is lent input, a first bit and a bit count; a FIFO store ..; a tray ..; a record list and the number of its first free word."
+pub record Call : Type 0 where
+  pub input : List ℕ
+  pub first : ℕ
+  pub count : ℕ
+  pub store : List ℕ
+  pub tray : List ℕ
+  pub list : List ℕ
+  pub free : ℕ
+
+-- The bits of the call's range.
+abbrev pub offered : Call → List ℕ
+offered c = bitsOf (c .input) (c .first) (c .count)
+
+-- Number 4 does not apply, by the lengths of store, tray and list, and the first free word: it is not past the list's end.
+abbrev pub buffersFit : ℕ → ℕ → ℕ → ℕ → Bool
+buffersFit store tray list free = eqb store storeLength && (eqb tray trayLength && leb free list)
+
+-- Number 5 does not apply, by the input's length and the range.
+abbrev pub rangeFits : ℕ → ℕ → ℕ → Bool
+rangeFits input first count = leb input inputLimit && leb (first + count) (8 * input)
+
+-- Number 6 does not apply, by the next cycle and the count.
+abbrev pub clockFits : ℕ → ℕ → Bool
+clockFits next count = leb (next + count) clockLimit
+
+-- The answer, and each buffer's later contents.
+pub record Left : Type 0 where
+  pub taken : Taken
+  pub store : List ℕ
+  pub tray : List ℕ
+  pub list : List ℕ
+
+-- "a refused taking gives 0 bits, 0 records and the state and buffers it came with"
+abbrev pub refused : Decoder → Call → Ending → Left
+refused d c ending = record {
+  taken = record { decoder = d; told = record { bits = 0; records = 0; ending = ending } };
+  store = c .store;
+  tray = c .tray;
+  list = c .list;
+}
+
+-- A run as a call answers it: the words stand in the list from its first free word on, and "list, tray and store change nowhere else".
+abbrev pub finished : ℕ → ℕ → List ℕ → ℕ → Run World → Left
+finished bits records list free r = record {
+  taken = record {
+    decoder = r .state .decoder;
+    told = record { bits = bits + r .bits; records = records + length (r .words) / listUnit; ending = r .ending };
+  };
+  store = r .state .store;
+  tray = r .state .tray;
+  list = sets list free (r .words);
+}
+
+abbrev pub worldOf : Decoder → Call → World
+worldOf d c = record { decoder = d; store = c .store; tray = c .tray }
+
+-- A call that is not refused.
+unfoldable pub takenOf : Decoder → Call → Left
+takenOf d c = finished 0 0 (c .list) (c .free) (runOf turnOf (offered c) (worldOf d c) (length (c .list) - c .free))
+
+-- "The lowest number wins".
+unfoldable pub takeOf : Decoder → Call → Left
+takeOf d c =
+    cond (not (soundOf d)) (refused d c Unsound)
+    (cond (not (buffersFit (length (c .store)) (length (c .tray)) (length (c .list)) (c .free))) (refused d c WrongBuffers)
+    (cond (not (rangeFits (length (c .input)) (c .first) (c .count))) (refused d c WrongRange)
+    (cond (not (clockFits (d .next) (c .count))) (refused d c ClockOver)
+    (takenOf d c))))
+
+-- The refusal number of each ending; 0 is none.
+abbrev pub endingNumber : Ending → ℕ
+endingNumber Done = 0
+endingNumber Frame = 0
+endingNumber ListFull = 0
+endingNumber Unsound = 3
+endingNumber WrongBuffers = 4
+endingNumber WrongRange = 5
+endingNumber ClockOver = 6

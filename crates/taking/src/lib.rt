@@ -1,0 +1,192 @@
+// The taking call. It asks nothing of its caller: it refuses by number.
+ghost use mathlib.Core.Path.{_≡_};
+ghost use Prim.Native.Nat.{_+_, _*_, _/_, _≤_, _^_};
+ghost use lib.ListN.{length, set};
+ghost use Rattle.taking.specs.Take.{buffersFit, rangeFits, takenOf, takeOf};
+use controller::Cycle;
+use controller::Model;
+use controller::Plan;
+use decoder::Decoder;
+use recogniser::Event;
+use recogniser::Recogniser;
+
+// How a taking call ends; the last four are its refusals, numbers 3 to 6.
+pub enum Ending {
+    Done,
+    Frame,
+    ListFull,
+    Unsound,
+    WrongBuffers,
+    WrongRange,
+    ClockOver,
+}
+
+// What a taking call tells beside the state: bits taken, records written, and its ending.
+pub struct Told {
+    pub bits: usize,
+    pub records: usize,
+    pub ending: Ending,
+}
+
+pub struct Taken {
+    pub decoder: Decoder,
+    pub told: Told,
+}
+
+// A record's two words at the start of the rest of the list.
+fn write_record(rest: &mut [u64], head: u64, value: u64)
+    requires { ⌜ 2 ≤ length (now rest) ⌝ }
+    ensures { λ _. ⌜ now (rest .exit) ≡ set (set (now (rest .entry)) 0 head) 1 value ⌝ }
+{
+    rest[0] = head;
+    rest[1] = value;
+}
+
+// Whether a call's store, tray and first free word are fit, by their lengths.
+fn buffers_fit(store: &[u32], tray: &[u8], list: &[u64], free: usize) -> bool
+    ensures { λ r. ⌜ r ≡ buffersFit (length (now (store .entry))) (length (now (tray .entry))) (length (now (list .entry))) free ⌝ }
+{
+    let store_fits = store.len() == Decoder::STORE_LENGTH;
+    let tray_fits = tray.len() == Decoder::TRAY_LENGTH;
+    store_fits & (tray_fits & (free <= list.len()))
+}
+
+// Whether the input is not too long and the range ends within it; no sum here can wrap.
+fn range_fits(input: &[u8], first: usize, count: usize) -> bool
+    ensures { λ r. ⌜ r ≡ rangeFits (length (now (input .entry))) first count ⌝ }
+{
+    if Decoder::INPUT_LIMIT < input.len() {
+        return false;
+    }
+    let end = 8 * input.len();
+    if end < first {
+        return false;
+    }
+    count <= end - first
+}
+
+impl Taken {
+    // A refused call: the state as it came, and nothing taken.
+    fn refused(decoder: Decoder, ending: Ending) -> Taken
+        ensures { λ r. ⌜ r ≡ (record { decoder = decoder; told = record { bits = 0; records = 0; ending = ending } }) ⌝ }
+    {
+        Taken {
+            decoder: decoder,
+            told: Told {
+                bits: 0,
+                records: 0,
+                ending: ending,
+            },
+        }
+    }
+
+    // What a call tells after so many bits, with the list filled up to a word.
+    fn told(decoder: Decoder, bits: usize, words: usize, ending: Ending) -> Taken
+        ensures { λ r. ⌜ r ≡ (record { decoder = decoder; told = record { bits = bits; records = words / 2; ending = ending } }) ⌝ }
+    {
+        Taken {
+            decoder: decoder,
+            told: Told {
+                bits: bits,
+                records: words / Decoder::LIST_UNIT,
+                ending: ending,
+            },
+        }
+    }
+}
+
+// The state that the loop's locals make up.
+fn joined(plan: Plan, next: u64, recogniser: Recogniser, model: Model) -> Decoder
+    ensures { λ r. ⌜ r ≡ (record { plan = plan; next = next; recogniser = recogniser; model = model }) ⌝ }
+{
+    Decoder {
+        plan: plan,
+        next: next,
+        recogniser: recogniser,
+        model: model,
+    }
+}
+
+// A call that is not refused, stretch by stretch. The recogniser, CNT and the counts are locals; arrays are touched only when an event asks for it.
+fn run(
+    decoder: Decoder,
+    input: &[u8],
+    first: usize,
+    count: usize,
+    store: &mut [u32],
+    tray: &mut [u8],
+    list: &mut [u64],
+    free: usize,
+) -> Taken
+    requires { ⌜ (decoder .next + count ≤ 2 ^ 48) × (length (now store) ≡ 2048) ⌝ }
+    requires { ⌜ (length (now input) ≤ 65536) × (first + count ≤ 8 * length (now input)) × (free ≤ length (now list)) ⌝ }
+    ensures { λ r. ⌜ (record { taken = r; store = now (store .exit); tray = now (tray .exit); list = now (list .exit) }) ≡ takenOf decoder (record { input = now (input .entry); first = first; count = count; store = now (store .entry); tray = now (tray .entry); list = now (list .entry); free = free }) ⌝ }
+{
+    let plan = decoder.plan;
+    let start = decoder.next;
+    let mut recogniser = decoder.recogniser;
+    let mut model = decoder.model;
+    let mut cnt = model.cnt(plan);
+    let mut taken: usize = 0;
+    let mut at = free;
+    while taken < count {
+        if list.len() - at < Decoder::LIST_UNIT {
+            let d = joined(plan, start + taken as u64, recogniser, model);
+            return Taken::told(d, taken, at - free, Ending::ListFull);
+        }
+        let stretch = stretches::advance(recogniser, input, first + taken, first + count, cnt);
+        let next = stretch.next;
+        recogniser = next;
+        taken = taken + stretch.taken;
+        let event = stretch.event;
+        if let Event::Nothing = event {
+            continue;
+        }
+        frames::keep(tray, event);
+        let acted = model.act(plan, event, start + taken as u64 - 1, store);
+        let m = acted.model;
+        model = m;
+        cnt = m.cnt(plan);
+        let cycle = acted.cycle;
+        let Cycle::Record { head, value } = cycle else {
+            continue;
+        };
+        write_record(&mut list[at..], head, value);
+        at = at + Decoder::LIST_UNIT;
+        if controller::is_frame_head(head) {
+            let d = joined(plan, start + taken as u64, recogniser, model);
+            return Taken::told(d, taken, at - free, Ending::Frame);
+        }
+    }
+    let d = joined(plan, start + count as u64, recogniser, model);
+    Taken::told(d, taken, at - free, Ending::Done)
+}
+
+// Takes bits `first` to `first + count` of the input, one a cycle, and writes their records into the rest of the list from word `free` on. It stops
+// after a frame's record, and where fewer than two words are free. An unfit call is turned away with its number, and changes nothing.
+pub fn take(
+    decoder: Decoder,
+    input: &[u8],
+    first: usize,
+    count: usize,
+    store: &mut [u32],
+    tray: &mut [u8],
+    list: &mut [u64],
+    free: usize,
+) -> Taken
+    ensures { λ r. ⌜ (record { taken = r; store = now (store .exit); tray = now (tray .exit); list = now (list .exit) }) ≡ takeOf decoder (record { input = now (input .entry); first = first; count = count; store = now (store .entry); tray = now (tray .entry); list = now (list .entry); free = free }) ⌝ }
+{
+    if !decoder.sound() {
+        return Taken::refused(decoder, Ending::Unsound);
+    }
+    if !buffers_fit(store, tray, list, free) {
+        return Taken::refused(decoder, Ending::WrongBuffers);
+    }
+    if !range_fits(input, first, count) {
+        return Taken::refused(decoder, Ending::WrongRange);
+    }
+    if Decoder::CLOCK_LIMIT - decoder.next < count as u64 {
+        return Taken::refused(decoder, Ending::ClockOver);
+    }
+    run(decoder, input, first, count, store, tray, list, free)
+}

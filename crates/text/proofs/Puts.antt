@@ -1,0 +1,85 @@
+-- Texts put into a block piece by piece: what is left of a text, put at the present place, gives what the whole text gives.
+-- Assumes nothing.
+use mathlib.Core.List.{List, [], _∷_, _++_}
+use mathlib.Core.Path.{_≡_, refl, ap, _∙_}
+use Prim.Native.Nat.{ℕ, suc, _+_, _≤_, _<_}
+use native.Mathlib.Nat.{add-zero, add-assoc}
+use native.Mathlib.Omega.{arith}
+use lib.Dec.{leb}
+use lib.ListN.{length, set, length-append}
+use lib.Seq.{sets, length-sets, set-comm}
+use borrow.Author.Tests.{le-leb, lt-leb, leb-true}
+use Rattle.bits.proofs.Truth.{choice}
+use Rattle.text.specs.Block.{Block, block, putAll, putOf}
+
+pub sets-append : (xs ys out : List ℕ) (at : ℕ) → sets out at (xs ++ ys) ≡ sets (sets out at xs) (at + length xs) ys
+sets-append [] ys out at = rw add-zero
+sets-append (x ∷ xs) ys out at =
+    let e : at + suc (length xs) ≡ suc at + length xs = omega arith in
+    rw e (sets-append xs ys (set out at x) (suc at))
+
+-- A text whose last byte is stored first.
+pub sets-last : (xs out : List ℕ) (at x : ℕ) → sets (set out (at + length xs) x) at xs ≡ sets out at (xs ++ (x ∷ []))
+sets-last [] out at x = rw add-zero
+sets-last (y ∷ xs) out at x =
+    let e : at + suc (length xs) ≡ suc at + length xs = omega arith in
+    rw (set-comm out (at + suc (length xs)) at x y (λ q. omega arith), e) (sets-last xs (set out at y) (suc at) x)
+
+-- A text after another: there is room for both, and they are put as one.
+module _ (out xs ys out′ : List ℕ) (at place : ℕ) (e : block out′ place ≡ putAll out at xs) where
+  pub put-append : putAll out′ place ys ≡ putAll out at (xs ++ ys)
+  put-append = (λ i. putAll (e i .bytes) (e i .next) ys) ∙ rw (sets-append xs ys out at, length-append, add-assoc)
+
+  pub put-room : at + length (xs ++ ys) ≤ length out → place + length ys ≤ length out′
+  put-room h =
+      let long = ap (λ (b : Block). length (b .bytes)) e ∙ length-sets out at xs in
+      let moved = ap (λ (b : Block). b .next) e in
+      omega (arith, simp length-append at h)
+
+module _ (out : List ℕ) (at : ℕ) (text : List ℕ) where
+  pub put-fits : at + length text ≤ length out → putOf out at text ≡ putAll out at text
+  unfolding putOf
+  put-fits h = simp (le-leb (at + length text) (length out) h)
+
+  pub put-over : length out < at + length text → putOf out at text ≡ block out at
+  unfolding putOf
+  put-over h = simp (lt-leb (at + length text) (length out) h)
+
+-- What a program that puts lines into a block goes by: the block keeps its length, and the next place stays within it.
+module _ (out text out′ : List ℕ) (at next : ℕ) (e : block out′ next ≡ putOf out at text) where
+  pub put-same : length out′ ≡ length out
+  unfolding putOf
+  put-same =
+      ap (λ (b : Block). length (b .bytes)) e
+      ∙ choice (λ (b : Block). length (b .bytes) ≡ length out) (leb (at + length text) (length out)) (λ t. length-sets out at text) (λ f. refl)
+
+  pub put-next : at ≤ length out → next ≤ length out
+  unfolding putOf
+  put-next h =
+      rw (ap (λ (b : Block). b .next) e)
+      (choice (λ (b : Block). b .next ≤ length out) (leb (at + length text) (length out)) (λ t. leb-true (at + length text) (length out) t) (λ f. h))
+
+pub record Left (out₀ : List ℕ) (at : ℕ) (whole out : List ℕ) (place : ℕ) (rest : List ℕ) : Type 0 where
+  pub same : length out ≡ length out₀
+  pub fits : place + length rest ≤ length out
+  pub whole-put : putAll out place rest ≡ putAll out₀ at whole
+
+pub begun : (out : List ℕ) (at : ℕ) (whole : List ℕ) → at + length whole ≤ length out → Left out at whole out at whole
+begun out at whole h = record { same = refl; fits = h; whole-put = refl }
+
+module _ {out₀ : List ℕ} {at : ℕ} {whole out : List ℕ} {place : ℕ} {rest : List ℕ} (l : Left out₀ at whole out place rest) where
+  -- there is room for the next piece
+  pub room : (xs rest′ : List ℕ) → rest ≡ xs ++ rest′ → place + length xs ≤ length out
+  room xs rest′ e = omega (arith, l .fits, simp length-append at (ap length e))
+
+  pub again : (xs rest′ : List ℕ) → rest ≡ xs ++ rest′ → (out′ : List ℕ) (place′ : ℕ) → block out′ place′ ≡ putAll out place xs
+      → Left out₀ at whole out′ place′ rest′
+  again xs rest′ e out′ place′ p =
+      record {
+        same = ap (λ (b : Block). length (b .bytes)) p ∙ length-sets out place xs ∙ l .same;
+        fits = put-room out xs rest′ out′ place place′ p (rw e at (l .fits));
+        whole-put = put-append out xs rest′ out′ place place′ p ∙ (rw e at (l .whole-put));
+      }
+
+  pub over : rest ≡ [] → block out place ≡ putAll out₀ at whole
+  over e = simp (e, add-zero) at (l .whole-put)
