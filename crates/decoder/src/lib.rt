@@ -1,7 +1,7 @@
 // The state that is kept between calls: opening it, and whether a state is sound.
 ghost use mathlib.Core.Path.{_≡_};
 ghost use Prim.Native.Nat.{_<_, _^_};
-ghost use Rattle.decoder.specs.Opening.{openedAt, openOf};
+ghost use Rattle.decoder.specs.Opening.{openedAt, openOf, openingNumber};
 ghost use Rattle.decoder.specs.Fit.{hasField5, keeps, nibbleFits, field4Fits, field5Fits, fitOf};
 ghost use Rattle.decoder.specs.Sound.{insideSlow, soundOf};
 use controller::Model;
@@ -23,6 +23,19 @@ pub enum Opening {
     Accepted,
     WrongPlan,
     WrongCycle,
+}
+
+impl Opening {
+    // The refusal's number, 0 for none.
+    pub fn number(self) -> u64
+        ensures { λ r. ⌜ r ≡ openingNumber self ⌝ }
+    {
+        match self {
+            Opening::Accepted => 0,
+            Opening::WrongPlan => 1,
+            Opening::WrongCycle => 2,
+        }
+    }
 }
 
 pub struct Opened {

@@ -4,8 +4,8 @@ ghost use mathlib.Core.Bool.{cond};
 ghost use mathlib.Core.Path.{_≡_};
 ghost use lib.ListN.{length};
 ghost use Rattle.controller.specs.Records.{kindOf, isFrameHead, frameBitsOf};
-ghost use Rattle.decoder.specs.Opening.{openOf, openingNumber};
-ghost use Rattle.taking.specs.Take.{takeOf, endingNumber};
+ghost use Rattle.decoder.specs.Opening.{openOf};
+ghost use Rattle.taking.specs.Take.{takeOf};
 ghost use Rattle.image.specs.Image.{imageLength, stateOf};
 ghost use Rattle.frames.specs.Tray.{partOf};
 ghost use Rattle.kernelstill.specs.Open.{emptyPlan, planOf, openLeftOf};
@@ -13,7 +13,6 @@ ghost use Rattle.kernelstill.specs.Take.{endingCode, resultLength, resul
 ghost use Rattle.kernelstill.specs.Lines.{hexLeftOf, recordLeftOf};
 use controller::Plan;
 use decoder::Decoder;
-use decoder::Opening;
 use taking::Ending;
 use taking::Told;
 
@@ -64,30 +63,6 @@ fn plan_of(mask: u64, csr: u64, feen: u64, cnt: u64) -> Plan
     }
 }
 
-fn opening_number(opening: Opening) -> u64
-    ensures { λ r. ⌜ r ≡ openingNumber opening ⌝ }
-{
-    match opening {
-        Opening::Accepted => 0,
-        Opening::WrongPlan => 1,
-        Opening::WrongCycle => 2,
-    }
-}
-
-fn ending_number(ending: Ending) -> u64
-    ensures { λ r. ⌜ r ≡ endingNumber ending ⌝ }
-{
-    match ending {
-        Ending::Done => 0,
-        Ending::Frame => 0,
-        Ending::ListFull => 0,
-        Ending::Unsound => 3,
-        Ending::WrongBuffers => 4,
-        Ending::WrongRange => 5,
-        Ending::ClockOver => 6,
-    }
-}
-
 fn ending_code(ending: Ending) -> u64
     ensures { λ r. ⌜ r ≡ endingCode ending ⌝ }
 {
@@ -118,7 +93,7 @@ pub extern "C" fn kernelstill_open(
     let plan = plan_of(mask, csr, feen, cnt);
     let opened = Decoder::start(plan, cycle);
     let opening = opened.opening;
-    let number = opening_number(opening);
+    let number = opening.number();
     if image.len() != image::WORDS {
         if number == 0 {
             return UNSOUND;
@@ -179,7 +154,7 @@ pub extern "C" fn kernelstill_take(
     let taken = taking::take(decoder, input, first, count, store, tray, list, free);
     let answer = taken.told;
     let ending = answer.ending;
-    let number = ending_number(ending);
+    let number = ending.number();
     if number != 0 {
         return number;
     }

@@ -2,7 +2,7 @@
 ghost use mathlib.Core.Path.{_≡_};
 ghost use Prim.Native.Nat.{_+_, _*_, _/_, _≤_, _^_};
 ghost use lib.ListN.{length, set};
-ghost use Rattle.taking.specs.Take.{buffersFit, rangeFits, takenOf, takeOf};
+ghost use Rattle.taking.specs.Take.{buffersFit, rangeFits, takenOf, takeOf, endingNumber};
 use controller::Cycle;
 use controller::Model;
 use controller::Plan;
@@ -19,6 +19,23 @@ pub enum Ending {
     WrongBuffers,
     WrongRange,
     ClockOver,
+}
+
+impl Ending {
+    // The refusal's number, 0 for none.
+    pub fn number(self) -> u64
+        ensures { λ r. ⌜ r ≡ endingNumber self ⌝ }
+    {
+        match self {
+            Ending::Done => 0,
+            Ending::Frame => 0,
+            Ending::ListFull => 0,
+            Ending::Unsound => 3,
+            Ending::WrongBuffers => 4,
+            Ending::WrongRange => 5,
+            Ending::ClockOver => 6,
+        }
+    }
 }
 
 // What a taking call tells beside the state: bits taken, records written, and its ending.

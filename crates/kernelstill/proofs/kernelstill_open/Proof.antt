@@ -17,19 +17,19 @@ use Rattle.kernelstill.proofs.kernelstill_open.Statement.{statement}
 use Rattle.kernelstill.proofs.kernelstill_open.Tie as tie
 
 -- the opening as the definition has it
-state : (n : tie.After-opening-number)
+state : (n : tie.After-number)
     → n .before .start .result
     ≡ openOf (planOf (n .before .before .before .before .args .mask) (n .before .before .before .before .args .csr) (n .before .before .before .before .args .feen) (n .before .before .before .before .args .cnt)) (n .before .before .before .before .args .cycle)
 state n = n .before .start .ensures ∙ ap (λ (p : Plan). openOf p (n .before .before .before .before .args .cycle)) (n .before .before .plan-of .ensures)
 
-asked : (n : tie.After-opening-number)
+asked : (n : tie.After-number)
     → openedInto (n .before .start .result) (n .before .before .before .before .args .image .now)
     ≡ openLeftOf (n .before .before .before .before .args .mask) (n .before .before .before .before .args .csr) (n .before .before .before .before .args .feen) (n .before .before .before .before .args .cnt) (n .before .before .before .before .args .cycle) (n .before .before .before .before .args .image .now)
 unfolding openLeftOf
 asked n = ap (λ (o : Opened). openedInto o (n .before .before .before .before .args .image .now)) (state n)
 
 -- what was written holds the start state
-carried : (n : tie.After-opening-number) (image : List ℕ) → length image ≡ imageLength
+carried : (n : tie.After-number) (image : List ℕ) → length image ≡ imageLength
     → image ≡ imageOf (n .before .start .result .decoder) → stateOf image ≡ n .before .start .result .decoder
     → Holds image (openOf (planOf (n .before .before .before .before .args .mask) (n .before .before .before .before .args .csr) (n .before .before .before .before .args .feen) (n .before .before .before .before .args .cnt)) (n .before .before .before .before .args .cycle) .decoder)
 carried n image long is back =
@@ -43,20 +43,20 @@ plan-of-requires c κs = search needs
 start-requires : tie.Need-start-requires
 start-requires c κs = search needs
 
-opening-number-requires : tie.Need-opening-number-requires
-opening-number-requires c κs = search needs
+number-requires : tie.Need-number-requires
+number-requires c κs = search needs
 
 returns : tie.Need-returns
 unfolding openLeftOf
 returns c =
     let n = c .before .before in
-    (no-room (n .before .start .result) (n .before .before .before .before .args .image .now) _ (n .opening-number .ensures) (c .before .if1 .taken) (c .if2 .taken) ∙ asked n, λ long. absurd (c .before .if1 .taken long))
+    (no-room (n .before .start .result) (n .before .before .before .before .args .image .now) _ (n .number .ensures) (c .before .if1 .taken) (c .if2 .taken) ∙ asked n, λ long. absurd (c .before .if1 .taken long))
 
 returns-2 : tie.Need-returns-2
 unfolding openLeftOf
 returns-2 c =
     let n = c .before .before in
-    (no-room-refused (n .before .start .result) (n .before .before .before .before .args .image .now) _ (n .opening-number .ensures) (c .before .if1 .taken) (c .if2 .left) ∙ asked n, λ long. absurd (c .before .if1 .taken long))
+    (no-room-refused (n .before .start .result) (n .before .before .before .before .args .image .now) _ (n .number .ensures) (c .before .if1 .taken) (c .if2 .left) ∙ asked n, λ long. absurd (c .before .if1 .taken long))
 
 write-requires : tie.Need-write-requires
 write-requires c κs = search needs
@@ -69,7 +69,7 @@ unfolding openLeftOf
 returns-3 c =
     let i = c .before .before .before .before .before in
     let n = i .before in
-    (filled (n .before .start .result) (n .before .before .before .before .args .image .now) _ (n .opening-number .ensures) (i .if1 .left) _ (c .before .before .write .ensures .0) ∙ asked n, λ long. carried n (c .before .before .write .last .1 .0) (c .before .before .write .kept .1 .0 ∙ long) (c .before .before .write .ensures .0) (c .before .before .write .ensures .1))
+    (filled (n .before .start .result) (n .before .before .before .before .args .image .now) _ (n .number .ensures) (i .if1 .left) _ (c .before .before .write .ensures .0) ∙ asked n, λ long. carried n (c .before .before .write .last .1 .0) (c .before .before .write .kept .1 .0 ∙ long) (c .before .before .write .ensures .0) (c .before .before .write .ensures .1))
 
 pub kernelstill-open-spec : {M : Type 1} → statement M
 kernelstill-open-spec =
@@ -77,7 +77,7 @@ kernelstill-open-spec =
     (tie.spec
     plan-of-requires
     start-requires
-    opening-number-requires
+    number-requires
     returns
     returns-2
     write-requires

@@ -43,8 +43,8 @@ read-requires c κs = sound-length _ (sound (c .before .before))
 take-requires : tie.Need-take-requires
 take-requires c κs = search needs
 
-ending-number-requires : tie.Need-ending-number-requires
-ending-number-requires c κs = search needs
+number-requires : tie.Need-number-requires
+number-requires c κs = search needs
 
 same-length-3 : tie.Need-same-length-3
 same-length-3 c = search needs
@@ -64,7 +64,7 @@ returns-3 c =
     let i = t .before .before .before .before .before .before in
     let a = i .before .before .before .before .before .before .before .before .before .before .args in
     let call : Call = record { input = a .input .now; first = a .first; count = a .count; store = a .store .now; tray = a .tray .now; list = a .list .now; free = a .free } in
-    (refused (a .image .now) (a .result .now) call (sound (i .before)) (i .if2 .left) (t .before .before .before .before .read .result) (t .before .before .before .before .read .ensures) _ (t .take .ensures) _ (c .before .ending-number .ensures) (c .if3 .taken), λ z. absurd (c .if3 .taken z))
+    (refused (a .image .now) (a .result .now) call (sound (i .before)) (i .if2 .left) (t .before .before .before .before .read .result) (t .before .before .before .before .read .ensures) _ (t .take .ensures) _ (c .before .number .ensures) (c .if3 .taken), λ z. absurd (c .if3 .taken z))
 
 write-result-requires : tie.Need-write-result-requires
 write-result-requires c κs = search needs
@@ -96,7 +96,7 @@ returns-4 c =
     let call : Call = record { input = a .input .now; first = a .first; count = a .count; store = a .store .now; tray = a .tray .now; list = a .list .now; free = a .free } in
     let e = t .take .ensures ∙ ap (λ (d : Decoder). takeOf d call) (t .before .before .before .before .read .ensures) in
     let w = c .before .before .write in (
-      accepted (a .image .now) (a .result .now) call (sound (i .before)) (i .if2 .left) (t .before .before .before .before .read .result) (t .before .before .before .before .read .ensures) _ (t .take .ensures) _ (n .ending-number .ensures) (c .before .before .before .before .before .before .before .before .before .if3 .left) _ _ (w .ensures .0) (c .before .before .before .before .before .before .before .write-result .ensures),
+      accepted (a .image .now) (a .result .now) call (sound (i .before)) (i .if2 .left) (t .before .before .before .before .read .result) (t .before .before .before .before .read .ensures) _ (t .take .ensures) _ (n .number .ensures) (c .before .before .before .before .before .before .before .before .before .if3 .left) _ _ (w .ensures .0) (c .before .before .before .before .before .before .before .write-result .ensures),
       λ z. moved-on (a .image .now) call (sound (i .before)) _ (ap (λ (l : Left). l .taken .decoder) e) (w .last .1 .0) (w .kept .1 .0) (w .ensures .0) (w .ensures .1),
     )
 
@@ -111,7 +111,7 @@ kernelstill-take-spec =
     returns-2
     read-requires
     take-requires
-    ending-number-requires
+    number-requires
     same-length-3
     same-length-4
     same-length-5
