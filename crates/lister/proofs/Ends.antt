@@ -17,12 +17,12 @@ use Rattle.text.specs.Block.{block, putAll, putOf}
 use Rattle.hexlines.specs.Line.{countFits, hexNumber, hexCount}
 use Rattle.hexlines.specs.Lines.{fresh, answerOf, saidBy, saidFrom}
 use Rattle.listing.specs.Records.{refusedLine}
-use Rattle.text.proofs.Puts.{put-fits}
+use Rattle.text.proofs.Puts.{put-fits, put-low}
 use Rattle.listing.proofs.Texts.{line-length}
 use Rattle.lister.specs.declared.Lister.{Lister}
 use Rattle.lister.specs.Listing.{outcome, printed, bitsThen, lineAfter, listingOf}
 use Rattle.lister.specs.Going.{Going, going, worldOf, restOf, whole, Ready, Turns, Ends}
-use Rattle.lister.proofs.Puts.{put-low, put-then}
+use Rattle.lister.proofs.Puts.{put-then}
 
 -- what a line that is not refused says
 pub record Fit (s : Seen) : Type 0 where

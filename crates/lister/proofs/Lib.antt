@@ -1,10 +1,8 @@
 pub mod Puts
-pub mod Records
 pub mod Runs
 pub mod Takes
 pub mod Turns
 pub mod Ends
 pub mod Feeds
 pub mod Goings
-pub mod States
 pub mod Inputs

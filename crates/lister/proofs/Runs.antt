@@ -19,7 +19,8 @@ use Rattle.taking.specs.Run.{Run, ended, oneBit, oneRecord, afterCycle, runOf, 
 use Rattle.taking.specs.Turn.{World, turnOf}
 use Rattle.listing.specs.Records.{recordLine, frameLine}
 use Rattle.listing.proofs.Texts.{line-length, frame-length}
-use Rattle.lister.specs.Listing.{frameText, recordText, wordsText, cycleText, bitsText}
+use Rattle.lister.specs.Listing.{cycleText, bitsText}
+use Rattle.printing.specs.Records.{frameText, recordText, wordsText}
 
 -- the length of a record's text
 part-short : (tray : List ℕ) (bits : ℕ) → length (partOf tray bits) ≤ length tray

@@ -22,7 +22,8 @@ use Rattle.taking.proofs.Runs.{run-faithful}
 use Rattle.taking.proofs.Loop.{length-bits}
 use Rattle.taking.proofs.Calls.{call-kept}
 use Rattle.taking.proofs.Refusals.{buffers, range, taken, clock-over}
-use Rattle.lister.specs.Listing.{Outcome, outcome, printed, bitsThen, wordsText, bitsText}
+use Rattle.lister.specs.Listing.{Outcome, outcome, printed, bitsThen, bitsText}
+use Rattle.printing.specs.Records.{wordsText}
 use Rattle.lister.proofs.Runs.{run-prints, run-takes}
 
 holds : (b : Bool) → T b → b ≡ true

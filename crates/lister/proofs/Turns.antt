@@ -15,9 +15,11 @@ use Rattle.taking.proofs.Stays.{take-sound}
 use Rattle.text.specs.Block.{block, putAll}
 use Rattle.hexlines.specs.Lines.{saidFrom}
 use Rattle.lister.specs.declared.Lister.{Lister}
-use Rattle.lister.specs.Listing.{printed, wordsText, listingOf}
+use Rattle.lister.specs.Listing.{printed, listingOf}
+use Rattle.printing.specs.Records.{wordsText}
 use Rattle.lister.specs.Going.{Going, going, worldOf, restOf, whole, Ready, Turns, leftOf, Takes}
-use Rattle.lister.proofs.Puts.{put-low, put-then}
+use Rattle.text.proofs.Puts.{put-low}
+use Rattle.lister.proofs.Puts.{put-then}
 use Rattle.lister.proofs.Takes.{Fit, Took, wordsLeft, took}
 
 -- The call that a turn makes, and the run after it.

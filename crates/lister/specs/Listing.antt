@@ -1,38 +1,21 @@
 -- The listing: what a program prints for the lines of its input (document 01, "Streams with their records": the station program).
 -- Assumes nothing.
-use mathlib.Core.Bool.{Bool, cond, _&&_}
+use mathlib.Core.Bool.{Bool, cond}
 use mathlib.Core.List.{List, [], _∷_, _++_}
 use Prim.Native.Nat.{ℕ, _+_, _*_, _%_, _^_}
 use lib.Dec.{eqb}
 use lib.ListN.{length}
 use Rattle.bits.specs.Bits.{bitsOf}
-use Rattle.frames.specs.Tray.{partOf}
 use Rattle.controller.specs.declared.Cycle.{Cycle}
 use Rattle.controller.specs.declared.Cycle.the-variants.{Nothing, Record}
-use Rattle.controller.specs.Records.{kindOf, isFrameHead, frameBitsOf}
 use Rattle.taking.specs.Run.{stateAfter}
 use Rattle.taking.specs.Turn.{World, turnOf}
 use Rattle.taking.specs.Take.{clockFits}
 use Rattle.hexlines.specs.Line.{Hex}
-use Rattle.listing.specs.Records.{recordLine, refusedLine, frameLine}
+use Rattle.listing.specs.Records.{refusedLine}
+use Rattle.printing.specs.Records.{recordText}
 
--- "after a frame of at least one bit, ">" and its bytes"; a program may leave the frames out.
-abbrev pub frameText : Bool → List ℕ → ℕ → ℕ → List ℕ
-frameText frames tray head value =
-    let bits = frameBitsOf (kindOf head) value in
-    cond (frames && isFrameHead head) (cond (eqb bits 0) [] (frameLine (partOf tray bits))) []
-
--- "a line a record"
-unfoldable pub recordText : Bool → List ℕ → ℕ → ℕ → List ℕ
-recordText frames tray head value = recordLine head value ++ frameText frames tray head value
-
--- The records of a taking call, from their words. A frame's record is the last, so that the tray still holds the frame.
-unfoldable pub wordsText : Bool → List ℕ → List ℕ → List ℕ
-wordsText frames tray [] = []
-wordsText frames tray (head ∷ []) = []
-wordsText frames tray (head ∷ value ∷ words) = recordText frames tray head value ++ wordsText frames tray words
-
--- The same cycle by cycle, whatever the taking calls are.
+-- The records cycle by cycle, whatever the taking calls are.
 abbrev pub cycleText : Bool → World → Cycle → List ℕ
 cycleText frames w Nothing = []
 cycleText frames w (Record head value) = recordText frames (w .tray) head value

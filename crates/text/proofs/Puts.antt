@@ -6,8 +6,8 @@ use Prim.Native.Nat.{ℕ, suc, _+_, _≤_, _<_}
 use native.Mathlib.Nat.{add-zero, add-assoc}
 use native.Mathlib.Omega.{arith}
 use lib.Dec.{leb}
-use lib.ListN.{length, set, length-append}
-use lib.Seq.{sets, length-sets, set-comm}
+use lib.ListN.{length, set, take, drop, length-append}
+use lib.Seq.{sets, length-sets, set-comm, sets-eq, take-at, length-take-le}
 use borrow.Author.Tests.{le-leb, lt-leb, leb-true}
 use Rattle.bits.proofs.Truth.{choice}
 use Rattle.text.specs.Block.{Block, block, putAll, putOf}
@@ -83,3 +83,25 @@ module _ {out₀ : List ℕ} {at : ℕ} {whole out : List ℕ} {place : ℕ} {re
 
   pub over : rest ≡ [] → block out place ≡ putAll out₀ at whole
   over e = simp (e, add-zero) at (l .whole-put)
+
+-- the next piece of a text, by a call that puts a line where it fits
+pub again-of : {out₀ : List ℕ} {at : ℕ} {whole out : List ℕ} {place : ℕ} {rest : List ℕ} → Left out₀ at whole out place rest
+    → (xs rest′ : List ℕ) → rest ≡ xs ++ rest′ → (out′ : List ℕ) (place′ : ℕ) → block out′ place′ ≡ putOf out place xs → Left out₀ at whole out′ place′ rest′
+again-of l xs rest′ e out′ place′ p = again l xs rest′ e out′ place′ (p ∙ put-fits _ _ xs (room l xs rest′ e))
+
+-- what stands ahead of the next place
+pub put-take : (out text out′ : List ℕ) (at next : ℕ) → block out′ next ≡ putAll out at text → at + length text ≤ length out
+    → take next out′ ≡ take at out ++ text
+put-take out text out′ at next e h =
+    let long : length (take at out ++ text) ≡ at + length text = simp (length-append, length-take-le at out (omega arith)) in
+    (λ i. take (e i .next) (e i .bytes))
+    ∙ rw (sets-eq text out at h)
+    (take-at (take at out ++ text) (drop (at + length text) out) (at + length text) long)
+
+-- the block keeps its length, and the next place stays within it
+module _ (out text out′ : List ℕ) (at next : ℕ) (e : block out′ next ≡ putAll out at text) (h : at + length text ≤ length out) where
+  pub put-low : next ≤ length out′
+  put-low =
+      let long = ap (λ (b : Block). length (b .bytes)) e ∙ length-sets out at text in
+      let place = ap (λ (b : Block). b .next) e in
+      omega arith

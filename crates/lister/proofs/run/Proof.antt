@@ -10,10 +10,10 @@ use lib.Seq.{length-take-le}
 use borrow.Author.Needs.{needs}
 use borrow.Author.Tests.{ltb-true}
 use Rattle.bits.proofs.Truth.{both}
-use Rattle.lister.specs.State.{stateText}
+use Rattle.printing.specs.State.{stateText}
 use Rattle.lister.specs.Going.{Within}
-use Rattle.lister.proofs.Puts.{put-low}
-use Rattle.lister.proofs.States.{state-short}
+use Rattle.text.proofs.Puts.{put-low}
+use Rattle.printing.proofs.States.{state-short}
 use Rattle.lister.proofs.Inputs.{Kept, begins, written}
 use Rattle.lister.proofs.run.Statement.{statement}
 use Rattle.lister.proofs.run.Tie as tie

@@ -10,9 +10,8 @@ use lib.ListN.{length, getD, drop, length-append, length-drop}
 use lib.Seq.{drop-cons}
 use Rattle.text.specs.Block.{block, putAll, putOf}
 use Rattle.listing.specs.Records.{recordLine}
-use Rattle.text.proofs.Puts.{Left, begun, room, again, over}
-use Rattle.lister.specs.Listing.{frameText, recordText, wordsText}
-use Rattle.lister.proofs.Puts.{again-of}
+use Rattle.text.proofs.Puts.{Left, begun, room, again, over, again-of}
+use Rattle.printing.specs.Records.{frameText, recordText, wordsText}
 
 -- A record's line, and a frame's after it.
 module _ (frames : Bool) (tray : List ℕ) (head value : ℕ) (out : List ℕ) (at : ℕ) (fits : at + length (recordText frames tray head value) ≤ length out)

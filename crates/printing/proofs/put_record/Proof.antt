@@ -5,9 +5,9 @@ use mathlib.Core.Path.{_≡_, ap, sym, _∙_}
 use borrow.Author.Needs.{needs}
 use borrow.Author.Tests.{eq-eqb, ne-eqb, not-true, not-false}
 use Rattle.controller.specs.Records.{isFrameHead}
-use Rattle.lister.proofs.Records.{bare, framed}
-use Rattle.lister.proofs.put_record.Statement.{statement}
-use Rattle.lister.proofs.put_record.Tie as tie
+use Rattle.printing.proofs.Records.{bare, framed}
+use Rattle.printing.proofs.put_record.Statement.{statement}
+use Rattle.printing.proofs.put_record.Tie as tie
 
 record-line-requires : tie.Need-record-line-requires
 record-line-requires c κs = search needs

@@ -7,10 +7,10 @@ use lib.ListN.{length}
 use borrow.Author.Needs.{needs}
 use borrow.Author.Tests.{eq-eqb, ne-eqb}
 use Rattle.text.proofs.Puts.{Left, over}
-use Rattle.lister.specs.State.{textsFrom, wordText}
-use Rattle.lister.proofs.States.{texts-begun, texts-put, texts-none, texts-over}
-use Rattle.lister.proofs.put_words.Statement.{statement}
-use Rattle.lister.proofs.put_words.Tie as tie
+use Rattle.printing.specs.State.{textsFrom, wordText}
+use Rattle.printing.proofs.States.{texts-begun, texts-put, texts-none, texts-over}
+use Rattle.printing.proofs.put_words.Statement.{statement}
+use Rattle.printing.proofs.put_words.Tie as tie
 
 abbrev Inv-loop : tie.InvT-loop
 Inv-loop out₀ at store place₀ i₀ i-end out place i =

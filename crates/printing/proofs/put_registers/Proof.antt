@@ -6,10 +6,10 @@ use mathlib.Core.Path.{sym, _∙_}
 use borrow.Author.Needs.{needs}
 use borrow.Author.Tests.{not-true, not-false}
 use Rattle.text.proofs.Puts.{Left, begun, over}
-use Rattle.lister.specs.State.{textsFrom, registerText}
-use Rattle.lister.proofs.States.{texts-put, texts-none, texts-over}
-use Rattle.lister.proofs.put_registers.Statement.{statement}
-use Rattle.lister.proofs.put_registers.Tie as tie
+use Rattle.printing.specs.State.{textsFrom, registerText}
+use Rattle.printing.proofs.States.{texts-put, texts-none, texts-over}
+use Rattle.printing.proofs.put_registers.Statement.{statement}
+use Rattle.printing.proofs.put_registers.Tie as tie
 
 abbrev Inv-loop : tie.InvT-loop
 Inv-loop out₀ at plan model place₀ i₀ out place i =

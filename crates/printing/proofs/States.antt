@@ -14,10 +14,9 @@ use Rattle.decoder.specs.declared.Decoder.{Decoder}
 use Rattle.text.specs.Text.{ascii}
 use Rattle.text.specs.Block.{block, putAll, putOf}
 use Rattle.listing.specs.State.{l1idLine, baseLine, runmodeLine}
-use Rattle.text.proofs.Puts.{Left, begun, room, again}
+use Rattle.text.proofs.Puts.{Left, begun, room, again, again-of}
 use Rattle.listing.proofs.Texts.{line-length}
-use Rattle.lister.specs.State.{textsFrom, registerText, pointersText, wordText, stateText}
-use Rattle.lister.proofs.Puts.{again-of}
+use Rattle.printing.specs.State.{textsFrom, registerText, pointersText, wordText, stateText}
 
 pub texts-begun : (text : ℕ → List ℕ) (n : ℕ) (out : List ℕ) (at : ℕ) → at + length (textsFrom n 0 text) ≤ length out
     → Left out at (textsFrom n 0 text) out at (textsFrom (n - 0) 0 text)

@@ -5,10 +5,10 @@ use native.Mathlib.Omega.{arith}
 use lib.ListN.{length, drop}
 use borrow.Author.Needs.{needs}
 use Rattle.text.proofs.Puts.{Left, begun, over}
-use Rattle.lister.specs.Listing.{wordsText}
-use Rattle.lister.proofs.Records.{words-room, words-again, words-over}
-use Rattle.lister.proofs.put_records.Statement.{statement}
-use Rattle.lister.proofs.put_records.Tie as tie
+use Rattle.printing.specs.Records.{wordsText}
+use Rattle.printing.proofs.Records.{words-room, words-again, words-over}
+use Rattle.printing.proofs.put_records.Statement.{statement}
+use Rattle.printing.proofs.put_records.Tie as tie
 
 abbrev Inv-loop : tie.InvT-loop
 Inv-loop out₀ at words tray frames place₀ i₀ out place i =

@@ -1,9 +1,9 @@
 -- `lister::put_state` meets its contract: its six pieces one after the other.
 -- Assumes nothing.
 use borrow.Author.Needs.{needs}
-use Rattle.lister.proofs.States.{registers-room, pointers-room, words-room, state-put}
-use Rattle.lister.proofs.put_state.Statement.{statement}
-use Rattle.lister.proofs.put_state.Tie as tie
+use Rattle.printing.proofs.States.{registers-room, pointers-room, words-room, state-put}
+use Rattle.printing.proofs.put_state.Statement.{statement}
+use Rattle.printing.proofs.put_state.Tie as tie
 
 put-registers-requires : tie.Need-put-registers-requires
 put-registers-requires c κs = registers-room (c .before .before .before .before .before .args .decoder) (c .before .before .before .before .before .args .store .now) (c .before .before .before .before .before .pre .0) (c .before .before .before .before .before .args .out .now) (c .before .before .before .before .before .pre .1)

@@ -5,10 +5,10 @@ use native.Mathlib.Omega.{arith}
 use mathlib.Core.Path.{refl}
 use borrow.Author.Needs.{needs}
 use Rattle.text.proofs.Puts.{Left, begun, over}
-use Rattle.lister.specs.State.{textsFrom, pointersText}
-use Rattle.lister.proofs.States.{texts-put, texts-over}
-use Rattle.lister.proofs.put_pointers.Statement.{statement}
-use Rattle.lister.proofs.put_pointers.Tie as tie
+use Rattle.printing.specs.State.{textsFrom, pointersText}
+use Rattle.printing.proofs.States.{texts-put, texts-over}
+use Rattle.printing.proofs.put_pointers.Statement.{statement}
+use Rattle.printing.proofs.put_pointers.Tie as tie
 
 abbrev Inv-loop : tie.InvT-loop
 Inv-loop out₀ at writes reads place₀ i₀ out place i =

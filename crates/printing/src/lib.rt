@@ -1,0 +1,100 @@
+// What the programs print of a taking call's records, and of the controller as the commands left it.
+ghost use mathlib.Core.Path.{_≡_};
+ghost use Prim.Native.Nat.{_+_, _≤_};
+ghost use lib.ListN.{length};
+ghost use Rattle.text.specs.Block.{block, putAll};
+ghost use Rattle.printing.specs.Records.{recordText, wordsText};
+ghost use Rattle.printing.specs.State.{textsFrom, registerText, pointersText, wordText, stateText};
+use controller::Model;
+use controller::Plan;
+use decoder::Decoder;
+
+// A record's line; and the frame's, after a frame of at least one bit, if frames are printed.
+fn put_record(out: &mut [u8], at: usize, head: u64, value: u64, tray: &[u8], frames: bool) -> usize
+    requires { ⌜ at + length (recordText frames (now tray) head value) ≤ length (now out) ⌝ }
+    ensures { λ r. ⌜ block (now (out .exit)) r ≡ putAll (now (out .entry)) at (recordText frames (now (tray .entry)) head value) ⌝ }
+{
+    let place = listing::record_line(out, at, head, value);
+    if !(frames & controller::is_frame_head(head)) {
+        return place;
+    }
+    let bits = controller::frame_bits(head, value);
+    if bits == 0 {
+        return place;
+    }
+    listing::frame_line(out, place, frames::frame_part(tray, bits))
+}
+
+// The lines of the records of a taking call.
+pub fn put_records(out: &mut [u8], at: usize, words: &[u64], tray: &[u8], frames: bool) -> usize
+    requires { ⌜ at + length (wordsText frames (now tray) (now words)) ≤ length (now out) ⌝ }
+    ensures { λ r. ⌜ block (now (out .exit)) r ≡ putAll (now (out .entry)) at (wordsText frames (now (tray .entry)) (now (words .entry))) ⌝ }
+{
+    let mut place = at;
+    let mut i: usize = 0;
+    while i < words.len() / 2 {
+        place = put_record(out, place, words[2 * i], words[2 * i + 1], tray, frames);
+        i += 1;
+    }
+    place
+}
+
+// The registers that exist, as they read.
+fn put_registers(out: &mut [u8], at: usize, plan: Plan, model: Model) -> usize
+    requires { ⌜ at + length (textsFrom 16 0 (registerText plan model)) ≤ length (now out) ⌝ }
+    ensures { λ r. ⌜ block (now (out .exit)) r ≡ putAll (now (out .entry)) at (textsFrom 16 0 (registerText plan model)) ⌝ }
+{
+    let mut place = at;
+    for i in 0..16 {
+        if !plan.exists_at(i) {
+            continue;
+        }
+        place = listing::register_line(out, place, i as usize, model.read(plan, i));
+    }
+    place
+}
+
+// The FIFOs' pointers.
+fn put_pointers(out: &mut [u8], at: usize, model: Model) -> usize
+    requires { ⌜ at + length (textsFrom 16 0 (pointersText (model .writes) (model .reads))) ≤ length (now out) ⌝ }
+    ensures { λ r. ⌜ block (now (out .exit)) r ≡ putAll (now (out .entry)) at (textsFrom 16 0 (pointersText (model .writes) (model .reads))) ⌝ }
+{
+    let writes = model.writes;
+    let reads = model.reads;
+    let mut place = at;
+    for i in 0..16 {
+        place = listing::pointers_line(out, place, i, writes[i], reads[i]);
+    }
+    place
+}
+
+// The FIFO words that are not 0.
+fn put_words(out: &mut [u8], at: usize, store: &[u32]) -> usize
+    requires { ⌜ at + length (textsFrom (length (now store)) 0 (wordText (now store))) ≤ length (now out) ⌝ }
+    ensures { λ r. ⌜ block (now (out .exit)) r ≡ putAll (now (out .entry)) at (textsFrom (length (now (store .entry))) 0 (wordText (now (store .entry)))) ⌝ }
+{
+    let mut place = at;
+    for i in 0..store.len() {
+        let word = store[i];
+        if word == 0 {
+            continue;
+        }
+        place = listing::word_line(out, place, i / 128, i % 128, word);
+    }
+    place
+}
+
+// The controller as the commands left it.
+pub fn put_state(out: &mut [u8], decoder: Decoder, store: &[u32]) -> usize
+    requires { ⌜ (length (now store) ≡ 2048) × (length (now out) ≡ 65536) ⌝ }
+    ensures { λ r. ⌜ block (now (out .exit)) r ≡ putAll (now (out .entry)) 0 (stateText decoder (now (store .entry))) ⌝ }
+{
+    let plan = decoder.plan;
+    let model = decoder.model;
+    let registers = put_registers(out, 0, plan, model);
+    let l1id = listing::l1id_line(out, registers, model.l1id);
+    let base = listing::base_line(out, l1id, model.base);
+    let runmode = listing::runmode_line(out, base, model.running);
+    let pointers = put_pointers(out, runmode, model);
+    put_words(out, pointers, store)
+}
