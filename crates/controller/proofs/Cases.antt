@@ -9,14 +9,15 @@ use lib.ListN.{getD, set}
 use Rattle.bits.proofs.Truth.{choice, or-left, or-right}
 use Rattle.recogniser.specs.declared.Event.{Event}
 use Rattle.recogniser.specs.declared.Event.the-variants as event
-use Rattle.controller.specs.declared.Plan.{Plan}
-use Rattle.controller.specs.declared.Model.{Model}
+use Rattle.registers.specs.declared.Plan.{Plan}
+use Rattle.registers.specs.declared.Model.{Model}
 use Rattle.controller.specs.declared.Acted.{Acted}
-use Rattle.controller.specs.Plan.{existsAt}
-use Rattle.controller.specs.Registers.{feenOf, writtenOf}
-use Rattle.controller.specs.Fifos.{Fifos, movedOn, pushOf, writeOf}
-use Rattle.controller.specs.Commands.{Effect, effect, zeros16, writeRegisterOf, readRegisterOf, writeFifoOf, readFifoOf, enableOf, resetOf, resetFrontEndsOf, slowOf, actOf}
-use Rattle.controller.specs.Sound.{changesRegisters}
+use Rattle.registers.specs.Plan.{existsAt}
+use Rattle.registers.specs.Registers.{feenOf, writtenOf}
+use Rattle.registers.specs.Fifos.{Fifos, movedOn, pushOf, writeOf}
+use Rattle.registers.specs.Registers.{zeros16}
+use Rattle.controller.specs.Commands.{Effect, effect, writeRegisterOf, readRegisterOf, writeFifoOf, readFifoOf, enableOf, resetOf, resetFrontEndsOf, slowOf, actOf}
+use Rattle.controller.specs.Events.{changesRegisters}
 
 -- What each word written keeps, a WrFifo keeps.
 pub write-keeps : (P : Fifos → Type 0) → ((n word : ℕ) (f : Fifos) → P f → P (pushOf n word f))

@@ -19,7 +19,7 @@ use Rattle.recogniser.specs.Hunting.{meaningOf, huntBy, isFast}
 use Rattle.recogniser.specs.Fields.{isSlow, isFrame, lengthOf, endsOf}
 use Rattle.recogniser.specs.Groups.{storesOf, frameEventOf}
 use Rattle.recogniser.specs.Step.{stepBy, stepOf}
-use Rattle.controller.specs.Sound.{eventFits}
+use Rattle.controller.specs.Events.{eventFits}
 
 abbrev Fits : Event → Type 0
 Fits e = eventFits e ≡ true

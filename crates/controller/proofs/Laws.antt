@@ -12,14 +12,16 @@ use borrow.Author.Tests.{lt-ltb, eq-eqb}
 use Rattle.bits.proofs.Truth.{both, choice, clash, or-left, or-right}
 use Rattle.recogniser.specs.declared.Event.{Event}
 use Rattle.recogniser.specs.declared.Event.the-variants as event
-use Rattle.controller.specs.declared.Plan.{Plan}
-use Rattle.controller.specs.declared.Model.{Model}
+use Rattle.registers.specs.declared.Plan.{Plan}
+use Rattle.registers.specs.declared.Model.{Model}
 use Rattle.controller.specs.declared.Acted.{Acted}
-use Rattle.controller.specs.Plan.{existsAt}
-use Rattle.controller.specs.Registers.{cntOf}
-use Rattle.controller.specs.Fifos.{movedOn}
-use Rattle.controller.specs.Commands.{zeros16, actOf}
-use Rattle.controller.specs.Sound.{everyFrom, fitsAt, pointersFit, zeroAt, missingZero, changesRegisters, changesRunning}
+use Rattle.registers.specs.Plan.{existsAt}
+use Rattle.registers.specs.Registers.{cntOf}
+use Rattle.registers.specs.Fifos.{movedOn}
+use Rattle.registers.specs.Registers.{zeros16}
+use Rattle.controller.specs.Commands.{actOf}
+use Rattle.registers.specs.Sound.{everyFrom, fitsAt, pointersFit, zeroAt, missingZero}
+use Rattle.controller.specs.Events.{changesRegisters, changesRunning}
 use Rattle.controller.proofs.Cases.{write-keeps, slow-cases, act-keeps}
 
 -- The model after an event.

@@ -1,6 +1,4 @@
-pub mod Facts
-pub mod Every
-pub mod Writes
+pub mod Wrote
 pub mod Cases
 pub mod Laws
 pub mod Heard

@@ -4,27 +4,23 @@ use mathlib.Core.Bool.{Bool, true, false, cond, _&&_, _||_}
 use mathlib.Core.List.{List}
 use Prim.Native.Nat.{ℕ, _+_, _*_, _-_, _/_, _%_, _^_}
 use lib.Dec.{eqb}
-use lib.ListN.{getD, set, replicate}
+use lib.ListN.{getD, set}
 use Rattle.recogniser.specs.Fields.{dataBits, controlBits, receiverBits}
 use Rattle.recogniser.specs.declared.Event.{Event}
 use Rattle.recogniser.specs.declared.Event.the-variants as event
-use Rattle.controller.specs.declared.Plan.{Plan}
-use Rattle.controller.specs.declared.Model.{Model}
+use Rattle.registers.specs.declared.Plan.{Plan}
+use Rattle.registers.specs.declared.Model.{Model}
 use Rattle.controller.specs.declared.Acted.{Acted}
 use Rattle.controller.specs.declared.Cycle.{Cycle}
 use Rattle.controller.specs.declared.Cycle.the-variants.{Nothing}
 use Rattle.controller.specs.Parts.{withRunning, withL1id, withBase, withWarned, withRegisters, withPointers}
-use Rattle.controller.specs.Plan.{existsAt}
-use Rattle.controller.specs.Registers.{registerOf, cntOf, feenOf, readOf, writtenOf}
-use Rattle.controller.specs.Fifos.{movedOn, writeOf, readWordOf}
+use Rattle.registers.specs.Plan.{existsAt}
+use Rattle.registers.specs.Registers.{registerOf, cntOf, feenOf, readOf, writtenOf, zeros16}
+use Rattle.registers.specs.Fifos.{movedOn, writeOf, readWordOf}
 use Rattle.controller.specs.Records.{recordOf, kindLv1, kindFast, kindBadFast, kindSlow, kindBadSlow, flagActed, flagFlip, flagSent, flagMissing, flagUnsteady}
 
 abbrev pub acted : Model → Cycle → Acted
 acted m cycle = record { model = m; cycle = cycle }
-
--- All sixteen registers or pointers at 0.
-abbrev pub zeros16 : List ℕ
-zeros16 = replicate 16 0
 
 -- "The bunch number is the cycle less the base cycle, modulo 256."
 abbrev pub bunchOf : Model → ℕ → ℕ

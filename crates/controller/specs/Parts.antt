@@ -3,7 +3,7 @@
 use mathlib.Core.Bool.{Bool}
 use mathlib.Core.List.{List}
 use Prim.Native.Nat.{ℕ}
-use Rattle.controller.specs.declared.Model.{Model}
+use Rattle.registers.specs.declared.Model.{Model}
 
 abbrev pub withRunning : Bool → Model → Model
 withRunning b m = record {

@@ -14,7 +14,7 @@ use Rattle.recogniser.specs.declared.Recogniser.{Recogniser}
 use Rattle.recogniser.specs.declared.Heard.{Heard}
 use Rattle.recogniser.specs.Parts.{idle}
 use Rattle.recogniser.specs.Step.{stepOf}
-use Rattle.controller.specs.Registers.{cntOf}
+use Rattle.registers.specs.Registers.{cntOf}
 use Rattle.controller.specs.Records.{wordsOf}
 use Rattle.decoder.specs.declared.Decoder.{Decoder}
 use Rattle.taking.specs.Entries.{Entry, entryWords}

@@ -6,7 +6,7 @@ use Prim.Native.Nat.{ℕ, _+_, _*_, _-_, _/_, _%_, _^_}
 use lib.Dec.{eqb, ltb}
 use Rattle.recogniser.specs.declared.Event.{Event}
 use Rattle.recogniser.specs.declared.Event.the-variants.{Nothing, Lv1, Fast, BadFast, SlowBegins, Slow, BadSlow, FrameBit, FrameEnd, FrameEndBit}
-use Rattle.controller.specs.Registers.{registerOf}
+use Rattle.registers.specs.Registers.{registerOf}
 use Rattle.controller.specs.Records.{kindLv1, kindFast, kindBadFast, flagFlip, flagSent}
 use Rattle.decoder.specs.declared.Decoder.{Decoder}
 use Rattle.taking.specs.Entries.{Entry, entry}

@@ -4,9 +4,9 @@ use mathlib.Core.Bool.{false, cond, not}
 use Prim.Native.Nat.{ℕ}
 use lib.Dec.{leb}
 use Rattle.recogniser.specs.Parts.{idle}
-use Rattle.controller.specs.declared.Plan.{Plan}
-use Rattle.controller.specs.Plan.{planFits, defaultPlan}
-use Rattle.controller.specs.Commands.{zeros16}
+use Rattle.registers.specs.declared.Plan.{Plan}
+use Rattle.registers.specs.Plan.{planFits, defaultPlan}
+use Rattle.registers.specs.Registers.{zeros16}
 use Rattle.decoder.specs.declared.Decoder.{Decoder}
 use Rattle.decoder.specs.declared.Opened.{Opened}
 use Rattle.decoder.specs.declared.Opening.{Opening}

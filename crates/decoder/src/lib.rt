@@ -4,10 +4,10 @@ ghost use Prim.Native.Nat.{_<_, _^_};
 ghost use Rattle.decoder.specs.Opening.{openedAt, openOf, openingNumber};
 ghost use Rattle.decoder.specs.Fit.{hasField5, keeps, nibbleFits, field4Fits, field5Fits, fitOf};
 ghost use Rattle.decoder.specs.Sound.{insideSlow, soundOf};
-use controller::Model;
-use controller::Plan;
 use recogniser::Phase;
 use recogniser::Recogniser;
+use registers::Model;
+use registers::Plan;
 
 // The whole state: nothing else is kept between calls.
 pub struct Decoder {
@@ -206,8 +206,8 @@ impl Decoder {
         let opens = plan.fits();
         let clock = self.next <= Decoder::CLOCK_LIMIT;
         let base = model.base <= self.next;
-        let writes_fit = controller::pointers_fit(writes);
-        let reads_fit = controller::pointers_fit(reads);
+        let writes_fit = registers::pointers_fit(writes);
+        let reads_fit = registers::pointers_fit(reads);
         let missing = model.missing_zero(plan);
         let phase = recogniser.phase;
         let slow = inside_slow(phase);

@@ -9,8 +9,8 @@ use lib.ListN.{length, getD, take, drop}
 use Rattle.recogniser.specs.declared.Phase.{Phase}
 use Rattle.recogniser.specs.declared.Phase.the-variants.{Hunt, Body, Field3, Field4, Field5}
 use Rattle.recogniser.specs.declared.Recogniser.{Recogniser}
-use Rattle.controller.specs.declared.Plan.{Plan}
-use Rattle.controller.specs.declared.Model.{Model}
+use Rattle.registers.specs.declared.Plan.{Plan}
+use Rattle.registers.specs.declared.Model.{Model}
 use Rattle.decoder.specs.declared.Decoder.{Decoder}
 
 abbrev pub imageLength : ℕ

@@ -5,12 +5,12 @@ ghost use Prim.Native.Nat.{_+_, _≤_};
 ghost use lib.ListN.{length};
 ghost use lib.Seq.{sets};
 ghost use Rattle.image.specs.Image.{imageLength, phaseNumber, phaseOf, scalarsOf, imageOf, narrowed, planAt, recogniserAt, modelAt, stateOf, sameWords, imageFits};
-use controller::Model;
-use controller::Plan;
 use decoder::Decoder;
 use recogniser::Group;
 use recogniser::Phase;
 use recogniser::Recogniser;
+use registers::Model;
+use registers::Plan;
 
 // The words of an image.
 pub const WORDS: usize = 68;

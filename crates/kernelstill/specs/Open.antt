@@ -5,7 +5,7 @@ use mathlib.Core.List.{List}
 use Prim.Native.Nat.{ℕ, _^_}
 use lib.Dec.{ltb, eqb}
 use lib.ListN.{length}
-use Rattle.controller.specs.declared.Plan.{Plan}
+use Rattle.registers.specs.declared.Plan.{Plan}
 use Rattle.decoder.specs.declared.Opened.{Opened}
 use Rattle.decoder.specs.Opening.{openOf, openingNumber}
 use Rattle.image.specs.Image.{imageLength, imageOf}

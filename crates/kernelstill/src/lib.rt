@@ -11,8 +11,8 @@ ghost use Rattle.frames.specs.Tray.{partOf};
 ghost use Rattle.kernelstill.specs.Open.{emptyPlan, planOf, openLeftOf};
 ghost use Rattle.kernelstill.specs.Take.{endingCode, resultLength, resultOf, soundImage, takeLeftOf, Holds};
 ghost use Rattle.kernelstill.specs.Lines.{hexLeftOf, recordLeftOf};
-use controller::Plan;
 use decoder::Decoder;
+use registers::Plan;
 use taking::Ending;
 use taking::Told;
 

@@ -7,7 +7,7 @@ use Prim.Native.Nat.{ℕ, _<_}
 use native.Mathlib.Omega.{arith}
 use lib.ListN.{length, set, take, drop}
 use Rattle.bits.proofs.Truth.{clash}
-use Rattle.controller.specs.Plan.{defaultPlan}
+use Rattle.registers.specs.Plan.{defaultPlan}
 use Rattle.taking.proofs.Stays.{start-sound}
 use Rattle.hexlines.specs.declared.Seen.{Seen}
 use Rattle.text.specs.Text.{lineFeed}

@@ -7,7 +7,7 @@ use Prim.Native.Nat.{ℕ, _+_, _*_, _-_, _<_, _≤_}
 use lib.Dec.{T, ltb, leb, eqb}
 use lib.ListN.{length, take, drop, replicate}
 use Rattle.bits.specs.Bits.{bitsOf}
-use Rattle.controller.specs.Plan.{defaultPlan}
+use Rattle.registers.specs.Plan.{defaultPlan}
 use Rattle.decoder.specs.Opening.{openOf}
 use Rattle.decoder.specs.Sound.{soundOf}
 use Rattle.taking.specs.Turn.{World}

@@ -4,11 +4,11 @@ ghost use mathlib.Core.Bool.{true, false};
 ghost use Prim.Native.Nat.{_+_, _<_, _≤_};
 ghost use lib.ListN.{length};
 ghost use Rattle.lister.specs.Going.{start, going, leftOf, goesOn, Ready, Turns, Takes, Ended, Fed, Goes, Refilled};
-use controller::Plan;
 use decoder::Decoder;
 use hexlines::Seen;
 use libc::STDIN_FILENO;
 use libc::STDOUT_FILENO;
+use registers::Plan;
 
 // What a program prints beside the records: the frames, and at the end of the run the controller as the commands left it.
 pub struct Prints {

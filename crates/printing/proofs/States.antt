@@ -8,8 +8,8 @@ use native.Mathlib.Omega.{arith}
 use lib.Dec.{eqb}
 use lib.ListN.{length, getD, length-append}
 use Rattle.bits.proofs.Truth.{choice}
-use Rattle.controller.specs.Plan.{existsAt}
-use Rattle.controller.specs.Registers.{readOf}
+use Rattle.registers.specs.Plan.{existsAt}
+use Rattle.registers.specs.Registers.{readOf}
 use Rattle.decoder.specs.declared.Decoder.{Decoder}
 use Rattle.text.specs.Text.{ascii}
 use Rattle.text.specs.Block.{block, putAll, putOf}

@@ -5,10 +5,10 @@ use mathlib.Core.List.{List, [], _++_}
 use Prim.Native.Nat.{ℕ, zero, suc, _+_, _/_, _%_}
 use lib.Dec.{eqb}
 use lib.ListN.{length, getD}
-use Rattle.controller.specs.declared.Plan.{Plan}
-use Rattle.controller.specs.declared.Model.{Model}
-use Rattle.controller.specs.Plan.{existsAt}
-use Rattle.controller.specs.Registers.{readOf}
+use Rattle.registers.specs.declared.Plan.{Plan}
+use Rattle.registers.specs.declared.Model.{Model}
+use Rattle.registers.specs.Plan.{existsAt}
+use Rattle.registers.specs.Registers.{readOf}
 use Rattle.decoder.specs.declared.Decoder.{Decoder}
 use Rattle.listing.specs.State.{registerLine, l1idLine, baseLine, runmodeLine, pointersLine, wordLine}
 

@@ -5,9 +5,9 @@ ghost use lib.ListN.{length};
 ghost use Rattle.text.specs.Block.{block, putAll};
 ghost use Rattle.printing.specs.Records.{recordText, wordsText};
 ghost use Rattle.printing.specs.State.{textsFrom, registerText, pointersText, wordText, stateText};
-use controller::Model;
-use controller::Plan;
 use decoder::Decoder;
+use registers::Model;
+use registers::Plan;
 
 // A record's line; and the frame's, after a frame of at least one bit, if frames are printed.
 fn put_record(out: &mut [u8], at: usize, head: u64, value: u64, tray: &[u8], frames: bool) -> usize

@@ -7,7 +7,7 @@ use Prim.Native.Nat.{ℕ}
 use lib.Dec.{eqb}
 use lib.ListN.{length}
 use borrow.Author.Tests.{eq-eqb, ne-eqb}
-use Rattle.controller.specs.Plan.{planFits}
+use Rattle.registers.specs.Plan.{planFits}
 use Rattle.decoder.specs.declared.Decoder.{Decoder}
 use Rattle.taking.specs.declared.Ending.{Ending}
 use Rattle.decoder.specs.Sound.{soundOf}

@@ -7,8 +7,8 @@ use native.Mathlib.Omega.{arith}
 use lib.Dec.{leb, ltb, eqb}
 use lib.ListN.{length}
 use borrow.Author.Tests.{le-leb, lt-leb, ltb-true, ltb-false}
-use Rattle.controller.specs.declared.Plan.{Plan}
-use Rattle.controller.specs.Plan.{existsAt, planFits}
+use Rattle.registers.specs.declared.Plan.{Plan}
+use Rattle.registers.specs.Plan.{existsAt, planFits}
 use Rattle.decoder.specs.declared.Decoder.{Decoder}
 use Rattle.taking.specs.declared.Ending.{Ending}
 use Rattle.taking.specs.declared.Ending.the-variants.{Unsound, WrongBuffers, WrongRange, ClockOver}

@@ -8,7 +8,7 @@ use mathlib.Core.List.{List, [], _∷_, _++_}
 use Prim.Native.Nat.{ℕ, _*_, _-_, _<_}
 use lib.Dec.{T}
 use lib.ListN.{length, take}
-use Rattle.controller.specs.declared.Plan.{Plan}
+use Rattle.registers.specs.declared.Plan.{Plan}
 use Rattle.controller.specs.Records.{isFrameHead}
 use Rattle.decoder.specs.declared.Decoder.{Decoder}
 use Rattle.taking.specs.declared.Ending.the-variants.{Done, Frame, ListFull}

@@ -6,8 +6,8 @@ use mathlib.Core.List.{List, [], _∷_}
 use Prim.Native.Nat.{ℕ, _+_, _*_, _^_}
 use lib.Dec.{leb, ltb, eqb}
 use lib.ListN.{length}
-use Rattle.controller.specs.declared.Plan.{Plan}
-use Rattle.controller.specs.Plan.{existsAt, defaultPlan}
+use Rattle.registers.specs.declared.Plan.{Plan}
+use Rattle.registers.specs.Plan.{existsAt, defaultPlan}
 use Rattle.decoder.specs.declared.Decoder.{Decoder}
 use Rattle.taking.specs.declared.Ending.{Ending}
 use Rattle.decoder.specs.Opening.{openedAt, openOf, openingNumber}

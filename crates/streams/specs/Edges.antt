@@ -14,7 +14,7 @@ use Rattle.recogniser.specs.Fields.{lengthOf}
 use Rattle.recogniser.specs.Step.{stepOf}
 use Rattle.controller.specs.Parts.{withRunning}
 use Rattle.frames.specs.Tray.{partOf}
-use Rattle.controller.specs.Plan.{defaultPlan}
+use Rattle.registers.specs.Plan.{defaultPlan}
 use Rattle.controller.specs.Records.{frameBitsOf}
 use Rattle.decoder.specs.declared.Decoder.{Decoder}
 use Rattle.decoder.specs.Limits.{clockLimit, storeLength, trayLength}

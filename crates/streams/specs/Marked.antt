@@ -6,7 +6,7 @@ use mathlib.Core.List.{List, [], _∷_, _++_, map}
 use Prim.Native.Nat.{ℕ, zero, suc}
 use lib.ListN.{length, replicate, set, take, drop}
 use Rattle.bits.specs.Bits.{numberOf}
-use Rattle.controller.specs.Plan.{defaultPlan}
+use Rattle.registers.specs.Plan.{defaultPlan}
 use Rattle.controller.specs.Parts.{withRunning, withRegisters}
 use Rattle.decoder.specs.declared.Decoder.{Decoder}
 use Rattle.taking.specs.declared.Ending.{Ending}

@@ -16,13 +16,13 @@ use Rattle.stretches.specs.declared.Stretch.{Stretch}
 use Rattle.stretches.specs.Stretch.{stretchOf}
 use Rattle.stretches.proofs.Stretches.{Passes, ends, last, more, stretch-passes, stretch-some, stretch-within}
 use Rattle.frames.specs.Tray.{trayOf}
-use Rattle.controller.specs.declared.Model.{Model}
+use Rattle.registers.specs.declared.Model.{Model}
 use Rattle.controller.specs.declared.Acted.{Acted}
 use Rattle.controller.specs.declared.Cycle.the-variants.{Nothing, Record}
-use Rattle.controller.specs.Registers.{cntOf}
+use Rattle.registers.specs.Registers.{cntOf}
 use Rattle.controller.specs.Records.{isFrameHead}
 use Rattle.controller.specs.Commands.{Effect, actOf}
-use Rattle.controller.specs.Sound.{eventFits}
+use Rattle.controller.specs.Events.{eventFits}
 use Rattle.controller.proofs.Heard.{heard-fits}
 use Rattle.decoder.specs.declared.Decoder.{Decoder}
 use Rattle.taking.specs.declared.Ending.{Ending}

@@ -18,7 +18,7 @@ use Rattle.recogniser.specs.Hunting.{isFast, meaningOf, huntBy}
 use Rattle.recogniser.specs.Fields.{isFrame, lengthOf, endsOf}
 use Rattle.recogniser.specs.Groups.{storesOf, frameEventOf}
 use Rattle.recogniser.specs.Step.{stepBy, stepOf}
-use Rattle.controller.specs.Sound.{changesRegisters, changesRunning}
+use Rattle.controller.specs.Events.{changesRegisters, changesRunning}
 use Rattle.decoder.specs.Sound.{insideSlow}
 
 -- An event that leaves registers and RunMode alone.

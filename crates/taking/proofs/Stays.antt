@@ -16,10 +16,10 @@ use Rattle.recogniser.specs.declared.Recogniser.{Recogniser}
 use Rattle.recogniser.specs.declared.Heard.{Heard}
 use Rattle.decoder.specs.Fit.{fitOf}
 use Rattle.decoder.proofs.Fits.{start-fits, step-fits}
-use Rattle.controller.specs.declared.Plan.{Plan}
-use Rattle.controller.specs.declared.Model.{Model}
-use Rattle.controller.specs.Plan.{planFits, defaultPlan}
-use Rattle.controller.specs.Registers.{cntOf}
+use Rattle.registers.specs.declared.Plan.{Plan}
+use Rattle.registers.specs.declared.Model.{Model}
+use Rattle.registers.specs.Plan.{planFits, defaultPlan}
+use Rattle.registers.specs.Registers.{cntOf}
 use Rattle.controller.proofs.Laws.{after, zeros-fit, zeros-missing, writes-fit, reads-fit, missing-zero, base-low, cnt-kept, begins-stops, running-kept}
 use Rattle.decoder.specs.declared.Decoder.{Decoder}
 use Rattle.decoder.specs.declared.Opened.{Opened}

@@ -18,7 +18,7 @@ use Rattle.stretches.specs.Stretch.{stretched, oneMore}
 use Rattle.stretches.proofs.Stretches.{Passes, ends, last, more}
 use Rattle.frames.specs.Tray.{trayOf}
 use Rattle.controller.specs.declared.Cycle.the-variants as cycle
-use Rattle.controller.specs.Registers.{cntOf}
+use Rattle.registers.specs.Registers.{cntOf}
 use Rattle.controller.specs.Commands.{Effect, actOf}
 use Rattle.decoder.specs.declared.Decoder.{Decoder}
 use Rattle.taking.specs.declared.Ending.the-variants.{Done, ListFull}

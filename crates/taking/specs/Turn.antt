@@ -5,7 +5,7 @@ use Prim.Native.Nat.{ℕ, _+_}
 use Rattle.recogniser.specs.declared.Heard.{Heard}
 use Rattle.recogniser.specs.Step.{stepOf}
 use Rattle.frames.specs.Tray.{trayOf}
-use Rattle.controller.specs.Registers.{cntOf}
+use Rattle.registers.specs.Registers.{cntOf}
 use Rattle.controller.specs.Commands.{Effect, actOf}
 use Rattle.decoder.specs.declared.Decoder.{Decoder}
 use Rattle.taking.specs.Run.{Turned}

@@ -4,11 +4,11 @@ ghost use Prim.Native.Nat.{_+_, _*_, _/_, _≤_, _^_};
 ghost use lib.ListN.{length, set};
 ghost use Rattle.taking.specs.Take.{buffersFit, rangeFits, takenOf, takeOf, endingNumber};
 use controller::Cycle;
-use controller::Model;
-use controller::Plan;
 use decoder::Decoder;
 use recogniser::Event;
 use recogniser::Recogniser;
+use registers::Model;
+use registers::Plan;
 
 // How a taking call ends; the last four are its refusals, numbers 3 to 6.
 pub enum Ending {
@@ -160,7 +160,7 @@ fn run(
             continue;
         }
         frames::keep(tray, event);
-        let acted = model.act(plan, event, start + taken as u64 - 1, store);
+        let acted = controller::act(model, plan, event, start + taken as u64 - 1, store);
         let m = acted.model;
         model = m;
         cnt = m.cnt(plan);

@@ -2,7 +2,7 @@
 -- Assumes nothing.
 use mathlib.Core.Path.{_∙_, ap}
 use borrow.Author.Needs.{needs}
-use Rattle.controller.specs.declared.Plan.{Plan}
+use Rattle.registers.specs.declared.Plan.{Plan}
 use Rattle.decoder.specs.Opening.{openOf}
 use Rattle.lister.proofs.Lister.start.Statement.{statement}
 use Rattle.lister.proofs.Lister.start.Tie as tie

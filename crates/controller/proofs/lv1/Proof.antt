@@ -1,0 +1,94 @@
+-- `Model::lv1` answers `lv1Of`, in RunMode and out of it; at most three flags are added, so they fit.
+-- Assumes nothing.
+use native.Mathlib.Nat.{zero-add, add-zero}
+use borrow.Author.Tests.{not-true, not-false}
+use borrow.Author.Needs.{needs}
+use Rattle.controller.proofs.lv1.Statement.{statement}
+use Rattle.controller.proofs.lv1.Tie as tie
+
+flag-requires : tie.Need-flag-requires
+flag-requires c κs = search needs
+
+answer-requires : tie.Need-answer-requires
+answer-requires c κs = search needs
+
+returns : tie.Need-returns
+returns c =
+    let d = c .before .before .before in
+    simp (
+      not-true (d .before .before .args .model .running) (c .before .if1 .taken),
+      c .answer .ensures,
+      d .flag .ensures .0,
+      zero-add,
+      add-zero,
+    )
+
+register-requires : tie.Need-register-requires
+register-requires c κs = search needs
+
+flag-requires-2 : tie.Need-flag-requires-2
+flag-requires-2 c κs = search needs
+
+cast-value : tie.Need-cast-value
+cast-value c = search needs
+
+mul-value : tie.Need-mul-value
+mul-value c = search needs
+
+bunch-requires : tie.Need-bunch-requires
+bunch-requires c κs = search needs
+
+add-value : tie.Need-add-value
+add-value c = search needs
+
+cast-m : tie.Need-cast-m
+cast-m c = search needs
+
+add-m : tie.Need-add-m
+add-m c = search needs
+
+cast-m-2 : tie.Need-cast-m-2
+cast-m-2 c = search needs
+
+add-answer : tie.Need-add-answer
+add-answer c = search needs
+
+add-answer-2 : tie.Need-add-answer-2
+add-answer-2 c = search needs
+
+answer-requires-2 : tie.Need-answer-requires-2
+answer-requires-2 c κs = search needs
+
+returns-2 : tie.Need-returns-2
+returns-2 c =
+    let d = c .before .before .before .before in
+    let s = d .before .before .before .before in
+    simp (
+      not-false (s .before .before .args .model .running) (d .before .before .if1 .left),
+      c .answer2 .ensures,
+      s .flag .ensures .0,
+      d .flag2 .ensures .0,
+      d .before .register .ensures,
+      c .before .before .bunch .ensures,
+    )
+
+pub lv1-spec : {M : Type 1} → statement M
+lv1-spec =
+    tie.close
+    (tie.spec
+    flag-requires
+    answer-requires
+    returns
+    register-requires
+    flag-requires-2
+    cast-value
+    mul-value
+    bunch-requires
+    add-value
+    cast-m
+    add-m
+    cast-m-2
+    add-answer
+    add-answer-2
+    answer-requires-2
+    returns-2)

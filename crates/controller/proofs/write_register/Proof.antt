@@ -1,0 +1,74 @@
+-- `Model::write_register` answers `writeRegisterOf`; an address that exists is below 16.
+-- Assumes nothing.
+use mathlib.Core.Path.{sym, _∙_}
+use borrow.Author.Tests.{not-true, not-false}
+use borrow.Author.Needs.{needs}
+use Rattle.registers.proofs.Facts.{exists-low}
+use Rattle.controller.proofs.write_register.Statement.{statement}
+use Rattle.controller.proofs.write_register.Tie as tie
+
+cast-bits : tie.Need-cast-bits
+cast-bits c = search needs
+
+mul-arrived : tie.Need-mul-arrived
+mul-arrived c = search needs
+
+cast-arrived : tie.Need-cast-arrived
+cast-arrived c = search needs
+
+add-arrived : tie.Need-add-arrived
+add-arrived c = search needs
+
+exists-at-requires : tie.Need-exists-at-requires
+exists-at-requires c κs = search needs
+
+add-answer : tie.Need-add-answer
+add-answer c = search needs
+
+answer-requires : tie.Need-answer-requires
+answer-requires c κs = search needs
+
+returns : tie.Need-returns
+returns c = simp (← c .before .before .exists-at .ensures, not-true (c .before .before .exists-at .result) (c .before .if1 .taken), c .answer .ensures)
+
+stored-requires : tie.Need-stored-requires
+stored-requires c κs = search needs
+
+mul-m : tie.Need-mul-m
+mul-m c = search needs
+
+element-write-m : tie.Need-element-write-m
+element-write-m c =
+    let d = c .before .before in
+    exists-low (d .before .args .plan) _ (sym (d .exists-at .ensures) ∙ not-false (d .exists-at .result) (c .before .if1 .left))
+
+add-answer-2 : tie.Need-add-answer-2
+add-answer-2 c = search needs
+
+answer-requires-2 : tie.Need-answer-requires-2
+answer-requires-2 c κs = search needs
+
+returns-2 : tie.Need-returns-2
+returns-2 c =
+    let d = c .before .before .before in
+    simp
+    (← d .exists-at .ensures, not-false (d .exists-at .result) (c .before .before .if1 .left), c .answer2 .ensures, c .before .stored .ensures)
+
+pub write-register-spec : {M : Type 1} → statement M
+write-register-spec =
+    tie.close
+    (tie.spec
+    cast-bits
+    mul-arrived
+    cast-arrived
+    add-arrived
+    exists-at-requires
+    add-answer
+    answer-requires
+    returns
+    stored-requires
+    mul-m
+    element-write-m
+    add-answer-2
+    answer-requires-2
+    returns-2)

@@ -1,0 +1,12 @@
+-- What a plan says of an address.
+-- Assumes nothing.
+use mathlib.Core.Bool.{true}
+use mathlib.Core.Path.{_≡_}
+use Prim.Native.Nat.{ℕ, _<_}
+use borrow.Author.Tests.{ltb-true}
+use Rattle.bits.proofs.Truth.{both}
+use Rattle.registers.specs.declared.Plan.{Plan}
+use Rattle.registers.specs.Plan.{existsAt}
+
+pub exists-low : (plan : Plan) (address : ℕ) → existsAt plan address ≡ true → address < 16
+exists-low plan address e = ltb-true _ _ (both _ _ e .0)

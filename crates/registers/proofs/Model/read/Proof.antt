@@ -1,0 +1,26 @@
+-- `Model::read` answers `readOf`; the warnings are below 8.
+-- Assumes nothing.
+use borrow.Author.Tests.{eq-eqb, ne-eqb}
+use borrow.Author.Needs.{needs}
+use Rattle.registers.proofs.Model.read.Statement.{statement}
+use Rattle.registers.proofs.Model.read.Tie as tie
+
+register-requires : tie.Need-register-requires
+register-requires c κs = search needs
+
+warnings-requires : tie.Need-warnings-requires
+warnings-requires c κs = search needs
+
+with-warnings-requires : tie.Need-with-warnings-requires
+with-warnings-requires c κs = search needs
+
+returns : tie.Need-returns
+returns c = simp (eq-eqb _ _ (c .before .before .if1 .taken), c .with-warnings .ensures, c .before .warnings .ensures .0, c .before .before .before .before .register .ensures)
+
+returns-2 : tie.Need-returns-2
+returns-2 c = simp (ne-eqb _ _ (c .if1 .left), c .before .before .register .ensures)
+
+pub read-spec : {M : Type 1} → statement M
+read-spec =
+    tie.close
+    (tie.spec register-requires warnings-requires with-warnings-requires returns returns-2)

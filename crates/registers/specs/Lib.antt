@@ -1,0 +1,4 @@
+pub mod Plan
+pub mod Registers
+pub mod Fifos
+pub mod Sound

@@ -1,0 +1,195 @@
+// What the controller holds: the register plan, the registers, the FIFOs' pointers and words, counters, warnings and RunMode; and how they are read.
+ghost use mathlib.Core.Path.{_≡_};
+ghost use mathlib.Core.Bool.{cond};
+ghost use Prim.Native.Nat.{_<_, _≤_};
+ghost use lib.Dec.{eqb};
+ghost use lib.ListN.{length};
+ghost use Rattle.registers.specs.Plan.{existsAt, planFits, defaultPlan};
+ghost use Rattle.registers.specs.Registers.{registerOf, cntOf, warningsOf, withWarnings, readOf};
+ghost use Rattle.registers.specs.Fifos.{movedOn, writeOf, readWordOf};
+ghost use Rattle.registers.specs.Sound.{pointersFit, missingZero};
+
+// Document 01's register plan: the addresses that exist (bit n of the mask for address n), and those of CSR, FEEN and CNT.
+pub struct Plan {
+    pub mask: u16,
+    pub csr: u8,
+    pub feen: u8,
+    pub cnt: u8,
+}
+
+// The controller as the commands left it.
+pub struct Model {
+    // RunMode.
+    pub running: bool,
+    pub l1id: u8,
+    // The cycle from which the bunch number counts.
+    pub base: u64,
+    // The warnings, CSR bits 8, 9 and 10.
+    pub wlv1: bool,
+    pub wfst: bool,
+    pub wslw: bool,
+    pub registers: [u16; 16],
+    // The FIFOs' write and read pointers.
+    pub writes: [u8; 16],
+    pub reads: [u8; 16],
+}
+
+// FIFO words have 27 bits: each is below this.
+pub const WORD: u32 = 0x0800_0000;
+
+pub fn flag(on: bool, bit: u8) -> u8
+    ensures { λ r. ⌜ (r ≡ cond on bit 0) × (r ≤ bit) ⌝ }
+{
+    if on { bit } else { 0 }
+}
+
+// Bits 8, 9 and 10 of a number replaced.
+fn with_warnings(value: u16, warnings: u16) -> u16
+    requires { ⌜ warnings < 8 ⌝ }
+    ensures { λ r. ⌜ r ≡ withWarnings value warnings ⌝ }
+{
+    value % 256 + warnings * 256 + value / 2048 * 2048
+}
+
+pub fn moved_on(pointer: u8) -> u8
+    ensures { λ r. ⌜ r ≡ movedOn pointer ⌝ }
+{
+    (pointer % 128 + 1) % 128
+}
+
+// The word goes to each FIFO whose bit in FEEN is set, at its write pointer, which then moves on. Answers the pointers.
+pub fn write_all(writes: [u8; 16], feen: u16, word: u32, store: &mut [u32]) -> [u8; 16]
+    requires { ⌜ length (now store) ≡ 2048 ⌝ }
+    ensures { λ r. ⌜ (record { writes = r; store = now (store .exit) }) ≡ writeOf 16 0 feen word (record { writes = writes; store = now (store .entry) }) ⌝ }
+{
+    let mut p = writes;
+    let mut n: usize = 0;
+    while n < 16 {
+        if feen >> n & 1 == 1 {
+            let pointer = p[n];
+            store[n * 128 + (pointer % 128) as usize] = word;
+            p[n] = moved_on(pointer);
+        }
+        n = n + 1;
+    }
+    p
+}
+
+// The word of FIFO n at its read pointer.
+pub fn read_word(store: &[u32], n: usize, pointer: u8) -> u32
+    requires { ⌜ (n < 16) × (length (now store) ≡ 2048) ⌝ }
+    ensures { λ r. ⌜ r ≡ readWordOf (now (store .entry)) n pointer ⌝ }
+{
+    store[n * 128 + (pointer % 128) as usize] % WORD
+}
+
+// Whether the 16 pointers are below 128.
+pub fn pointers_fit(pointers: [u8; 16]) -> bool
+    ensures { λ r. ⌜ r ≡ pointersFit pointers ⌝ }
+{
+    for i in 0..16 {
+        if 128 <= pointers[i] {
+            return false;
+        }
+    }
+    true
+}
+
+impl Plan {
+    // The plan of document 01 where the opener gives none.
+    pub fn default_plan() -> Plan
+        ensures { λ r. ⌜ r ≡ defaultPlan ⌝ }
+    {
+        Plan {
+            mask: 0x007F,
+            csr: 0,
+            feen: 2,
+            cnt: 5,
+        }
+    }
+
+    // Whether an address is in the mask.
+    pub fn exists_at(self, address: u8) -> bool
+        ensures { λ r. ⌜ r ≡ existsAt self address ⌝ }
+    {
+        if 16 <= address {
+            return false;
+        }
+        self.mask >> address & 1 == 1
+    }
+
+    // Whether CSR, FEEN and CNT are three different addresses in the mask.
+    pub fn fits(self) -> bool
+        ensures { λ r. ⌜ r ≡ planFits self ⌝ }
+    {
+        let csr = self.exists_at(self.csr);
+        let feen = self.exists_at(self.feen);
+        let cnt = self.exists_at(self.cnt);
+        let apart = (self.csr != self.feen) & ((self.csr != self.cnt) & (self.feen != self.cnt));
+        csr & (feen & (cnt & apart))
+    }
+
+    // What a write of a value stores: CSR's warning bits are not writable.
+    pub fn stored(self, address: u8, value: u16) -> u16
+        ensures { λ r. ⌜ r ≡ cond (eqb address (self .csr)) (withWarnings value 0) value ⌝ }
+    {
+        if address == self.csr {
+            return with_warnings(value, 0);
+        }
+        value
+    }
+}
+
+impl Model {
+    // The register at an address, 0 where there is none.
+    pub fn register(self, address: u8) -> u16
+        ensures { λ r. ⌜ r ≡ registerOf self address ⌝ }
+    {
+        if 16 <= address {
+            return 0;
+        }
+        let registers = self.registers;
+        registers[address as usize]
+    }
+
+    // CNT as it stands.
+    pub fn cnt(self, plan: Plan) -> u16
+        ensures { λ r. ⌜ r ≡ cntOf plan self ⌝ }
+    {
+        self.register(plan.cnt)
+    }
+
+    // Whether each register whose address is missing from the plan holds 0.
+    pub fn missing_zero(self, plan: Plan) -> bool
+        ensures { λ r. ⌜ r ≡ missingZero plan self ⌝ }
+    {
+        for i in 0..16 {
+            let there = plan.exists_at(i);
+            let held = self.register(i);
+            if !(there | (held == 0)) {
+                return false;
+            }
+        }
+        true
+    }
+
+    fn warnings(self) -> u16
+        ensures { λ r. ⌜ (r ≡ warningsOf self) × (r < 8) ⌝ }
+    {
+        let lv1 = flag(self.wlv1, 1);
+        let fst = flag(self.wfst, 2);
+        let slw = flag(self.wslw, 4);
+        (lv1 + fst + slw) as u16
+    }
+
+    // A register as it reads: CSR with the warnings in it.
+    pub fn read(self, plan: Plan, address: u8) -> u16
+        ensures { λ r. ⌜ r ≡ readOf plan self address ⌝ }
+    {
+        let value = self.register(address);
+        if address == plan.csr {
+            return with_warnings(value, self.warnings());
+        }
+        value
+    }
+}
