@@ -1,8 +1,8 @@
 -- How a fact of every effect is shown: command by command, and for the model's arrays and base by what each event does to them.
 -- Assumes nothing.
-use mathlib.Core.Bool.{Bool, true, false, cond}
+use mathlib.Core.Bool.{true}
 use mathlib.Core.List.{List}
-use mathlib.Core.Path.{_≡_, refl}
+use mathlib.Core.Path.{_≡_}
 use Prim.Native.Nat.{ℕ, zero, suc, _+_, _/_, _%_, _^_}
 use lib.Dec.{eqb}
 use lib.ListN.{getD, set}
@@ -11,11 +11,10 @@ use Rattle.recogniser.specs.declared.Event.{Event}
 use Rattle.recogniser.specs.declared.Event.the-variants as event
 use Rattle.registers.specs.declared.Plan.{Plan}
 use Rattle.registers.specs.declared.Model.{Model}
-use Rattle.controller.specs.declared.Acted.{Acted}
 use Rattle.registers.specs.Plan.{existsAt}
-use Rattle.registers.specs.Registers.{feenOf, writtenOf}
+use Rattle.registers.specs.Registers.{feenOf, writtenOf, zeros16}
 use Rattle.registers.specs.Fifos.{Fifos, movedOn, pushOf, writeOf}
-use Rattle.registers.specs.Registers.{zeros16}
+use Rattle.controller.specs.declared.Acted.{Acted}
 use Rattle.controller.specs.Commands.{Effect, effect, writeRegisterOf, readRegisterOf, writeFifoOf, readFifoOf, enableOf, resetOf, resetFrontEndsOf, slowOf, actOf}
 use Rattle.controller.specs.Events.{changesRegisters}
 

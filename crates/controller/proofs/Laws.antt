@@ -14,13 +14,12 @@ use Rattle.recogniser.specs.declared.Event.{Event}
 use Rattle.recogniser.specs.declared.Event.the-variants as event
 use Rattle.registers.specs.declared.Plan.{Plan}
 use Rattle.registers.specs.declared.Model.{Model}
-use Rattle.controller.specs.declared.Acted.{Acted}
 use Rattle.registers.specs.Plan.{existsAt}
-use Rattle.registers.specs.Registers.{cntOf}
+use Rattle.registers.specs.Registers.{cntOf, zeros16}
 use Rattle.registers.specs.Fifos.{movedOn}
-use Rattle.registers.specs.Registers.{zeros16}
-use Rattle.controller.specs.Commands.{actOf}
 use Rattle.registers.specs.Sound.{everyFrom, fitsAt, pointersFit, zeroAt, missingZero}
+use Rattle.controller.specs.declared.Acted.{Acted}
+use Rattle.controller.specs.Commands.{actOf}
 use Rattle.controller.specs.Events.{changesRegisters, changesRunning}
 use Rattle.controller.proofs.Cases.{write-keeps, slow-cases, act-keeps}
 

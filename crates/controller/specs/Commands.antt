@@ -10,13 +10,13 @@ use Rattle.recogniser.specs.declared.Event.{Event}
 use Rattle.recogniser.specs.declared.Event.the-variants as event
 use Rattle.registers.specs.declared.Plan.{Plan}
 use Rattle.registers.specs.declared.Model.{Model}
+use Rattle.registers.specs.Plan.{existsAt}
+use Rattle.registers.specs.Registers.{registerOf, cntOf, feenOf, readOf, writtenOf, zeros16}
+use Rattle.registers.specs.Fifos.{movedOn, writeOf, readWordOf}
 use Rattle.controller.specs.declared.Acted.{Acted}
 use Rattle.controller.specs.declared.Cycle.{Cycle}
 use Rattle.controller.specs.declared.Cycle.the-variants.{Nothing}
 use Rattle.controller.specs.Parts.{withRunning, withL1id, withBase, withWarned, withRegisters, withPointers}
-use Rattle.registers.specs.Plan.{existsAt}
-use Rattle.registers.specs.Registers.{registerOf, cntOf, feenOf, readOf, writtenOf, zeros16}
-use Rattle.registers.specs.Fifos.{movedOn, writeOf, readWordOf}
 use Rattle.controller.specs.Records.{recordOf, kindLv1, kindFast, kindBadFast, kindSlow, kindBadSlow, flagActed, flagFlip, flagSent, flagMissing, flagUnsteady}
 
 abbrev pub acted : Model → Cycle → Acted

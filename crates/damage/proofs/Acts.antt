@@ -19,10 +19,9 @@ use Rattle.recogniser.specs.Hunting.{meaningOf, huntBy, isFast}
 use Rattle.recogniser.specs.Step.{stepBy, stepOf}
 use Rattle.registers.specs.declared.Plan.{Plan}
 use Rattle.registers.specs.declared.Model.{Model}
+use Rattle.registers.specs.Registers.{registerOf, zeros16}
 use Rattle.controller.specs.Records.{wordsOf}
-use Rattle.registers.specs.Registers.{registerOf}
 use Rattle.controller.specs.Parts.{withBase, withL1id, withPointers}
-use Rattle.registers.specs.Registers.{zeros16}
 use Rattle.controller.specs.Commands.{actOf, fastEffect}
 use Rattle.taking.specs.Entries.{entryWords}
 use Rattle.damage.specs.Records.{Counters, counters, entriesOf, counted}

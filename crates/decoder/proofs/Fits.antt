@@ -19,8 +19,8 @@ use Rattle.recogniser.specs.Hunting.{isFast, meaningOf, huntBy, bodyOf}
 use Rattle.recogniser.specs.Fields.{isFrame, lengthOf, endsOf, keptOf, field3Of, field4Of}
 use Rattle.recogniser.specs.Groups.{groupOf, unsteadyOf}
 use Rattle.recogniser.specs.Step.{field5Of, stepBy, stepOf}
-use Rattle.decoder.specs.Fit.{hasField5, keeps, nibbleFits, field4Fits, heldFits, field5Fits, fitBy, fitOf}
 use Rattle.recogniser.proofs.Shift.{below, wider, grown}
+use Rattle.decoder.specs.Fit.{hasField5, keeps, nibbleFits, field4Fits, heldFits, field5Fits, fitBy, fitOf}
 use Rattle.decoder.proofs.Field5.{length-has}
 
 -- What the test of Field 5 says.

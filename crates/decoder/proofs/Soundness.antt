@@ -6,10 +6,10 @@ use Prim.Native.Nat.{_≤_}
 use lib.Dec.{T}
 use borrow.Author.Tests.{le-leb, leb-true, not-true}
 use Rattle.bits.proofs.Truth.{holds-true, both}
-use Rattle.decoder.specs.Fit.{fitOf}
 use Rattle.registers.specs.Plan.{planFits}
 use Rattle.registers.specs.Registers.{cntOf}
 use Rattle.registers.specs.Sound.{pointersFit, missingZero}
+use Rattle.decoder.specs.Fit.{fitOf}
 use Rattle.decoder.specs.declared.Decoder.{Decoder}
 use Rattle.decoder.specs.Limits.{clockLimit}
 use Rattle.decoder.specs.Sound.{insideSlow, soundOf}

@@ -12,9 +12,9 @@ use lib.ListN.{length, take, drop, length-drop}
 use lib.Seq.{drop-drop}
 use borrow.Author.Tests.{ltb-true, ltb-false, lt-ltb, le-ltb}
 use Rattle.bits.proofs.Truth.{choice, choice-under}
+use Rattle.text.specs.Text.{lineFeed}
 use Rattle.hexlines.specs.declared.Seen.{Seen}
 use Rattle.hexlines.specs.declared.Fed.{Fed}
-use Rattle.text.specs.Text.{lineFeed}
 use Rattle.hexlines.specs.Digits.{isDigit}
 use Rattle.hexlines.specs.Line.{Hex, hexOf}
 use Rattle.hexlines.specs.Lines.{isEmpty, linesFrom, linesOf, hexesOf, fresh, withCharacter, seenOf, saidBy, nothingSeen, upToFeed, fedOf, saidFrom}

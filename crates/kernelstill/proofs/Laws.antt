@@ -1,6 +1,6 @@
 -- What each way through an exported function leaves, against its definition.
 -- Assumes nothing.
-use mathlib.Core.Bool.{Bool, true, false, cond, _&&_}
+use mathlib.Core.Bool.{Bool, true, false, cond}
 use mathlib.Core.List.{List}
 use mathlib.Core.Logic.{⊎-elim}
 use mathlib.Core.Path.{_≡_, refl, sym, ap, subst, _∙_}
@@ -9,7 +9,7 @@ use native.Mathlib.Omega.{arith}
 use lib.Dec.{eqb, leb, T}
 use lib.ListN.{length}
 use lib.Seq.{sets}
-use borrow.Author.Tests.{eq-eqb, ne-eqb, lt-ltb, le-ltb, le-leb, lt-leb, leb-true, leb-false}
+use borrow.Author.Tests.{eq-eqb, ne-eqb, lt-ltb, le-ltb, leb-true, leb-false}
 use Rattle.bits.proofs.Truth.{both, cases, holds-true}
 use Rattle.decoder.specs.declared.Decoder.{Decoder}
 use Rattle.decoder.specs.declared.Opened.{Opened}
@@ -17,14 +17,14 @@ use Rattle.decoder.specs.Opening.{openingNumber}
 use Rattle.decoder.specs.Sound.{soundOf}
 use Rattle.taking.specs.Take.{Call, Left, takeOf, endingNumber}
 use Rattle.taking.proofs.Stays.{take-sound}
+use Rattle.text.specs.Block.{Block, block, putOf}
+use Rattle.text.proofs.Puts.{put-fits, put-over}
+use Rattle.hexlines.specs.declared.HexLine.{HexLine}
+use Rattle.hexlines.specs.Line.{Read, hexNumber, readAs, readOf}
+use Rattle.listing.specs.Digits.{charactersOf}
+use Rattle.listing.specs.Records.{numbersLine, recordLine}
 use Rattle.image.specs.Image.{imageLength, imageOf, stateOf, imageFits}
 use Rattle.image.proofs.Images.{fits-length, written-fits}
-use Rattle.hexlines.specs.declared.HexLine.{HexLine}
-use Rattle.text.specs.Block.{Block, block, putOf}
-use Rattle.listing.specs.Digits.{charactersOf}
-use Rattle.hexlines.specs.Line.{Read, hexNumber, readAs, readOf}
-use Rattle.listing.specs.Records.{numbersLine, recordLine}
-use Rattle.text.proofs.Puts.{put-fits, put-over}
 use Rattle.kernelstill.specs.Open.{OpenLeft, openedInto}
 use Rattle.kernelstill.specs.Take.{TakeLeft, resultLength, resultOf, refusedCall, answered, soundImage, takeLeftOf, Holds}
 use Rattle.kernelstill.specs.Lines.{LineLeft, hexLeftOf, recordLeftOf}

@@ -7,10 +7,10 @@ use Prim.Native.Nat.{ℕ}
 use lib.Dec.{eqb}
 use lib.ListN.{length}
 use Rattle.decoder.specs.declared.Decoder.{Decoder}
+use Rattle.decoder.specs.Sound.{soundOf}
 use Rattle.taking.specs.declared.Ending.{Ending}
 use Rattle.taking.specs.declared.Ending.the-variants.{Done, Frame, ListFull, Unsound, WrongBuffers, WrongRange, ClockOver}
 use Rattle.taking.specs.declared.Told.{Told}
-use Rattle.decoder.specs.Sound.{soundOf}
 use Rattle.taking.specs.Take.{Call, Left, takeOf, endingNumber}
 use Rattle.image.specs.Image.{imageOf, stateOf, imageFits}
 

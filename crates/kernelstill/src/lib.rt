@@ -3,11 +3,11 @@
 ghost use mathlib.Core.Bool.{cond};
 ghost use mathlib.Core.Path.{_≡_};
 ghost use lib.ListN.{length};
+ghost use Rattle.frames.specs.Tray.{partOf};
 ghost use Rattle.controller.specs.Records.{kindOf, isFrameHead, frameBitsOf};
 ghost use Rattle.decoder.specs.Opening.{openOf};
 ghost use Rattle.taking.specs.Take.{takeOf};
 ghost use Rattle.image.specs.Image.{imageLength, stateOf};
-ghost use Rattle.frames.specs.Tray.{partOf};
 ghost use Rattle.kernelstill.specs.Open.{emptyPlan, planOf, openLeftOf};
 ghost use Rattle.kernelstill.specs.Take.{endingCode, resultLength, resultOf, soundImage, takeLeftOf, Holds};
 ghost use Rattle.kernelstill.specs.Lines.{hexLeftOf, recordLeftOf};

@@ -1,27 +1,27 @@
 -- The end of a line: what it says is listed next.
 -- Assumes nothing.
-use mathlib.Core.Bool.{Bool, true, false, cond}
-use mathlib.Core.List.{List, [], _∷_, _++_, append-nil}
+use mathlib.Core.Bool.{Bool, true}
+use mathlib.Core.List.{List, [], _∷_, append-nil}
 use mathlib.Core.Path.{_≡_, refl, sym, ap, _∙_}
-use Prim.Native.Nat.{ℕ, zero, suc, _+_, _*_, _/_, _%_, _<_, _≤_}
+use Prim.Native.Nat.{ℕ, zero, suc, _+_, _*_, _/_, _%_, _≤_}
 use native.Mathlib.Omega.{arith}
 use lib.Dec.{leb, eqb}
 use lib.ListN.{length, take}
 use lib.Seq.{length-take-le, getD-take}
 use borrow.Author.Tests.{leb-true, eqb-true, ne-eqb}
-use Rattle.bits.proofs.Truth.{both, choice}
 use Rattle.bits.specs.Bits.{bitsOf}
+use Rattle.bits.proofs.Truth.{both, choice}
+use Rattle.text.specs.Block.{block, putAll, putOf}
+use Rattle.text.proofs.Puts.{put-fits, put-low}
 use Rattle.hexlines.specs.declared.HexLine.{HexLine}
 use Rattle.hexlines.specs.declared.Seen.{Seen}
-use Rattle.text.specs.Block.{block, putAll, putOf}
 use Rattle.hexlines.specs.Line.{countFits, hexNumber, hexCount}
 use Rattle.hexlines.specs.Lines.{fresh, answerOf, saidBy, saidFrom}
 use Rattle.listing.specs.Records.{refusedLine}
-use Rattle.text.proofs.Puts.{put-fits, put-low}
 use Rattle.listing.proofs.Texts.{line-length}
 use Rattle.lister.specs.declared.Lister.{Lister}
-use Rattle.lister.specs.Listing.{outcome, printed, bitsThen, lineAfter, listingOf}
-use Rattle.lister.specs.Going.{Going, going, worldOf, restOf, whole, Ready, Turns, Ends}
+use Rattle.lister.specs.Listing.{outcome, printed, lineAfter, listingOf}
+use Rattle.lister.specs.Going.{Going, going, worldOf, restOf, whole, Turns, Ends}
 use Rattle.lister.proofs.Puts.{put-then}
 
 -- what a line that is not refused says

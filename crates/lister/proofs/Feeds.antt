@@ -1,12 +1,11 @@
 -- A block of input that is fed up to the next line feed: it keeps all that is printed in the end.
 -- Assumes nothing.
-use mathlib.Core.Bool.{Bool, true, false, cond}
+use mathlib.Core.Bool.{Bool, true, false}
 use mathlib.Core.List.{List, [], _∷_, _++_}
 use mathlib.Core.Path.{_≡_, refl, sym, ap, _∙_}
 use Prim.Native.Nat.{ℕ, _+_, _*_, _-_, _<_, _≤_}
 use native.Mathlib.Nat.{add-zero}
 use native.Mathlib.Omega.{arith}
-use lib.Dec.{ltb}
 use lib.ListN.{length, take, drop, drop-of-length-le}
 use borrow.Author.Tests.{le-leb, ltb-false}
 use Rattle.bits.proofs.Truth.{choice}
@@ -18,7 +17,7 @@ use Rattle.hexlines.specs.Lines.{fresh, upToFeed, fedOf, saidBy, saidFrom}
 use Rattle.hexlines.proofs.Lines.{fed-ended, fed-open, fed-next, fed-on}
 use Rattle.lister.specs.declared.Lister.{Lister}
 use Rattle.lister.specs.Listing.{Outcome, printed, bitsText, listingOf}
-use Rattle.lister.specs.Going.{Going, going, worldOf, restOf, whole, Ready, Turns, leftOf, Ends, Goes}
+use Rattle.lister.specs.Going.{Going, going, worldOf, restOf, whole, Turns, leftOf, Ends, Goes}
 
 -- with no bits left, the lines of what is to come
 idle : (frames : Bool) (g : Going) → Turns g → g .lister .count ≡ 0 → (characters : List ℕ)

@@ -1,16 +1,16 @@
 -- What a read keeps, and the end of the input as a line feed.
 -- Assumes nothing.
-use mathlib.Core.Bool.{Bool, true, false, cond}
+use mathlib.Core.Bool.{Bool, true, cond}
 use mathlib.Core.List.{List, [], _∷_}
-use mathlib.Core.Path.{_≡_, refl, sym, ap, _∙_}
+use mathlib.Core.Path.{_≡_, refl}
 use Prim.Native.Nat.{ℕ, _<_}
 use native.Mathlib.Omega.{arith}
-use lib.ListN.{length, set, take, drop}
+use lib.ListN.{length, set, take}
 use Rattle.bits.proofs.Truth.{clash}
 use Rattle.registers.specs.Plan.{defaultPlan}
 use Rattle.taking.proofs.Stays.{start-sound}
-use Rattle.hexlines.specs.declared.Seen.{Seen}
 use Rattle.text.specs.Text.{lineFeed}
+use Rattle.hexlines.specs.declared.Seen.{Seen}
 use Rattle.hexlines.specs.Lines.{nothingSeen, saidFrom}
 use Rattle.lister.specs.declared.Lister.{Lister}
 use Rattle.lister.specs.Going.{start, going, Ready, Within, Refilled}

@@ -3,10 +3,10 @@
 use mathlib.Core.Bool.{Bool, true, false, cond, not, _&&_, and-false}
 use mathlib.Core.List.{List, [], _∷_, _++_, append-assoc, append-nil}
 use mathlib.Core.Path.{_≡_, refl, sym, ap, _∙_}
-use Prim.Native.Nat.{ℕ, suc, _+_, _*_, _-_, _/_, _≤_, _<_}
+use Prim.Native.Nat.{ℕ, _+_, _*_, _-_, _≤_}
 use native.Mathlib.Omega.{arith}
 use lib.Dec.{T, ltb, leb, eqb, nltb→le}
-use lib.ListN.{length, take, drop, length-append, length-take}
+use lib.ListN.{length, drop, length-append, length-take}
 use borrow.Author.Tests.{le-ltb}
 use Rattle.bits.proofs.Truth.{choice}
 use Rattle.frames.specs.Tray.{partOf}
@@ -17,10 +17,10 @@ use Rattle.taking.specs.declared.Ending.{Ending}
 use Rattle.taking.specs.declared.Ending.the-variants.{Frame, ListFull, Done}
 use Rattle.taking.specs.Run.{Run, ended, oneBit, oneRecord, afterCycle, runOf, stateAfter}
 use Rattle.taking.specs.Turn.{World, turnOf}
-use Rattle.listing.specs.Records.{recordLine, frameLine}
+use Rattle.listing.specs.Records.{recordLine}
 use Rattle.listing.proofs.Texts.{line-length, frame-length}
-use Rattle.lister.specs.Listing.{cycleText, bitsText}
 use Rattle.printing.specs.Records.{frameText, recordText, wordsText}
+use Rattle.lister.specs.Listing.{bitsText}
 
 -- the length of a record's text
 part-short : (tray : List ℕ) (bits : ℕ) → length (partOf tray bits) ≤ length tray

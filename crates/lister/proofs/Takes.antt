@@ -2,28 +2,27 @@
 -- Assumes nothing.
 use mathlib.Core.Bool.{Bool, true, false, cond}
 use mathlib.Core.List.{List, [], _++_, append-assoc}
-use mathlib.Core.Path.{_≡_, refl, sym, ap, _∙_, subst⁻¹}
+use mathlib.Core.Path.{_≡_, refl, ap, _∙_, subst⁻¹}
 use Prim.Native.Nat.{ℕ, zero, suc, _+_, _*_, _-_, _/_, _<_, _≤_}
 use native.Mathlib.Omega.{arith}
-use lib.Dec.{T, leb, eqb}
+use lib.Dec.{T, eqb}
 use lib.ListN.{length, take, drop}
 use lib.Seq.{sets, sets-eq, take-at}
 use borrow.Author.Tests.{le-leb, leb-true, ne-eqb}
 use Rattle.bits.specs.Bits.{bitsOf}
 use Rattle.decoder.specs.declared.Decoder.{Decoder}
-use Rattle.taking.specs.declared.Ending.the-variants.{ClockOver}
 use Rattle.decoder.specs.Limits.{clockLimit}
 use Rattle.decoder.specs.Sound.{soundOf}
+use Rattle.taking.specs.declared.Ending.the-variants.{ClockOver}
 use Rattle.taking.specs.Run.{Run, runOf, stateAfter}
 use Rattle.taking.specs.Turn.{World, turnOf}
 use Rattle.taking.specs.Take.{Call, Left, refused, clockFits, takenOf, takeOf}
 use Rattle.taking.specs.Calls.{worldLeft}
 use Rattle.taking.proofs.Runs.{run-faithful}
 use Rattle.taking.proofs.Loop.{length-bits}
-use Rattle.taking.proofs.Calls.{call-kept}
 use Rattle.taking.proofs.Refusals.{buffers, range, taken, clock-over}
-use Rattle.lister.specs.Listing.{Outcome, outcome, printed, bitsThen, bitsText}
 use Rattle.printing.specs.Records.{wordsText}
+use Rattle.lister.specs.Listing.{Outcome, outcome, printed, bitsThen, bitsText}
 use Rattle.lister.proofs.Runs.{run-prints, run-takes}
 
 holds : (b : Bool) → T b → b ≡ true

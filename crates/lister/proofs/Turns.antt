@@ -1,8 +1,8 @@
 -- A taking call as a turn of the run: it keeps all that is printed in the end.
 -- Assumes nothing.
-use mathlib.Core.Bool.{Bool, true, false, cond}
+use mathlib.Core.Bool.{Bool}
 use mathlib.Core.List.{List}
-use mathlib.Core.Path.{_≡_, refl, sym, ap, _∙_, subst⁻¹}
+use mathlib.Core.Path.{_≡_, refl, ap, _∙_, subst⁻¹}
 use Prim.Native.Nat.{ℕ, _+_, _*_, _-_, _<_, _≤_}
 use native.Mathlib.Omega.{arith}
 use lib.Dec.{T, eqb}
@@ -13,12 +13,11 @@ use Rattle.decoder.specs.Sound.{soundOf}
 use Rattle.taking.specs.Take.{Call, Left, takeOf}
 use Rattle.taking.proofs.Stays.{take-sound}
 use Rattle.text.specs.Block.{block, putAll}
-use Rattle.hexlines.specs.Lines.{saidFrom}
-use Rattle.lister.specs.declared.Lister.{Lister}
-use Rattle.lister.specs.Listing.{printed, listingOf}
-use Rattle.printing.specs.Records.{wordsText}
-use Rattle.lister.specs.Going.{Going, going, worldOf, restOf, whole, Ready, Turns, leftOf, Takes}
 use Rattle.text.proofs.Puts.{put-low}
+use Rattle.hexlines.specs.Lines.{saidFrom}
+use Rattle.printing.specs.Records.{wordsText}
+use Rattle.lister.specs.Listing.{printed, listingOf}
+use Rattle.lister.specs.Going.{Going, going, restOf, whole, Ready, Turns, leftOf, Takes}
 use Rattle.lister.proofs.Puts.{put-then}
 use Rattle.lister.proofs.Takes.{Fit, Took, wordsLeft, took}
 

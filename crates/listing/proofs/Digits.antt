@@ -7,9 +7,9 @@ use native.Mathlib.Nat.{div-one, pow-succ', div-div-eq-div-mul, add-assoc}
 use native.Mathlib.Omega.{arith}
 use lib.ListN.{length, set, length-set, length-append}
 use lib.Seq.{sets}
-use Rattle.listing.specs.Digits.{characterOf, charactersOf}
 use Rattle.text.specs.Block.{block, putAll}
 use Rattle.text.proofs.Puts.{sets-append, sets-last}
+use Rattle.listing.specs.Digits.{characterOf, charactersOf}
 
 pub count : (n width : ℕ) → length (charactersOf n width) ≡ width
 unfolding charactersOf

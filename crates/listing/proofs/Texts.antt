@@ -10,11 +10,11 @@ use native.Mathlib.Omega.{arith}
 use lib.Dec.{eqb, eqb·zero-suc, eqb·suc-suc}
 use lib.ListN.{length, getD, drop, length-append}
 use lib.Seq.{sets, drop-cons, append-snoc}
-use Rattle.listing.specs.Digits.{charactersOf}
 use Rattle.text.specs.Block.{block, putAll}
+use Rattle.text.proofs.Puts.{Left, room, again}
+use Rattle.listing.specs.Digits.{charactersOf}
 use Rattle.listing.specs.Records.{markAfter, numbersLine, lineOf, numbersSize, byteDigits, frameLine}
 use Rattle.listing.proofs.Digits.{count}
-use Rattle.text.proofs.Puts.{Left, room, again}
 
 -- The mark after a number is told by whether it is the last.
 mark-at : (ns : List ℕ) (i : ℕ) → i ≤ length ns → markAfter (drop i ns) ≡ cond (eqb i (length ns)) 10 32

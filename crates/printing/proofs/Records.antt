@@ -6,11 +6,11 @@ use mathlib.Core.Path.{_≡_, refl, sym, _∙_}
 use Prim.Native.Nat.{ℕ, suc, _+_, _*_, _/_, _≤_, _<_}
 use native.Mathlib.Numerals.{add-one}
 use native.Mathlib.Omega.{arith}
-use lib.ListN.{length, getD, drop, length-append, length-drop}
+use lib.ListN.{length, getD, drop, length-drop}
 use lib.Seq.{drop-cons}
 use Rattle.text.specs.Block.{block, putAll, putOf}
-use Rattle.listing.specs.Records.{recordLine}
 use Rattle.text.proofs.Puts.{Left, begun, room, again, over, again-of}
+use Rattle.listing.specs.Records.{recordLine}
 use Rattle.printing.specs.Records.{frameText, recordText, wordsText}
 
 -- A record's line, and a frame's after it.

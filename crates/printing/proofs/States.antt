@@ -13,8 +13,8 @@ use Rattle.registers.specs.Registers.{readOf}
 use Rattle.decoder.specs.declared.Decoder.{Decoder}
 use Rattle.text.specs.Text.{ascii}
 use Rattle.text.specs.Block.{block, putAll, putOf}
-use Rattle.listing.specs.State.{l1idLine, baseLine, runmodeLine}
 use Rattle.text.proofs.Puts.{Left, begun, room, again, again-of}
+use Rattle.listing.specs.State.{l1idLine, baseLine, runmodeLine}
 use Rattle.listing.proofs.Texts.{line-length}
 use Rattle.printing.specs.State.{textsFrom, registerText, pointersText, wordText, stateText}
 

@@ -9,8 +9,8 @@ use lib.ListN.{length}
 use borrow.Author.Tests.{eq-eqb, ne-eqb}
 use Rattle.registers.specs.Plan.{planFits}
 use Rattle.decoder.specs.declared.Decoder.{Decoder}
-use Rattle.taking.specs.declared.Ending.{Ending}
 use Rattle.decoder.specs.Sound.{soundOf}
+use Rattle.taking.specs.declared.Ending.{Ending}
 use Rattle.taking.specs.Take.{Call, Left, refused, takeOf, endingNumber}
 use Rattle.taking.proofs.Refusals.{unsound}
 use Rattle.image.specs.Image.{imageLength, imageOf, stateOf, Widths}
@@ -18,7 +18,7 @@ use Rattle.image.proofs.Images.{image-fits, read-back}
 use Rattle.image.proofs.Forms.{formed, formed-fits}
 use Rattle.kernelstill.specs.Open.{emptyPlan, openLeftOf}
 use Rattle.kernelstill.specs.Take.{TakeLeft, resultLength, refusedCall, answered, soundImage, takeLeftOf}
-use Rattle.promises.specs.Hosts.{RoundTrip, SameOpening, SameCall, Unchanged, HostPromise}
+use Rattle.promises.specs.Hosts.{RoundTrip, SameOpening, Unchanged, HostPromise}
 use Rattle.promises.proofs.Refusals.{first-demand}
 
 round-trip : (d : Decoder) → Widths d → RoundTrip d

@@ -10,10 +10,10 @@ use borrow.Author.Tests.{le-leb, lt-leb, ltb-true, ltb-false}
 use Rattle.registers.specs.declared.Plan.{Plan}
 use Rattle.registers.specs.Plan.{existsAt, planFits}
 use Rattle.decoder.specs.declared.Decoder.{Decoder}
-use Rattle.taking.specs.declared.Ending.{Ending}
-use Rattle.taking.specs.declared.Ending.the-variants.{Unsound, WrongBuffers, WrongRange, ClockOver}
 use Rattle.decoder.specs.Opening.{openOf}
 use Rattle.decoder.specs.Sound.{soundOf}
+use Rattle.taking.specs.declared.Ending.{Ending}
+use Rattle.taking.specs.declared.Ending.the-variants.{Unsound, WrongBuffers, WrongRange, ClockOver}
 use Rattle.taking.specs.Turn.{turnOf}
 use Rattle.taking.specs.Take.{Call, Left, offered, worldOf, refused, clockFits, takenOf, takeOf, endingNumber}
 use Rattle.taking.proofs.Ends.{run-ended}

@@ -8,8 +8,8 @@ use lib.Dec.{T}
 use lib.ListN.{length}
 use Rattle.recogniser.specs.declared.Phase.the-variants.{Hunt}
 use Rattle.decoder.specs.declared.Decoder.{Decoder}
-use Rattle.taking.specs.Entries.{entryWords}
 use Rattle.decoder.specs.Sound.{soundOf}
+use Rattle.taking.specs.Entries.{entryWords}
 use Rattle.taking.specs.Take.{Call}
 use Rattle.taking.specs.Calls.{allBits, allWords}
 use Rattle.damage.specs.Streams.{Item, streamBits, timed, inverted}

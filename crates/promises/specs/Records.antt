@@ -11,10 +11,10 @@ use lib.ListN.{length, take}
 use Rattle.registers.specs.declared.Plan.{Plan}
 use Rattle.controller.specs.Records.{isFrameHead}
 use Rattle.decoder.specs.declared.Decoder.{Decoder}
-use Rattle.taking.specs.declared.Ending.the-variants.{Done, Frame, ListFull}
 use Rattle.decoder.specs.Limits.{listUnit}
 use Rattle.decoder.specs.Opening.{openOf}
 use Rattle.decoder.specs.Sound.{soundOf}
+use Rattle.taking.specs.declared.Ending.the-variants.{Done, Frame, ListFull}
 use Rattle.taking.specs.Run.{stateAfter, wordsAfter}
 use Rattle.taking.specs.Turn.{World, turnOf}
 use Rattle.taking.specs.Take.{Call, offered, worldOf, takenOf, takeOf}

@@ -9,9 +9,9 @@ use lib.ListN.{length}
 use Rattle.registers.specs.declared.Plan.{Plan}
 use Rattle.registers.specs.Plan.{existsAt, defaultPlan}
 use Rattle.decoder.specs.declared.Decoder.{Decoder}
-use Rattle.taking.specs.declared.Ending.{Ending}
 use Rattle.decoder.specs.Opening.{openedAt, openOf, openingNumber}
 use Rattle.decoder.specs.Sound.{soundOf}
+use Rattle.taking.specs.declared.Ending.{Ending}
 use Rattle.taking.specs.Take.{Call, refused, takenOf, takeOf, endingNumber}
 
 -- A row of the refusal table: its number, and whether it turns this call away.

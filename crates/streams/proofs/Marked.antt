@@ -2,12 +2,12 @@
 -- Assumes nothing.
 use mathlib.Core.Path.{refl}
 use Rattle.recogniser.specs.Step.{stepOf}
-use Rattle.decoder.specs.Fit.{fitOf}
 use Rattle.frames.specs.Tray.{trayOf}
 use Rattle.registers.specs.Plan.{planFits}
 use Rattle.registers.specs.Sound.{everyFrom, pointersFit, missingZero}
 use Rattle.registers.specs.Fifos.{writeOf}
 use Rattle.controller.specs.Commands.{actOf}
+use Rattle.decoder.specs.Fit.{fitOf}
 use Rattle.decoder.specs.Sound.{soundOf}
 use Rattle.taking.specs.Turn.{turnOf}
 use Rattle.taking.specs.Take.{takenOf, takeOf}

@@ -12,15 +12,15 @@ use Rattle.recogniser.specs.declared.Recogniser.{Recogniser}
 use Rattle.recogniser.specs.Parts.{startOf}
 use Rattle.recogniser.specs.Fields.{lengthOf}
 use Rattle.recogniser.specs.Step.{stepOf}
-use Rattle.controller.specs.Parts.{withRunning}
 use Rattle.frames.specs.Tray.{partOf}
 use Rattle.registers.specs.Plan.{defaultPlan}
+use Rattle.controller.specs.Parts.{withRunning}
 use Rattle.controller.specs.Records.{frameBitsOf}
 use Rattle.decoder.specs.declared.Decoder.{Decoder}
 use Rattle.decoder.specs.Limits.{clockLimit, storeLength, trayLength}
 use Rattle.decoder.specs.declared.Opening.the-variants.{Accepted}
-use Rattle.taking.specs.declared.Ending.the-variants.{Done, Frame, ClockOver}
 use Rattle.decoder.specs.Opening.{openedAt, openOf, opened}
+use Rattle.taking.specs.declared.Ending.the-variants.{Done, Frame, ClockOver}
 use Rattle.taking.specs.Take.{Call, takeOf, endingNumber}
 use Rattle.taking.specs.Calls.{wordsStanding}
 use Rattle.streams.specs.Marked.{running}

@@ -9,10 +9,10 @@ use Rattle.bits.specs.Bits.{numberOf}
 use Rattle.registers.specs.Plan.{defaultPlan}
 use Rattle.controller.specs.Parts.{withRunning, withRegisters}
 use Rattle.decoder.specs.declared.Decoder.{Decoder}
-use Rattle.taking.specs.declared.Ending.{Ending}
 use Rattle.decoder.specs.Limits.{storeLength, trayLength}
-use Rattle.taking.specs.Entries.{entryWords}
 use Rattle.decoder.specs.Opening.{openedAt}
+use Rattle.taking.specs.declared.Ending.{Ending}
+use Rattle.taking.specs.Entries.{entryWords}
 use Rattle.taking.specs.Take.{Call, takeOf}
 use Rattle.taking.specs.Calls.{wordsStanding}
 use Rattle.streams.specs.Table.{Row, table}

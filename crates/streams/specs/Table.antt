@@ -2,10 +2,10 @@
 -- Assumes nothing.
 use mathlib.Core.List.{List, [], _∷_}
 use Prim.Native.Nat.{ℕ, _+_, _*_}
+use Rattle.controller.specs.Records.{kindLv1, kindFast, kindBadFast, kindSlow, kindBadSlow}
 use Rattle.taking.specs.declared.Ending.{Ending}
 use Rattle.taking.specs.declared.Ending.the-variants.{Done, Frame}
 use Rattle.taking.specs.Entries.{Entry, entry}
-use Rattle.controller.specs.Records.{kindLv1, kindFast, kindBadFast, kindSlow, kindBadSlow}
 
 -- "exact at t" and "flip at t": an LV1 acted on and sent, with the trigger number and, from base 0, the bunch number t.
 abbrev pub exact : ℕ → ℕ → Entry

@@ -8,7 +8,6 @@ use lib.Dec.{ltb}
 use lib.ListN.{length}
 use types.Run.{OneOf, miss}
 use denote.Enum.Declared.{tagOf}
-use Rattle.recogniser.proofs.Phase.{the-type}
 use Rattle.bits.proofs.Truth.{cond-case, cond-taken}
 use Rattle.recogniser.specs.declared.Phase.{Phase}
 use Rattle.recogniser.specs.declared.Phase.the-variants.{Hunt, Body, Field3, Field4, Field5}
@@ -17,12 +16,13 @@ use Rattle.recogniser.specs.declared.Meaning.the-variants.{Quiet, Trigger, Head
 use Rattle.recogniser.specs.declared.Event.the-variants.{Nothing}
 use Rattle.recogniser.specs.declared.Recogniser.{Recogniser}
 use Rattle.recogniser.specs.declared.Heard.{Heard}
-use Rattle.stretches.specs.declared.Stretch.{Stretch}
 use Rattle.recogniser.specs.Parts.{shifted, startOf, heard, gatheredOf}
 use Rattle.recogniser.specs.Hunting.{meaningOf, huntBy, bodyOf}
 use Rattle.recogniser.specs.Step.{stepOf}
-use Rattle.stretches.specs.Stretch.{stretched, oneMore, huntBeyond, huntOn, bodyOn, stepOn, stretchBy, stretchOf}
+use Rattle.recogniser.proofs.Phase.{the-type}
 use Rattle.recogniser.proofs.Laws.{step-at}
+use Rattle.stretches.specs.declared.Stretch.{Stretch}
+use Rattle.stretches.specs.Stretch.{stretched, oneMore, huntBeyond, huntOn, bodyOn, stepOn, stretchBy, stretchOf}
 
 -- A stretch over the first of these bits: none, one cycle, or one that asks for nothing and a stretch from there.
 pub data Passes (cnt : ℕ) : Recogniser → List ℕ → Stretch → Type 0 where

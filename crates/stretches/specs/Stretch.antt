@@ -12,10 +12,10 @@ use Rattle.recogniser.specs.declared.Meaning.the-variants.{Quiet, Trigger, Head
 use Rattle.recogniser.specs.declared.Event.the-variants.{Nothing, Lv1}
 use Rattle.recogniser.specs.declared.Recogniser.{Recogniser}
 use Rattle.recogniser.specs.declared.Heard.{Heard}
-use Rattle.stretches.specs.declared.Stretch.{Stretch}
 use Rattle.recogniser.specs.Parts.{shifted, startOf, idle, heard}
 use Rattle.recogniser.specs.Hunting.{meaningOf, bodyOf}
 use Rattle.recogniser.specs.Step.{stepOf}
+use Rattle.stretches.specs.declared.Stretch.{Stretch}
 
 -- So many cycles, where the recogniser stands after them, and what the last of them asks for.
 abbrev pub stretched : ℕ → Heard → Stretch

@@ -8,11 +8,11 @@ use native.Mathlib.Omega.{arith}
 use lib.ListN.{length, take, drop}
 use lib.Seq.{sets, sets-eq, length-take-le, drop-at, take-at}
 use Rattle.decoder.specs.declared.Decoder.{Decoder}
+use Rattle.decoder.specs.Limits.{listUnit}
+use Rattle.decoder.specs.Sound.{soundOf}
 use Rattle.taking.specs.declared.Ending.{Ending}
 use Rattle.taking.specs.declared.Ending.the-variants.{Unsound, WrongBuffers, WrongRange, ClockOver}
-use Rattle.decoder.specs.Limits.{listUnit}
 use Rattle.taking.specs.Run.{Run, runOf, stateAfter, wordsAfter}
-use Rattle.decoder.specs.Sound.{soundOf}
 use Rattle.taking.specs.Turn.{World, turnOf}
 use Rattle.taking.specs.Take.{Call, Left, offered, worldOf, refused, buffersFit, rangeFits, clockFits, takenOf, takeOf}
 use Rattle.taking.specs.Calls.{Request, bitsTaken, callOf, leftOf, worldLeft, carriedBits, carriedWords, carriedWorld}

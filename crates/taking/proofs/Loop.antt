@@ -17,9 +17,9 @@ use Rattle.stretches.specs.Stretch.{stretchOf}
 use Rattle.stretches.proofs.Stretches.{Passes, ends, last, more, stretch-passes, stretch-some, stretch-within}
 use Rattle.frames.specs.Tray.{trayOf}
 use Rattle.registers.specs.declared.Model.{Model}
+use Rattle.registers.specs.Registers.{cntOf}
 use Rattle.controller.specs.declared.Acted.{Acted}
 use Rattle.controller.specs.declared.Cycle.the-variants.{Nothing, Record}
-use Rattle.registers.specs.Registers.{cntOf}
 use Rattle.controller.specs.Records.{isFrameHead}
 use Rattle.controller.specs.Commands.{Effect, actOf}
 use Rattle.controller.specs.Events.{eventFits}

@@ -9,12 +9,12 @@ use lib.ListN.{length}
 use borrow.Author.Tests.{le-leb, lt-leb, leb-true, eqb-true}
 use Rattle.bits.proofs.Truth.{both}
 use Rattle.decoder.specs.declared.Decoder.{Decoder}
-use Rattle.taking.specs.declared.Ending.{Ending}
-use Rattle.taking.specs.declared.Ending.the-variants.{Unsound, WrongBuffers, WrongRange, ClockOver}
 use Rattle.decoder.specs.Limits.{clockLimit, storeLength, trayLength, inputLimit}
 use Rattle.decoder.specs.Sound.{soundOf}
-use Rattle.taking.specs.Take.{Call, Left, refused, buffersFit, rangeFits, clockFits, takenOf, takeOf}
 use Rattle.decoder.proofs.Soundness.{sound-parts}
+use Rattle.taking.specs.declared.Ending.{Ending}
+use Rattle.taking.specs.declared.Ending.the-variants.{Unsound, WrongBuffers, WrongRange, ClockOver}
+use Rattle.taking.specs.Take.{Call, Left, refused, buffersFit, rangeFits, clockFits, takenOf, takeOf}
 
 -- The tests of a call.
 abbrev pub buffers : Call → Bool

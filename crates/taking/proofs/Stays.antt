@@ -9,29 +9,29 @@ use native.Mathlib.Omega.{arith}
 use lib.Dec.{T, leb}
 use lib.ListN.{length, take}
 use borrow.Author.Tests.{leb-true, leb-false, not-false}
-use Rattle.bits.proofs.Truth.{choice}
 use Rattle.bits.specs.Bits.{bitOf, bitsOf}
+use Rattle.bits.proofs.Truth.{choice}
 use Rattle.recogniser.specs.declared.Event.the-variants.{SlowBegins}
 use Rattle.recogniser.specs.declared.Recogniser.{Recogniser}
 use Rattle.recogniser.specs.declared.Heard.{Heard}
-use Rattle.decoder.specs.Fit.{fitOf}
-use Rattle.decoder.proofs.Fits.{start-fits, step-fits}
 use Rattle.registers.specs.declared.Plan.{Plan}
 use Rattle.registers.specs.declared.Model.{Model}
 use Rattle.registers.specs.Plan.{planFits, defaultPlan}
 use Rattle.registers.specs.Registers.{cntOf}
 use Rattle.controller.proofs.Laws.{after, zeros-fit, zeros-missing, writes-fit, reads-fit, missing-zero, base-low, cnt-kept, begins-stops, running-kept}
+use Rattle.decoder.specs.Fit.{fitOf}
 use Rattle.decoder.specs.declared.Decoder.{Decoder}
 use Rattle.decoder.specs.declared.Opened.{Opened}
 use Rattle.decoder.specs.Limits.{clockLimit}
 use Rattle.decoder.specs.Opening.{openedAt, openOf}
 use Rattle.decoder.specs.Sound.{insideSlow, soundOf}
+use Rattle.decoder.proofs.Fits.{start-fits, step-fits}
+use Rattle.decoder.proofs.Soundness.{sound, sound-parts}
 use Rattle.taking.specs.Run.{runOf, stateAfter}
 use Rattle.taking.specs.Turn.{World, heardOf, turnOf}
 use Rattle.taking.specs.Take.{Call, Left, offered, worldOf, buffersFit, rangeFits, clockFits, takenOf, takeOf}
 use Rattle.taking.proofs.Runs.{run-faithful}
 use Rattle.taking.proofs.Slows.{Steps, over, begins, goes-on, slow-steps}
-use Rattle.decoder.proofs.Soundness.{sound, sound-parts}
 
 -- The start state of a plan that fits.
 opened-sound : (plan : Plan) (cycle : ℕ) → planFits plan ≡ true → cycle ≤ clockLimit → T (soundOf (openedAt plan cycle))

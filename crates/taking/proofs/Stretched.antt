@@ -11,14 +11,14 @@ use Rattle.recogniser.specs.declared.Event.{Event}
 use Rattle.recogniser.specs.declared.Event.the-variants.{Nothing}
 use Rattle.recogniser.specs.declared.Recogniser.{Recogniser}
 use Rattle.recogniser.specs.declared.Heard.{Heard}
-use Rattle.stretches.specs.declared.Stretch.{Stretch}
 use Rattle.recogniser.specs.Parts.{heard}
 use Rattle.recogniser.specs.Step.{stepOf}
+use Rattle.stretches.specs.declared.Stretch.{Stretch}
 use Rattle.stretches.specs.Stretch.{stretched, oneMore}
 use Rattle.stretches.proofs.Stretches.{Passes, ends, last, more}
 use Rattle.frames.specs.Tray.{trayOf}
-use Rattle.controller.specs.declared.Cycle.the-variants as cycle
 use Rattle.registers.specs.Registers.{cntOf}
+use Rattle.controller.specs.declared.Cycle.the-variants as cycle
 use Rattle.controller.specs.Commands.{Effect, actOf}
 use Rattle.decoder.specs.declared.Decoder.{Decoder}
 use Rattle.taking.specs.declared.Ending.the-variants.{Done, ListFull}

@@ -7,9 +7,9 @@ use lib.Dec.{ltb}
 use Rattle.controller.specs.declared.Cycle.{Cycle}
 use Rattle.controller.specs.declared.Cycle.the-variants.{Nothing, Record}
 use Rattle.controller.specs.Records.{wordsOf, isFrameHead}
+use Rattle.decoder.specs.Limits.{listUnit}
 use Rattle.taking.specs.declared.Ending.{Ending}
 use Rattle.taking.specs.declared.Ending.the-variants.{Done, Frame, ListFull}
-use Rattle.decoder.specs.Limits.{listUnit}
 
 -- A state after a cycle, and what the cycle answers.
 pub record Turned (W : Type 0) : Type 0 where

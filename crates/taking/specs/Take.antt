@@ -8,11 +8,11 @@ use lib.ListN.{length}
 use lib.Seq.{sets}
 use Rattle.bits.specs.Bits.{bitsOf}
 use Rattle.decoder.specs.declared.Decoder.{Decoder}
+use Rattle.decoder.specs.Limits.{clockLimit, storeLength, trayLength, listUnit, inputLimit}
+use Rattle.decoder.specs.Sound.{soundOf}
 use Rattle.taking.specs.declared.Taken.{Taken}
 use Rattle.taking.specs.declared.Ending.{Ending}
 use Rattle.taking.specs.declared.Ending.the-variants.{Done, Frame, ListFull, Unsound, WrongBuffers, WrongRange, ClockOver}
-use Rattle.decoder.specs.Limits.{clockLimit, storeLength, trayLength, listUnit, inputLimit}
-use Rattle.decoder.specs.Sound.{soundOf}
 use Rattle.taking.specs.Run.{Run, runOf}
 use Rattle.taking.specs.Turn.{World, turnOf}
 

@@ -7,9 +7,9 @@ use native.Mathlib.Nat.{zero-add, le-trans}
 use lib.ListN.{length, take}
 use lib.Seq.{sets}
 use borrow.Author.Needs.{needs}
+use Rattle.text.specs.Block.{Block}
 use Rattle.hexlines.specs.declared.HexLine.{HexLine}
 use Rattle.hexlines.specs.declared.Seen.{Seen}
-use Rattle.text.specs.Block.{Block}
 use Rattle.hexlines.specs.Line.{hexCount, readAs, readOf}
 use Rattle.hexlines.specs.Lines.{fresh, seenOf}
 use Rattle.hexlines.proofs.Says.{short, within, length-said, read}

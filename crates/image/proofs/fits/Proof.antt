@@ -1,13 +1,11 @@
 -- `fits` writes the state that the words read as, and compares.
 -- Assumes nothing.
-use mathlib.Core.Bool.{true, _&&_}
 use mathlib.Core.List.{List}
-use mathlib.Core.Path.{sym, ap, _∙_}
+use mathlib.Core.Path.{ap, _∙_}
 use Prim.Native.Nat.{ℕ}
 use lib.ListN.{length}
 use borrow.Author.Needs.{needs}
 use borrow.Author.Tests.{eq-eqb, ne-eqb}
-use Rattle.decoder.specs.declared.Decoder.{Decoder}
 use Rattle.image.specs.Image.{imageLength, imageOf, sameWords, imageFits}
 use Rattle.image.proofs.fits.Statement.{statement}
 use Rattle.image.proofs.fits.Tie as tie

@@ -10,7 +10,7 @@ use Rattle.decoder.specs.declared.Opened.{Opened}
 use Rattle.decoder.specs.Opening.{openOf}
 use Rattle.taking.proofs.Stays.{start-sound}
 use Rattle.image.specs.Image.{imageLength, imageOf, stateOf}
-use Rattle.kernelstill.specs.Open.{OpenLeft, planOf, openedInto, openLeftOf}
+use Rattle.kernelstill.specs.Open.{planOf, openedInto, openLeftOf}
 use Rattle.kernelstill.specs.Take.{Holds}
 use Rattle.kernelstill.proofs.Laws.{filled, no-room, no-room-refused, holds}
 use Rattle.kernelstill.proofs.kernelstill_open.Statement.{statement}

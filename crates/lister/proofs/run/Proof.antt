@@ -1,7 +1,7 @@
 -- `lister::run` is safe and ends. What a run under way has holds from turn to turn; the measure is the number of turns that are left.
 -- Assumes nothing.
 use mathlib.Core.Bool.{not}
-use mathlib.Core.Path.{_≡_, refl, sym, _∙_}
+use mathlib.Core.Path.{_≡_, refl, sym}
 use Prim.Native.Nat.{_<_}
 use native.Mathlib.Omega.{arith}
 use lib.Dec.{ltb}
@@ -10,10 +10,10 @@ use lib.Seq.{length-take-le}
 use borrow.Author.Needs.{needs}
 use borrow.Author.Tests.{ltb-true}
 use Rattle.bits.proofs.Truth.{both}
-use Rattle.printing.specs.State.{stateText}
-use Rattle.lister.specs.Going.{Within}
 use Rattle.text.proofs.Puts.{put-low}
+use Rattle.printing.specs.State.{stateText}
 use Rattle.printing.proofs.States.{state-short}
+use Rattle.lister.specs.Going.{Within}
 use Rattle.lister.proofs.Inputs.{Kept, begins, written}
 use Rattle.lister.proofs.run.Statement.{statement}
 use Rattle.lister.proofs.run.Tie as tie

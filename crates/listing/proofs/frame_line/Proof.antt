@@ -4,8 +4,8 @@ use mathlib.Core.List.{[], _∷_}
 use mathlib.Core.Path.{refl, sym, _∙_}
 use native.Mathlib.Omega.{arith}
 use borrow.Author.Needs.{needs}
-use Rattle.listing.specs.Records.{byteDigits, frameLine}
 use Rattle.text.proofs.Puts.{Left, begun, room, again, over, put-fits, put-over}
+use Rattle.listing.specs.Records.{byteDigits, frameLine}
 use Rattle.listing.proofs.Texts.{frame-length}
 use Rattle.listing.proofs.frame_line.Statement.{statement}
 use Rattle.listing.proofs.frame_line.Tie as tie

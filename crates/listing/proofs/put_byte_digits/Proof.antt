@@ -4,8 +4,8 @@ use Prim.Native.Nat.{_-_, _≤_}
 use native.Mathlib.Omega.{arith}
 use lib.ListN.{length, drop, drop-of-length-le}
 use borrow.Author.Needs.{needs}
-use Rattle.listing.specs.Records.{byteDigits}
 use Rattle.text.proofs.Puts.{Left, begun, over}
+use Rattle.listing.specs.Records.{byteDigits}
 use Rattle.listing.proofs.Texts.{byte-room, byte-again}
 use Rattle.listing.proofs.put_byte_digits.Statement.{statement}
 use Rattle.listing.proofs.put_byte_digits.Tie as tie

@@ -6,8 +6,8 @@ use Prim.Native.Nat.{ℕ, _+_}
 use lib.ListN.{length}
 use borrow.Author.Needs.{needs}
 use borrow.Author.Tests.{leb-true, leb-false, not-true, not-false}
-use Rattle.listing.specs.Records.{lineOf}
 use Rattle.text.proofs.Puts.{Left, begun, room, again, put-fits, put-over}
+use Rattle.listing.specs.Records.{lineOf}
 use Rattle.listing.proofs.Texts.{line-length}
 use Rattle.listing.proofs.put_line.Statement.{statement}
 use Rattle.listing.proofs.put_line.Tie as tie

@@ -4,8 +4,8 @@ use Prim.Native.Nat.{_-_, _≤_}
 use native.Mathlib.Omega.{arith}
 use lib.ListN.{length, drop, drop-of-length-le}
 use borrow.Author.Needs.{needs}
-use Rattle.listing.specs.Records.{numbersLine}
 use Rattle.text.proofs.Puts.{Left, begun, over}
+use Rattle.listing.specs.Records.{numbersLine}
 use Rattle.listing.proofs.Texts.{number-room, number-again}
 use Rattle.listing.proofs.put_numbers.Statement.{statement}
 use Rattle.listing.proofs.put_numbers.Tie as tie

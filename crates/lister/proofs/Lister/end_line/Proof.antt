@@ -3,7 +3,6 @@
 use mathlib.Core.Path.{_≡_, sym, ap, _∙_}
 use native.Mathlib.Omega.{arith}
 use borrow.Author.Needs.{needs}
-use Rattle.hexlines.specs.declared.HexLine.{HexLine}
 use Rattle.hexlines.specs.Line.{hexNumber}
 use Rattle.hexlines.specs.Lines.{answerOf}
 use Rattle.lister.specs.Going.{going}

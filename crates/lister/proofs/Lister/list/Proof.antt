@@ -2,7 +2,6 @@
 -- Assumes nothing.
 use mathlib.Core.Path.{_≡_, refl, sym, _∙_}
 use lib.ListN.{length}
-use borrow.Author.Needs.{needs}
 use Rattle.lister.specs.Going.{going, leftOf, Goes}
 use Rattle.lister.proofs.Goings.{begun, again}
 use Rattle.lister.proofs.Lister.list.Statement.{statement}
