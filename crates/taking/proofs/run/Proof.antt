@@ -1,7 +1,7 @@
 -- The taking loop meets `takenOf`: each way through its body cites a lemma over what the loop keeps.
 -- Assumes nothing.
 use mathlib.Core.Path.{_∙_, sym}
-use Prim.Native.Nat.{_-_}
+use Prim.Native.Nat.{_+_, _-_, _≤_}
 use native.Mathlib.Omega.{arith}
 use borrow.Author.Needs.{needs}
 use lib.ListN.{length-take, length-drop}
@@ -17,6 +17,39 @@ Inv-loop input first count store₀ tray₀ list₀ free plan start recogniser�
 
 abbrev μ-loop : tie.MeasureT-loop
 μ-loop input first count store₀ tray₀ list₀ free plan start recogniser₀ model₀ cnt₀ taken₀ at₀ store tray list recogniser model cnt taken at = count - taken
+
+-- The places of the loop's body that the proofs look back to, each by the one after it: the call's start, a turn's start, after a stretch, after what its
+-- event did, after its record.
+abbrev Began : Type 0
+Began = tie.Start Inv-loop μ-loop
+
+abbrev Looped : Type 0
+Looped = tie.At-loop Inv-loop μ-loop
+
+abbrev Walked : Type 0
+Walked = tie.After-advance Inv-loop μ-loop
+
+abbrev Acted : Type 0
+Acted = tie.After-cnt2 Inv-loop μ-loop
+
+abbrev Wrote : Type 0
+Wrote = tie.After-write-record Inv-loop μ-loop
+
+abbrev began : Looped → Began
+began l = l .before .before .before .before .before .before .before .before .before
+
+abbrev looped : Walked → Looped
+looped a = a .before .before .before
+
+abbrev walked : Acted → Walked
+walked b = b .before .before .before .before .before .before .before .before .before .before .before .before .before
+
+abbrev acted : Wrote → Acted
+acted w = w .before .before .before .before .before
+
+-- A stretch moves on, and stays within the call.
+moves : (a : Walked) → (1 ≤ a .advance .result .taken) × (looped a .loop .taken + a .advance .result .taken ≤ began (looped a) .args .count)
+moves a = moved (looped a .loop .inv) (a .before .before .loop-test .taken) (a .before .if1 .left) (a .advance .result) (a .advance .ensures)
 
 cnt-requires : tie.Need-cnt-requires Inv-loop μ-loop
 cnt-requires c κs = search needs
@@ -68,78 +101,46 @@ advance-requires c κs = search needs
 
 add-taken : tie.Need-add-taken Inv-loop μ-loop
 add-taken c =
-    let c5 = c .before .before .before .before .before in
-    let c10 = c5 .before .before .before .before .before in
-    let g = c5 .loop .inv in
-    let more = c .before .before .before .before .loop-test .taken in
-    let room = c .before .before .before .if1 .left in
-    let s = c .before .before .advance in
-    let m = moved g more room (s .result) (s .ensures) in
-    omega (arith, c5, c10 .before .before .before .before)
+    let a = c .before .before in
+    let m = moves a in
+    omega (arith, looped a, began (looped a))
 
 enum-told : tie.Need-enum-told Inv-loop μ-loop
 enum-told c = search needs
 
 loop-less : tie.Need-loop-less Inv-loop μ-loop
 loop-less c =
-    let c5 = c .before .before .before .before .before in
-    let c10 = c5 .before .before .before .before .before in
-    let c15 = c10 .before .before .before .before .before in
-    let g = c5 .before .before .loop .inv in
-    let more = c5 .before .loop-test .taken in
-    let room = c5 .if1 .left in
-    let s = c .before .before .before .before .advance in
-    let m = moved g more room (s .result) (s .ensures) in
-    omega (arith, c5 .before .before, c15 .before)
+    let a = c .before .before .before .before in
+    let m = moves a in
+    omega (arith, looped a, began (looped a))
 
 loop-again : tie.Need-loop-again Inv-loop μ-loop
 loop-again c =
-    let c5 = c .before .before .before .before .before in
-    let g = c5 .before .before .loop .inv in
-    let more = c5 .before .loop-test .taken in
-    let room = c5 .if1 .left in
-    let s = c .before .before .before .before .advance in
-    quiet g more room (s .result) (s .ensures) (c .enum-told .given .1)
+    let a = c .before .before .before .before in
+    quiet (looped a .loop .inv) (a .before .before .loop-test .taken) (a .before .if1 .left) (a .advance .result) (a .advance .ensures) (c .enum-told .given .1)
 
 keep-requires : tie.Need-keep-requires Inv-loop μ-loop
 keep-requires c κs = search needs
 
 add-act : tie.Need-add-act Inv-loop μ-loop
 add-act c =
-    let c5 = c .before .before .before .before .before in
-    let c10 = c5 .before .before .before .before .before in
-    let c15 = c10 .before .before .before .before .before in
-    let g = c10 .loop .inv in
-    let more = c5 .before .before .before .before .loop-test .taken in
-    let room = c5 .before .before .before .if1 .left in
-    let s = c5 .before .before .advance in
-    let m = moved g more room (s .result) (s .ensures) in
-    omega (arith, c10, c15 .before .before .before .before)
+    let a = c .before .before .before .before .before .before .before in
+    let m = moves a in
+    omega (arith, looped a, began (looped a))
 
 sub-act : tie.Need-sub-act Inv-loop μ-loop
 sub-act c =
-    let c5 = c .before .before .before .before .before in
-    let c10 = c5 .before .before .before .before .before in
-    let c15 = c10 .before .before .before .before .before in
-    let g = c10 .loop .inv in
-    let more = c5 .before .before .before .before .loop-test .taken in
-    let room = c5 .before .before .before .if1 .left in
-    let s = c5 .before .before .advance in
-    let m = moved g more room (s .result) (s .ensures) in
-    omega (arith, c10, c15 .before .before .before .before)
+    let a = c .before .before .before .before .before .before .before in
+    let m = moves a in
+    omega (arith, looped a, began (looped a))
 
 act-requires : tie.Need-act-requires Inv-loop μ-loop
 act-requires c κs =
-    let c5 = c .before .before .before .before .before in
-    let c10 = c5 .before .before .before .before .before in
-    let c15 = c10 .before .before .before .before .before in
-    let c20 = c15 .before .before .before .before .before in
-    let g = c10 .before .loop .inv in
-    let more = c10 .loop-test .taken in
-    let room = c5 .before .before .before .before .if1 .left in
-    let s = c5 .before .before .before .advance in
-    let m = moved g more room (s .result) (s .ensures) in
-    (omega (arith, c10 .before, c20), (g .long ∙ c20 .pre .0 .1), stretched-fits g more room (s .result) (s .ensures))
+    let a = c .before .before .before .before .before .before .before .before in
+    let g = looped a .loop .inv in
+    let m = moves a in
+    let fits = stretched-fits g (a .before .before .loop-test .taken) (a .before .if1 .left) (a .advance .result) (a .advance .ensures) in
+    (omega (arith, looped a, began (looped a)), (g .long ∙ began (looped a) .pre .0 .1), fits)
 
 cnt-requires-2 : tie.Need-cnt-requires-2 Inv-loop μ-loop
 cnt-requires-2 c κs = search needs
@@ -152,42 +153,26 @@ enum-told-2 c = search needs
 
 loop-less-2 : tie.Need-loop-less-2 Inv-loop μ-loop
 loop-less-2 c =
-    let c5 = c .before .before .before .before .before in
-    let c10 = c5 .before .before .before .before .before in
-    let c15 = c10 .before .before .before .before .before in
-    let c20 = c15 .before .before .before .before .before in
-    let c25 = c20 .before .before .before .before .before in
-    let g = c15 .before .before .before .loop .inv in
-    let more = c15 .before .before .loop-test .taken in
-    let room = c15 .before .if1 .left in
-    let s = c15 .advance in
-    let m = moved g more room (s .result) (s .ensures) in
-    omega (arith, c15 .before .before .before, c25 .before .before)
+    let a = walked (c .before .before) in
+    let m = moves a in
+    omega (arith, looped a, began (looped a))
 
 loop-again-2 : tie.Need-loop-again-2 Inv-loop μ-loop
 loop-again-2 c =
-    let c5 = c .before .before .before .before .before in
-    let c10 = c5 .before .before .before .before .before in
-    let c15 = c10 .before .before .before .before .before in
-    let g = c15 .before .before .before .loop .inv in
-    let more = c15 .before .before .loop-test .taken in
-    let room = c15 .before .if1 .left in
-    let s = c15 .advance in
-    let act = c5 .before .act .ensures in
-    let put = c10 .keep .ensures in
-    let store = c5 .store .given in
-    let tray = c5 .before .before .before .before .tray .given in
-    let cnt = c .before .before .cnt2 .ensures in
-    silent g more room (s .result) (s .ensures) _ _ _ act put store tray _ cnt (c .enum-told2 .given .1)
+    let b = c .before .before in
+    let a = walked b in
+    let l = looped a .loop in
+    let room = a .before .if1 .left in
+    let act = b .before .before .before .before .act .ensures in
+    let put = b .before .before .before .before .before .before .before .before .keep .ensures in
+    let store = b .before .before .before .store .given in
+    let tray = b .before .before .before .before .before .before .before .tray .given in
+    silent (l .inv) (a .before .before .loop-test .taken) room (a .advance .result) (a .advance .ensures) _ _ _ act put store tray _ (b .cnt2 .ensures) (c .enum-told2 .given .1)
 
 mul-write-record : tie.Need-mul-write-record Inv-loop μ-loop
 mul-write-record c =
-    let c5 = c .before .before .before .before .before in
-    let c10 = c5 .before .before .before .before .before in
-    let c15 = c10 .before .before .before .before .before in
-    let c20 = c15 .before .before .before .before .before in
-    let c25 = c20 .before .before .before .before .before in
-    omega (arith, c15 .before .before, c15 .before .before .before .before, c15 .before .before .before .before, c25 .before .before .before)
+    let a = walked (c .before .before .before) in
+    omega (arith, a .before, looped a, began (looped a))
 
 sub-write-record : tie.Need-sub-write-record Inv-loop μ-loop
 sub-write-record c = search needs
@@ -200,139 +185,84 @@ part-write-record-end c = search needs
 
 write-record-requires : tie.Need-write-record-requires Inv-loop μ-loop
 write-record-requires c κs =
-    let c5 = c .before .before .before .before .before in
-    let c10 = c5 .before .before .before .before .before in
-    let c15 = c10 .before .before .before .before .before in
-    let c20 = c15 .before .before .before .before .before in
-    simp (length-take, length-drop) (omega (arith, c15 .before .before .before, c20))
+    let a = walked (c .before .before .before .before) in
+    simp (length-take, length-drop) (omega (arith, a .before, looped a))
 
 add-at : tie.Need-add-at Inv-loop μ-loop
 add-at c =
-    let c5 = c .before .before .before .before .before in
-    let c10 = c5 .before .before .before .before .before in
-    let c15 = c10 .before .before .before .before .before in
-    let c20 = c15 .before .before .before .before .before in
-    let c25 = c20 .before .before .before .before .before in
-    let c30 = c25 .before .before .before .before .before in
-    omega (arith, c20 .before, c20 .before .before .before, c .before, c30 .before .before)
+    let a = walked (acted (c .before .before)) in
+    omega (arith, a .before, looped a, c .before, began (looped a))
 
 is-frame-head-requires : tie.Need-is-frame-head-requires Inv-loop μ-loop
 is-frame-head-requires c κs = search needs
 
 add-joined-2 : tie.Need-add-joined-2 Inv-loop μ-loop
 add-joined-2 c =
-    let c5 = c .before .before .before .before .before in
-    let c10 = c5 .before .before .before .before .before in
-    let c15 = c10 .before .before .before .before .before in
-    let c20 = c15 .before .before .before .before .before in
-    let c25 = c20 .before .before .before .before .before in
-    let c30 = c25 .before .before .before .before .before in
-    let g = c25 .loop .inv in
-    let more = c20 .before .before .before .before .loop-test .taken in
-    let room = c20 .before .before .before .if1 .left in
-    let s = c20 .before .before .advance in
-    let m = moved g more room (s .result) (s .ensures) in
-    omega (arith, c25, c30 .before .before .before .before)
+    let a = walked (acted (c .before .before .before .before)) in
+    let m = moves a in
+    omega (arith, looped a, began (looped a))
 
 joined-requires-2 : tie.Need-joined-requires-2 Inv-loop μ-loop
 joined-requires-2 c κs = search needs
 
 sub-told-2 : tie.Need-sub-told-2 Inv-loop μ-loop
 sub-told-2 c =
-    let c5 = c .before .before .before .before .before in
-    let c10 = c5 .before .before .before .before .before in
-    let c15 = c10 .before .before .before .before .before in
-    let c20 = c15 .before .before .before .before .before in
-    let c25 = c20 .before .before .before .before .before in
-    let c30 = c25 .before .before .before .before .before in
-    let c35 = c30 .before .before .before .before .before in
-    omega (arith, c20 .before .before .before .before, c25 .before, c .before .before .before .before, c35)
+    let a = walked (acted (c .before .before .before .before .before)) in
+    omega (arith, a .before, looped a, c .before .before .before .before, began (looped a))
 
 told-requires-2 : tie.Need-told-requires-2 Inv-loop μ-loop
 told-requires-2 c κs = search needs
 
 same-length-4 : tie.Need-same-length-4 Inv-loop μ-loop
 same-length-4 c =
-    let c5 = c .before .before .before .before .before in
-    let c10 = c5 .before .before .before .before .before in
-    let c15 = c10 .before .before .before .before .before in
-    let c20 = c15 .before .before .before .before .before in
-    let c25 = c20 .before .before .before .before .before in
-    c10 .before .before .before .before .store .given ∙ c25 .before .before .loop .inv .long
+    let b = acted (c .before .before .before .before .before .before) in
+    b .before .before .before .store .given ∙ looped (walked b) .loop .inv .long
 
 same-length-5 : tie.Need-same-length-5 Inv-loop μ-loop
 same-length-5 c =
-    let c5 = c .before .before .before .before .before in
-    let c10 = c5 .before .before .before .before .before in
-    let c15 = c10 .before .before .before .before .before in
-    let c20 = c15 .before .before .before .before .before in
-    let c25 = c20 .before .before .before .before .before in
-    c15 .before .before .before .tray .given ∙ c25 .before .before .loop .inv .wide
+    let b = acted (c .before .before .before .before .before .before) in
+    b .before .before .before .before .before .before .before .tray .given ∙ looped (walked b) .loop .inv .wide
 
 same-length-6 : tie.Need-same-length-6 Inv-loop μ-loop
 same-length-6 c =
-    let c5 = c .before .before .before .before .before in
-    let c10 = c5 .before .before .before .before .before in
-    let c15 = c10 .before .before .before .before .before in
-    let c20 = c15 .before .before .before .before .before in
-    let c25 = c20 .before .before .before .before .before in
-    c5 .list .given .1 ∙ c25 .before .before .loop .inv .same
+    c .before .before .before .before .before .list .given .1 ∙ looped (walked (acted (c .before .before .before .before .before .before))) .loop .inv .same
 
 returns-2 : tie.Need-returns-2 Inv-loop μ-loop
 returns-2 c =
-    let c5 = c .before .before .before .before .before in
-    let c10 = c5 .before .before .before .before .before in
-    let c15 = c10 .before .before .before .before .before in
-    let c20 = c15 .before .before .before .before .before in
-    let c25 = c20 .before .before .before .before .before in
-    let g = c25 .before .before .loop .inv in
-    let more = c25 .before .loop-test .taken in
-    let room = c25 .if1 .left in
-    let s = c20 .before .before .before .before .advance in
-    let act = c15 .act .ensures in
-    let put = c15 .before .before .before .before .keep .ensures in
-    let store = c10 .before .before .before .before .store .given in
-    let tray = c15 .before .before .before .tray .given in
-    let cnt = c10 .before .cnt2 .ensures in
-    let is = c5 .before .before .before .before .cycle .given .1 in
-    let head = sym (c .before .before .before .is-frame-head .ensures) in
+    let w = c .before .before .before .before .before .before in
+    let b = acted w in
+    let a = walked b in
+    let l = looped a .loop in
+    let room = a .before .if1 .left in
+    let act = b .before .before .before .before .act .ensures in
+    let put = b .before .before .before .before .before .before .before .before .keep .ensures in
+    let store = b .before .before .before .store .given in
+    let tray = b .before .before .before .before .before .before .before .tray .given in
+    let head = sym (c .before .before .before .is-frame-head .ensures) ∙ c .before .before .if2 .taken in
     rw (c .told2 .ensures, c .before .joined2 .ensures)
-    (framed g more room (s .result) (s .ensures) _ _ _ act put store tray _ cnt _ _ is _ (rw (c5 .before .write-record .ensures) (two-put (c25 .before .before .loop .list) (c25 .before .before .loop .at) _ _ room)) (head ∙ c .before .before .if2 .taken))
+    (framed (l .inv) (a .before .before .loop-test .taken) room (a .advance .result) (a .advance .ensures) _ _ _ act put store tray _ (b .cnt2 .ensures) _ _ (w .before .before .before .cycle .given .1) _
+    (rw (w .write-record .ensures) (two-put (l .list) (l .at) _ _ room)) head)
 
 loop-less-3 : tie.Need-loop-less-3 Inv-loop μ-loop
 loop-less-3 c =
-    let c5 = c .before .before .before .before .before in
-    let c10 = c5 .before .before .before .before .before in
-    let c15 = c10 .before .before .before .before .before in
-    let c20 = c15 .before .before .before .before .before in
-    let c25 = c20 .before .before .before .before .before in
-    let c30 = c25 .before .before .before .before .before in
-    let g = c25 .loop .inv in
-    let more = c20 .before .before .before .before .loop-test .taken in
-    let room = c20 .before .before .before .if1 .left in
-    let s = c20 .before .before .advance in
-    let m = moved g more room (s .result) (s .ensures) in
-    omega (arith, c25, c30 .before .before .before .before)
+    let a = walked (acted (c .before .before .before .before)) in
+    let m = moves a in
+    omega (arith, looped a, began (looped a))
 
 loop-again-3 : tie.Need-loop-again-3 Inv-loop μ-loop
 loop-again-3 c =
-    let c5 = c .before .before .before .before .before in
-    let c10 = c5 .before .before .before .before .before in
-    let c15 = c10 .before .before .before .before .before in
-    let c20 = c15 .before .before .before .before .before in
-    let c25 = c20 .before .before .before .before .before in
-    let g = c25 .loop .inv in
-    let more = c20 .before .before .before .before .loop-test .taken in
-    let room = c20 .before .before .before .if1 .left in
-    let s = c20 .before .before .advance in
-    let act = c10 .before .before .before .act .ensures in
-    let put = c15 .before .before .keep .ensures in
-    let store = c10 .before .before .store .given in
-    let tray = c15 .before .tray .given in
-    let cnt = c5 .before .before .before .before .cnt2 .ensures in
-    let is = c5 .before .before .cycle .given .1 in
-    let head = sym (c .before .is-frame-head .ensures) in
-    again g more room (s .result) (s .ensures) _ _ _ act put store tray _ cnt _ _ is _ (rw (c .before .before .before .before .write-record .ensures) (two-put (c25 .loop .list) (c25 .loop .at) _ _ room)) (head ∙ c .if2 .left)
+    let w = c .before .before .before .before in
+    let b = acted w in
+    let a = walked b in
+    let l = looped a .loop in
+    let room = a .before .if1 .left in
+    let act = b .before .before .before .before .act .ensures in
+    let put = b .before .before .before .before .before .before .before .before .keep .ensures in
+    let store = b .before .before .before .store .given in
+    let tray = b .before .before .before .before .before .before .before .tray .given in
+    let head = sym (c .before .is-frame-head .ensures) ∙ c .if2 .left in
+    again (l .inv) (a .before .before .loop-test .taken) room (a .advance .result) (a .advance .ensures) _ _ _ act put store tray _ (b .cnt2 .ensures) _ _ (w .before .before .before .cycle .given .1) _
+    (rw (w .write-record .ensures) (two-put (l .list) (l .at) _ _ room)) head
 
 add-joined-3 : tie.Need-add-joined-3 Inv-loop μ-loop
 add-joined-3 c = search needs

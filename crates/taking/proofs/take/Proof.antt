@@ -1,13 +1,49 @@
 -- `take` turns away what is unfit, in the order of the table, and else runs.
 -- Assumes nothing.
-use mathlib.Core.Path.{_∙_, sym}
+use mathlib.Core.Bool.{true}
+use mathlib.Core.Path.{_≡_, _∙_, sym}
+use Prim.Native.Nat.{_≤_}
 use native.Mathlib.Omega.{arith}
 use borrow.Author.Needs.{needs}
 use lib.ListN.{length}
 use borrow.Author.Tests.{not-true, not-false}
-use Rattle.taking.proofs.Refusals.{unsound, wrong-buffers, wrong-range, clock-over, taken, clock-short, clock-long, next-low, run-may}
+use Rattle.decoder.specs.declared.Decoder.{Decoder}
+use Rattle.decoder.specs.Limits.{clockLimit}
+use Rattle.decoder.specs.Sound.{soundOf}
+use Rattle.taking.specs.Take.{Call}
+use Rattle.taking.proofs.Refusals.{buffers, range, unsound, wrong-buffers, wrong-range, clock-over, taken, clock-short, clock-long, next-low, May, run-may}
 use Rattle.taking.proofs.take.Statement.{statement}
 use Rattle.taking.proofs.take.Tie as tie
+
+-- What each check that was passed says of the state and of the call.
+module _ (c : tie.Else1) where
+  abbrev state : Decoder
+  state = c .before .before .before .before .before .before .args .decoder
+
+  abbrev call : Call
+  call =
+      let a = c .before .before .before .before .before .before .args in
+      record { input = a .input .now; first = a .first; count = a .count; store = a .store .now; tray = a .tray .now; list = a .list .now; free = a .free }
+
+  sound : soundOf state ≡ true
+  sound = sym (c .before .sound .ensures) ∙ not-false (c .before .sound .result) (c .if1 .left)
+
+  low : state .next ≤ clockLimit
+  low = next-low state sound
+
+module _ (c : tie.Else2) where
+  abbrev past1 : tie.Else1
+  past1 = c .before .before .before .before .before
+
+  fit : buffers (call past1) ≡ true
+  fit = sym (c .before .buffers-fit .ensures) ∙ not-false (c .before .buffers-fit .result) (c .if2 .left)
+
+module _ (c : tie.Else3) where
+  abbrev past2 : tie.Else1
+  past2 = past1 (c .before .before)
+
+  inside : range (call past2) ≡ true
+  inside = sym (c .before .range-fits .ensures) ∙ not-false (c .before .range-fits .result) (c .if3 .left)
 
 sound-requires : tie.Need-sound-requires
 sound-requires c κs = search needs
@@ -17,8 +53,10 @@ refused-requires c κs = search needs
 
 returns : tie.Need-returns
 returns c =
-    let c5 = c .before .before .before .before .before in
-    rw (c .refused .ensures) (sym (unsound (c5 .before .before .args .decoder) _ (sym (c .before .before .sound .ensures) ∙ not-true (c .before .before .sound .result) (c .before .if1 .taken))))
+    let t = c .before in
+    rw (c .refused .ensures)
+    (sym (unsound (t .before .before .before .before .before .before .args .decoder) _
+    (sym (t .before .sound .ensures) ∙ not-true (t .before .sound .result) (t .if1 .taken))))
 
 buffers-fit-requires : tie.Need-buffers-fit-requires
 buffers-fit-requires c κs = search needs
@@ -37,9 +75,11 @@ same-length-3 c = search needs
 
 returns-2 : tie.Need-returns-2
 returns-2 c =
-    let c5 = c .before .before .before .before .before in
-    let c10 = c5 .before .before .before .before .before in
-    rw (c .refused2 .ensures) (sym (wrong-buffers (c10 .before .before .args .decoder) _ (sym (c5 .before .before .sound .ensures) ∙ not-false (c5 .before .before .sound .result) (c5 .before .if1 .left)) (sym (c .before .before .buffers-fit .ensures) ∙ not-true (c .before .before .buffers-fit .result) (c .before .if2 .taken))))
+    let t = c .before in
+    let e = t .before .before .before .before .before in
+    rw (c .refused2 .ensures)
+    (sym (wrong-buffers (state e) (call e) (sound e)
+    (sym (t .before .buffers-fit .ensures) ∙ not-true (t .before .buffers-fit .result) (t .if2 .taken))))
 
 range-fits-requires : tie.Need-range-fits-requires
 range-fits-requires c κs = search needs
@@ -58,15 +98,14 @@ same-length-6 c = search needs
 
 returns-3 : tie.Need-returns-3
 returns-3 c =
-    let c5 = c .before .before .before .before .before in
-    let c10 = c5 .before .before .before .before .before in
-    rw (c .refused3 .ensures) (sym (wrong-range (c10 .before .before .before .before .args .decoder) _ (sym (c5 .before .before .before .before .sound .ensures) ∙ not-false (c5 .before .before .before .before .sound .result) (c5 .before .before .before .if1 .left)) (sym (c .before .before .before .before .buffers-fit .ensures) ∙ not-false (c .before .before .before .before .buffers-fit .result) (c .before .before .before .if2 .left)) (sym (c .before .before .range-fits .ensures) ∙ not-true (c .before .before .range-fits .result) (c .before .if3 .taken))))
+    let t = c .before in
+    let e = past1 (t .before .before) in
+    rw (c .refused3 .ensures)
+    (sym (wrong-range (state e) (call e) (sound e) (fit (t .before .before))
+    (sym (t .before .range-fits .ensures) ∙ not-true (t .before .range-fits .result) (t .if3 .taken))))
 
 sub-if4 : tie.Need-sub-if4
-sub-if4 c =
-    let c5 = c .before .before .before .before .before in
-    let c10 = c5 .before .before .before .before .before in
-    omega (arith, next-low (c10 .before .before .before .before .args .decoder) (sym (c5 .before .before .before .before .sound .ensures) ∙ not-false (c5 .before .before .before .before .sound .result) (c5 .before .before .before .if1 .left)))
+sub-if4 c = omega (arith, low (past2 (c .before)))
 
 refused-requires-4 : tie.Need-refused-requires-4
 refused-requires-4 c κs = search needs
@@ -82,19 +121,17 @@ same-length-9 c = search needs
 
 returns-4 : tie.Need-returns-4
 returns-4 c =
-    let c5 = c .before .before .before .before .before in
-    let c10 = c5 .before .before .before .before .before in
-    let c15 = c10 .before .before .before .before .before in
-    rw (c .refused4 .ensures) (sym (clock-over (c15 .before .args .decoder) _ (sym (c10 .before .sound .ensures) ∙ not-false (c10 .before .sound .result) (c10 .if1 .left)) (sym (c5 .before .buffers-fit .ensures) ∙ not-false (c5 .before .buffers-fit .result) (c5 .if2 .left)) (sym (c .before .before .before .before .range-fits .ensures) ∙ not-false (c .before .before .before .before .range-fits .result) (c .before .before .before .if3 .left)) (clock-short _ _ (next-low (c15 .before .args .decoder) (sym (c10 .before .sound .ensures) ∙ not-false (c10 .before .sound .result) (c10 .if1 .left))) (c .before .if4 .taken))))
+    let p = c .before .before .before in
+    let e = past2 p in
+    rw (c .refused4 .ensures)
+    (sym (clock-over (state e) (call e) (sound e) (fit (p .before .before)) (inside p) (clock-short _ _ (low e) (c .before .if4 .taken))))
 
 run-requires : tie.Need-run-requires
 run-requires c κs =
-    let c5 = c .before .before .before .before .before in
-    let c10 = c5 .before .before .before .before .before in
-    let c15 = c10 .before .before .before .before .before in
-    let a = c15 .before .before .before .args in
-    let m =
-    run-may (a .decoder .next) (length (a .store .now)) (length (a .tray .now)) (length (a .list .now)) (a .free) (length (a .input .now)) (a .first) (a .count) (next-low (c15 .before .before .before .args .decoder) (sym (c10 .before .before .before .sound .ensures) ∙ not-false (c10 .before .before .before .sound .result) (c10 .before .before .if1 .left))) (sym (c5 .before .before .before .buffers-fit .ensures) ∙ not-false (c5 .before .before .before .buffers-fit .result) (c5 .before .before .if2 .left)) (sym (c5 .before .range-fits .ensures) ∙ not-false (c5 .before .range-fits .result) (c5 .if3 .left)) (c .before .before .before .if4 .left) in
+    let p = c .before .before .before .before .before in
+    let e = past2 p in
+    let m : May (state e .next) (length (call e .store)) (length (call e .input)) (call e .first) (call e .count) (length (call e .list)) (call e .free) =
+    run-may _ _ (length (call e .tray)) _ _ _ _ _ (low e) (fit (p .before .before)) (inside p) (c .before .before .before .if4 .left) in
     ((m .clock-fits, m .store-long), (m .input-short, m .in-range, m .list-long))
 
 same-length-10 : tie.Need-same-length-10
@@ -108,12 +145,11 @@ same-length-12 c = search needs
 
 returns-5 : tie.Need-returns-5
 returns-5 c =
-    let c5 = c .before .before .before .before .before in
-    let c10 = c5 .before .before .before .before .before in
-    let c15 = c10 .before .before .before .before .before in
-    let c20 = c15 .before .before .before .before .before in
-    let c25 = c20 .before .before .before .before .before in
-    c5 .before .run .ensures ∙ sym (taken (c25 .args .decoder) _ (sym (c20 .sound .ensures) ∙ not-false (c20 .sound .result) (c15 .before .before .before .before .if1 .left)) (sym (c15 .buffers-fit .ensures) ∙ not-false (c15 .buffers-fit .result) (c10 .before .before .before .before .if2 .left)) (sym (c10 .before .before .before .range-fits .ensures) ∙ not-false (c10 .before .before .before .range-fits .result) (c10 .before .before .if3 .left)) (clock-long _ _ (next-low (c25 .args .decoder) (sym (c20 .sound .ensures) ∙ not-false (c20 .sound .result) (c15 .before .before .before .before .if1 .left))) (c10 .if4 .left)))
+    let r = c .before .before .before .before .before .before in
+    let q = r .before .before .before .before in
+    let p = q .before .before in
+    let e = past2 p in
+    r .run .ensures ∙ sym (taken (state e) (call e) (sound e) (fit (p .before .before)) (inside p) (clock-long _ _ (low e) (q .if4 .left)))
 
 pub take-spec : {M : Type 1} → statement M
 take-spec =
