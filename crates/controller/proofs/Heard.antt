@@ -1,4 +1,4 @@
--- Every event that the recogniser asks for fits, as `Model::act` requires.
+-- Every event that the recogniser asks for fits, as `act` requires.
 -- Assumes nothing.
 use mathlib.Core.Bool.{Bool, true, false}
 use mathlib.Core.Path.{_≡_, refl}

@@ -2,12 +2,12 @@
 -- Assumes nothing.
 use mathlib.Core.Bool.{Bool, true, false, _||_}
 use mathlib.Core.List.{List, [], _∷_}
-use mathlib.Core.Path.{_≡_, refl, ap, _∙_}
+use mathlib.Core.Path.{_≡_, refl, ap}
 use Prim.Native.Nat.{ℕ, zero, suc, _+_, _≤_}
 use native.Mathlib.Nat.{le-refl}
 use native.Mathlib.Omega.{arith}
 use lib.Dec.{ltb, eqb}
-use lib.ListN.{length, getD, set, replicate, length-set}
+use lib.ListN.{getD, set, replicate}
 use borrow.Author.Tests.{lt-ltb, eq-eqb}
 use Rattle.bits.proofs.Truth.{both, choice, clash, or-left, or-right}
 use Rattle.recogniser.specs.declared.Event.{Event}
@@ -116,11 +116,6 @@ pub begins-stops : (plan : Plan) (m : Model) (time : ℕ) (store : List ℕ) →
 unfolding actOf
 begins-stops plan m time store = refl
 
-pub enable-runs : (plan : Plan) (m : Model) (address value time : ℕ) (store : List ℕ)
-    → after plan m (event.Slow 8 address value) time store .running ≡ true
-unfolding actOf
-enable-runs plan m address value time store = refl
-
 pub running-kept : (plan : Plan) (m : Model) (e : Event) (time : ℕ) (store : List ℕ)
     → changesRunning e ≡ false → after plan m e time store .running ≡ m .running
 unfolding actOf
@@ -143,21 +138,3 @@ running-kept plan m (event.BadSlow command) time store h = refl
 running-kept plan m (event.FrameBit place bit) time store h = refl
 running-kept plan m (event.FrameEnd command unsteady) time store h = refl
 running-kept plan m (event.FrameEndBit command unsteady place bit) time store h = refl
-
--- The store keeps its length.
-pub act-length : (plan : Plan) (m : Model) (e : Event) (time : ℕ) (store : List ℕ) → length (actOf plan m e time store .store) ≡ length store
-unfolding actOf
-act-length plan m event.Nothing time store = refl
-act-length plan m (event.Lv1 flip) time store = refl
-act-length plan m (event.Fast body) time store = refl
-act-length plan m (event.BadFast body) time store = refl
-act-length plan m event.SlowBegins time store = refl
-act-length plan m (event.Slow command address value) time store =
-    slow-cases (λ f. length (f .store) ≡ length store) plan m command address value time store
-    (λ _. refl) refl
-    (write-keeps (λ f. length (f .store) ≡ length store) (λ n word f h. length-set (f .store) _ _ ∙ h) 16 0 _ _ _ refl)
-    refl (λ _. refl) (λ _. refl) refl
-act-length plan m (event.BadSlow command) time store = refl
-act-length plan m (event.FrameBit place bit) time store = refl
-act-length plan m (event.FrameEnd command unsteady) time store = refl
-act-length plan m (event.FrameEndBit command unsteady place bit) time store = refl

@@ -11,15 +11,9 @@ use Rattle.controller.specs.declared.Cycle.the-variants.{Nothing, Record
 abbrev pub recordOf : ℕ → ℕ → ℕ → ℕ → Cycle
 recordOf time kind flags value = Record (time * 65536 + kind * 256 + flags) value
 
--- The fields of a record's first word.
-abbrev pub timeOf : ℕ → ℕ
-timeOf head = head / 65536
-
+-- The kind, off a record's first word.
 abbrev pub kindOf : ℕ → ℕ
 kindOf head = head / 256 % 256
-
-abbrev pub flagsOf : ℕ → ℕ
-flagsOf head = head % 256
 
 -- What each case of a cycle's answer writes.
 abbrev pub wordsOf : Cycle → List ℕ

@@ -21,7 +21,7 @@ pub struct Acted {
     pub cycle: Cycle,
 }
 
-// The values of Field 3 that the model tells apart.
+// The values of Field 3 that are told apart here.
 const WR_REGISTER: u8 = 0;
 
 const RD_REGISTER: u8 = 1;

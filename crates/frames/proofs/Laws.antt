@@ -8,27 +8,12 @@ use Prim.Native.Nat.{ℕ, zero, suc, _+_, _*_, _-_, _/_, _%_, _^_, _<_}
 use native.Mathlib.Nat.{eq-or-lt-of-le, pow-suc}
 use native.Mathlib.Omega.{arith}
 use lib.Dec.{eqb, lit<}
-use lib.ListN.{length, getD, length-set}
+use lib.ListN.{length, getD}
 use lib.Pow.{shr-shr}
 use lib.Seq.{getD-set-same, getD-set-other}
 use borrow.Author.Tests.{ne-eqb}
-use Rattle.recogniser.specs.declared.Event.{Event}
-use Rattle.recogniser.specs.declared.Event.the-variants.{Nothing, Lv1, Fast, BadFast, SlowBegins, Slow, BadSlow, FrameBit, FrameEnd, FrameEndBit}
-use Rattle.frames.specs.Tray.{withBit, storedOf, trayOf}
+use Rattle.frames.specs.Tray.{withBit, storedOf}
 use Rattle.frames.proofs.Weights.{put}
-
-pub tray-length : (tray : List ℕ) (e : Event) → length (trayOf tray e) ≡ length tray
-unfolding trayOf
-tray-length tray Nothing = refl
-tray-length tray (Lv1 flip) = refl
-tray-length tray (Fast body) = refl
-tray-length tray (BadFast body) = refl
-tray-length tray SlowBegins = refl
-tray-length tray (Slow command address value) = refl
-tray-length tray (BadSlow command) = refl
-tray-length tray (FrameBit place bit) = simp length-set
-tray-length tray (FrameEnd command unsteady) = refl
-tray-length tray (FrameEndBit command unsteady place bit) = simp length-set
 
 -- The bit at a place of the tray, counted from the highest bit of byte 0.
 abbrev pub bitIn : List ℕ → ℕ → ℕ

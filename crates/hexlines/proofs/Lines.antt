@@ -16,7 +16,7 @@ use Rattle.text.specs.Text.{lineFeed}
 use Rattle.hexlines.specs.declared.Seen.{Seen}
 use Rattle.hexlines.specs.declared.Fed.{Fed}
 use Rattle.hexlines.specs.Digits.{isDigit}
-use Rattle.hexlines.specs.Line.{Hex, hexOf}
+use Rattle.hexlines.specs.Line.{Hex}
 use Rattle.hexlines.specs.Lines.{isEmpty, linesFrom, linesOf, hexesOf, fresh, withCharacter, seenOf, saidBy, nothingSeen, upToFeed, fedOf, saidFrom}
 use Rattle.hexlines.proofs.Says.{says}
 
@@ -26,9 +26,6 @@ seen-append : (s : Seen) (a b : List ℕ) → seenOf s (a ++ b) ≡ seenOf (seen
 unfolding seenOf
 seen-append s [] b = refl
 seen-append s (c ∷ a) b = seen-append (withCharacter s c) a b
-
-pub says-cut : (a b : List ℕ) → saidBy (seenOf (seenOf fresh a) b) ≡ hexOf (a ++ b)
-says-cut a b = rw (← seen-append fresh a b) (says (a ++ b))
 
 -- ---- whether anything was seen
 

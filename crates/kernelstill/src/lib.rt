@@ -22,7 +22,7 @@ const RESULT_WORDS: usize = 3;
 // The bytes of the longest hexadecimal line.
 const LINE_BYTES: usize = 32;
 
-// Refusal numbers that the wrapped calls do not answer by themselves.
+// The refusal numbers of what is checked here: an image, and the lengths of slices that no wrapped call checks.
 const UNSOUND: u64 = 3;
 
 const WRONG_BUFFERS: u64 = 4;

@@ -1,4 +1,4 @@
-// What the programs share: hexadecimal lines from standard input, and the lines of their records to standard output.
+// A program's run: hexadecimal lines from standard input, their listing to standard output.
 ghost use mathlib.Core.Path.{_≡_};
 ghost use mathlib.Core.Bool.{true, false};
 ghost use Prim.Native.Nat.{_+_, _<_, _≤_};

@@ -1,4 +1,4 @@
--- Numbers in digits: their count, and the lowest apart from the others.
+-- Numbers in digits: their count, and the lowest apart from the others; a mark after them; and the loop that puts them.
 -- Assumes nothing.
 use mathlib.Core.List.{List, [], _∷_, _++_}
 use mathlib.Core.Path.{_≡_, refl, ap, sym, _∙_}

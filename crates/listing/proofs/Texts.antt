@@ -1,4 +1,4 @@
--- The pieces of the listing's lines: one number with its mark, one byte's digits, and the length of a frame's line.
+-- The pieces of the listing's lines: one number with its mark, one byte's digits, and the lengths of lines.
 -- Assumes nothing.
 use mathlib.Core.Bool.{cond}
 use mathlib.Core.List.{List, [], _∷_, _++_}

@@ -1,4 +1,4 @@
--- The texts of numbers in a row, put into a block one by one.
+-- The texts of numbers in a row, put into a block one by one; and the state's text, which fits a block of 65,536 bytes.
 -- Assumes nothing.
 use mathlib.Core.Bool.{cond}
 use mathlib.Core.List.{List, [], _∷_, _++_}

@@ -1,1 +1,1 @@
-// The three demands of document 01 as promises: one file of statements each, proved by citing the proofs. Nothing here runs.
+// The three demands of document 01 and the library for hosts as promises: one file of statements each, proved by citing the proofs. Nothing here runs.

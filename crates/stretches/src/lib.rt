@@ -1,4 +1,4 @@
-// Several clock cycles of the command line at once, as the taking loop walks them: a loop for the two phases that most cycles are spent in.
+// Several clock cycles of the command line at once, as the taking loop walks them: a loop each for hunting and for a body; in any other phase one cycle.
 ghost use mathlib.Core.Path.{_≡_};
 ghost use Prim.Native.Nat.{_*_, _-_, _<_, _≤_};
 ghost use lib.ListN.{length};

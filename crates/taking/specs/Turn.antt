@@ -1,4 +1,4 @@
--- One cycle of the whole decoder: the recogniser hears the bit, the model acts, the tray takes a frame bit.
+-- One cycle of the whole decoder: the recogniser hears the bit, the controller acts, the tray takes a frame bit.
 -- Assumes nothing.
 use mathlib.Core.List.{List}
 use Prim.Native.Nat.{ℕ, _+_}

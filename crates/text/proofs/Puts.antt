@@ -1,15 +1,13 @@
--- Texts put into a block piece by piece: what is left of a text, put at the present place, gives what the whole text gives.
+-- Texts put into a block piece by piece: what is left of a text, put at the present place, gives what the whole text gives; and what then stands ahead of the next place.
 -- Assumes nothing.
 use mathlib.Core.List.{List, [], _∷_, _++_}
 use mathlib.Core.Path.{_≡_, refl, ap, _∙_}
 use Prim.Native.Nat.{ℕ, suc, _+_, _≤_, _<_}
 use native.Mathlib.Nat.{add-zero, add-assoc}
 use native.Mathlib.Omega.{arith}
-use lib.Dec.{leb}
 use lib.ListN.{length, set, take, drop, length-append}
 use lib.Seq.{sets, length-sets, set-comm, sets-eq, take-at, length-take-le}
-use borrow.Author.Tests.{le-leb, lt-leb, leb-true}
-use Rattle.bits.proofs.Truth.{choice}
+use borrow.Author.Tests.{le-leb, lt-leb}
 use Rattle.text.specs.Block.{Block, block, putAll, putOf}
 
 pub sets-append : (xs ys out : List ℕ) (at : ℕ) → sets out at (xs ++ ys) ≡ sets (sets out at xs) (at + length xs) ys
@@ -44,20 +42,6 @@ module _ (out : List ℕ) (at : ℕ) (text : List ℕ) where
   pub put-over : length out < at + length text → putOf out at text ≡ block out at
   unfolding putOf
   put-over h = simp (lt-leb (at + length text) (length out) h)
-
--- What a program that puts lines into a block goes by: the block keeps its length, and the next place stays within it.
-module _ (out text out′ : List ℕ) (at next : ℕ) (e : block out′ next ≡ putOf out at text) where
-  pub put-same : length out′ ≡ length out
-  unfolding putOf
-  put-same =
-      ap (λ (b : Block). length (b .bytes)) e
-      ∙ choice (λ (b : Block). length (b .bytes) ≡ length out) (leb (at + length text) (length out)) (λ t. length-sets out at text) (λ f. refl)
-
-  pub put-next : at ≤ length out → next ≤ length out
-  unfolding putOf
-  put-next h =
-      rw (ap (λ (b : Block). b .next) e)
-      (choice (λ (b : Block). b .next ≤ length out) (leb (at + length text) (length out)) (λ t. leb-true (at + length text) (length out) t) (λ f. h))
 
 pub record Left (out₀ : List ℕ) (at : ℕ) (whole out : List ℕ) (place : ℕ) (rest : List ℕ) : Type 0 where
   pub same : length out ≡ length out₀
@@ -98,7 +82,7 @@ put-take out text out′ at next e h =
     ∙ rw (sets-eq text out at h)
     (take-at (take at out ++ text) (drop (at + length text) out) (at + length text) long)
 
--- the block keeps its length, and the next place stays within it
+-- the next place stays within the block
 module _ (out text out′ : List ℕ) (at next : ℕ) (e : block out′ next ≡ putAll out at text) (h : at + length text ≤ length out) where
   pub put-low : next ≤ length out′
   put-low =

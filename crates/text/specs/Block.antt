@@ -1,4 +1,4 @@
--- A block of output, into which lines are put one after another.
+-- A block of bytes, into which texts are put one after another.
 -- Assumes nothing.
 use mathlib.Core.Bool.{cond}
 use mathlib.Core.List.{List}

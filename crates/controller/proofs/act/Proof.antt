@@ -1,4 +1,4 @@
--- `Model::act` does what `actOf` says: by the event, what the method for it ensures. A `Fast` or a frame that fits has a kind within a byte.
+-- `act` does what `actOf` says: by the event, what the function for it ensures. A `Fast` or a frame that fits has a kind within a byte.
 -- Assumes nothing.
 use borrow.Author.Tests.{ltb-true}
 use borrow.Author.Needs.{needs}

@@ -1,4 +1,4 @@
--- `Model::fast` answers `fastOf`, by RunMode and the body.
+-- `fast` answers `fastOf`, by RunMode and the body.
 -- Assumes nothing.
 use borrow.Author.Tests.{eq-eqb, ne-eqb, not-true, not-false}
 use borrow.Author.Needs.{needs}

@@ -1,4 +1,4 @@
--- `Model::frame` answers `frameOf`: its flags and value are those of the helpers.
+-- `frame` answers `frameOf`: its flags and value are those of the helpers.
 -- Assumes nothing.
 use borrow.Author.Needs.{needs}
 use Rattle.controller.proofs.frame.Statement.{statement}

@@ -1,4 +1,4 @@
--- `Model::lv1` answers `lv1Of`, in RunMode and out of it; at most three flags are added, so they fit.
+-- `lv1` answers `lv1Of`, in RunMode and out of it; at most three flags are added, so they fit.
 -- Assumes nothing.
 use native.Mathlib.Nat.{zero-add, add-zero}
 use borrow.Author.Tests.{not-true, not-false}

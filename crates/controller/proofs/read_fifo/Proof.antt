@@ -1,4 +1,4 @@
--- `Model::read_fifo` answers `readFifoOf`.
+-- `read_fifo` answers `readFifoOf`.
 -- Assumes nothing.
 use borrow.Author.Needs.{needs}
 use Rattle.controller.proofs.read_fifo.Statement.{statement}

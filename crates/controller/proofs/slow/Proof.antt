@@ -1,4 +1,4 @@
--- `Model::slow` does what `slowOf` says, by Field 3.
+-- `slow` does what `slowOf` says, by Field 3.
 -- Assumes nothing.
 use borrow.Author.Tests.{ne-eqb}
 use borrow.Author.Needs.{needs}

@@ -1,4 +1,4 @@
--- `Model::write_fifo` does what `writeFifoOf` says, by what `write_all` ensures.
+-- `write_fifo` does what `writeFifoOf` says, by what `write_all` ensures.
 -- Assumes nothing.
 use borrow.Author.Needs.{needs}
 use Rattle.controller.proofs.Wrote.{wrote}

@@ -1,4 +1,4 @@
--- `Model::write_register` answers `writeRegisterOf`; an address that exists is below 16.
+-- `write_register` answers `writeRegisterOf`; an address that exists is below 16.
 -- Assumes nothing.
 use mathlib.Core.Path.{sym, _∙_}
 use borrow.Author.Tests.{not-true, not-false}

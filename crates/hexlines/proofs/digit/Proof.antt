@@ -1,4 +1,4 @@
--- `listing::digit` meets its contract: a digit's character lies in one of two ranges.
+-- `digit` meets its contract: a digit's character lies in one of two ranges.
 -- Assumes nothing.
 use native.Mathlib.Omega.{arith}
 use borrow.Author.Needs.{needs}

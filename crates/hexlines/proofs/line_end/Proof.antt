@@ -1,4 +1,4 @@
--- `listing::line_end` meets its contract: from each place passed, the characters ahead of the line feed end at the same place.
+-- `line_end` meets its contract: from each place passed, the characters ahead of the line feed end at the same place.
 -- Assumes nothing.
 use mathlib.Core.Path.{_≡_, refl}
 use Prim.Native.Nat.{_+_, _-_, _≤_}

@@ -1,4 +1,4 @@
--- `listing::read_line` meets its contract: what was seen of the whole line says what the line says, and its bytes are copied.
+-- `read_line` meets its contract: what was seen of the whole line says what the line says, and its bytes are copied.
 -- Assumes nothing.
 use mathlib.Core.List.{List}
 use mathlib.Core.Path.{_≡_, sym, ap, _∙_}

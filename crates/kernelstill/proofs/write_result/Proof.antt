@@ -1,4 +1,4 @@
--- `write-result` writes three words over three.
+-- `write_result` writes three words over three.
 -- Assumes nothing.
 use Rattle.image.proofs.Puts.{covered}
 use Rattle.kernelstill.specs.Take.{resultOf}

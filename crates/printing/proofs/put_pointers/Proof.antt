@@ -1,4 +1,4 @@
--- `lister::put_pointers` meets its contract: the pointers that are left, put at the present place, give what all 16 give.
+-- `put_pointers` meets its contract: the pointers that are left, put at the present place, give what all 16 give.
 -- Assumes nothing.
 use Prim.Native.Nat.{_-_, _≤_}
 use native.Mathlib.Omega.{arith}

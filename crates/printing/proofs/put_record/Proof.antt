@@ -1,4 +1,4 @@
--- `lister::put_record` meets its contract: the record's line, and the frame's where there is one.
+-- `put_record` meets its contract: the record's line, and the frame's where there is one.
 -- Assumes nothing.
 use mathlib.Core.Bool.{Bool, true, false, _&&_}
 use mathlib.Core.Path.{_≡_, ap, sym, _∙_}

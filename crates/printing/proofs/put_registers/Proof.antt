@@ -1,4 +1,4 @@
--- `lister::put_registers` meets its contract: the registers that are left, put at the present place, give what all 16 give.
+-- `put_registers` meets its contract: the registers that are left, put at the present place, give what all 16 give.
 -- Assumes nothing.
 use Prim.Native.Nat.{_-_, _≤_}
 use native.Mathlib.Omega.{arith}

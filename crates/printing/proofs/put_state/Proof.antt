@@ -1,4 +1,4 @@
--- `lister::put_state` meets its contract: its six pieces one after the other.
+-- `put_state` meets its contract: its six pieces one after the other.
 -- Assumes nothing.
 use borrow.Author.Needs.{needs}
 use Rattle.printing.proofs.States.{registers-room, pointers-room, words-room, state-put}

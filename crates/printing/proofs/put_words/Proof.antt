@@ -1,4 +1,4 @@
--- `lister::put_words` meets its contract: the words that are left, put at the present place, give what all of them give.
+-- `put_words` meets its contract: the words that are left, put at the present place, give what all of them give.
 -- Assumes nothing.
 use Prim.Native.Nat.{_-_, _≤_}
 use native.Mathlib.Omega.{arith}

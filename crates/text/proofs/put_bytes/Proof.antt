@@ -1,4 +1,4 @@
--- `listing::put_bytes` meets its contract: the bytes that are left, put at the present place, give what all of them give.
+-- `put_bytes` meets its contract: the bytes that are left, put at the present place, give what all of them give.
 -- Assumes nothing.
 use mathlib.Core.List.{[], _∷_}
 use mathlib.Core.Path.{refl}

@@ -1,4 +1,4 @@
--- `listing::Seen::answer` meets its contract: a wrong character decides, and then the count of digits.
+-- `Seen::answer` meets its contract: a wrong character decides, and then the count of digits.
 -- Assumes nothing.
 use Rattle.hexlines.specs.Lines.{answerOf}
 use Rattle.hexlines.proofs.Seen.answer.Statement.{statement}

@@ -1,4 +1,4 @@
--- `listing::Seen::feed` meets its contract: the characters ahead of the next line feed are those up to the place that `line_end` finds.
+-- `Seen::feed` meets its contract: the characters ahead of the next line feed are those up to the place that `line_end` finds.
 -- Assumes nothing.
 use native.Mathlib.Nat.{add-zero}
 use native.Mathlib.Omega.{arith}

@@ -1,4 +1,4 @@
--- `listing::Seen::with_all` meets its contract, by a turn's three cases: a wrong character, one digit too many, one digit more.
+-- `Seen::with_all` meets its contract, by a turn's three cases: a wrong character, one digit too many, one digit more.
 -- Assumes nothing.
 use mathlib.Core.Bool.{true, false}
 use mathlib.Core.Path.{_≡_, sym, _∙_}
