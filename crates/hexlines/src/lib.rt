@@ -45,8 +45,6 @@ pub struct Fed {
     pub ended: bool,
 }
 
-const LINE_FEED: u8 = b'\n';
-
 // The most digits of a line.
 const DIGITS: usize = 64;
 
@@ -75,7 +73,7 @@ fn line_end(block: &[u8], at: usize) -> usize
 {
     let mut end = at;
     while end < block.len() {
-        if block[end] == LINE_FEED {
+        if block[end] == text::LINE_FEED {
             return end;
         }
         end += 1;

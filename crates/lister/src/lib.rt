@@ -35,8 +35,6 @@ struct Lister {
     over: bool,
 }
 
-const LINE_FEED: u8 = b'\n';
-
 // The words of a taking call's list: 16 records.
 const LIST: usize = 32;
 
@@ -200,7 +198,7 @@ impl Lister {
             return next;
         }
         let seen = self.seen;
-        input[0] = LINE_FEED;
+        input[0] = text::LINE_FEED;
         next.length = 1;
         next.ended = true;
         next.over = seen.is_empty();

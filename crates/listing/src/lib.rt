@@ -11,8 +11,6 @@ ghost use Rattle.listing.specs.Digits.{characterOf, charactersOf};
 ghost use Rattle.listing.specs.Records.{numbersLine, lineOf, numbersSize, recordLine, refusedLine, byteDigits, frameLine};
 ghost use Rattle.listing.specs.State.{registerLine, l1idLine, baseLine, runmodeLine, pointersLine, wordLine};
 
-const LINE_FEED: u8 = b'\n';
-
 const SPACE: u8 = b' ';
 
 fn character(digit: u8) -> u8
@@ -49,7 +47,7 @@ fn put_digits(out: &mut [u8], at: usize, number: u64, width: usize)
 fn mark(last: bool) -> u8
     ensures { λ r. ⌜ r ≡ cond last 10 32 ⌝ }
 {
-    if last { LINE_FEED } else { SPACE }
+    if last { text::LINE_FEED } else { SPACE }
 }
 
 // A number in so many digits, and its mark, at a place of a buffer; the answer is the place after them.
@@ -146,7 +144,7 @@ pub fn frame_line(out: &mut [u8], at: usize, bytes: &[u8]) -> usize
     }
     out[at] = b'>';
     let end = put_byte_digits(out, at + 1, bytes);
-    out[end] = LINE_FEED;
+    out[end] = text::LINE_FEED;
     end + 1
 }
 

@@ -1,4 +1,5 @@
-// What the controller holds: the register plan, the registers, the FIFOs' pointers and words, counters, warnings and RunMode; how they are read, what a write stores, and what a sound state has of them.
+// What the controller holds: the register plan, the registers, the FIFOs' pointers and words, counters, warnings and RunMode;
+// how they are read, what a write stores, and what a sound state has of them.
 ghost use mathlib.Core.Path.{_≡_};
 ghost use mathlib.Core.Bool.{cond};
 ghost use Prim.Native.Nat.{_<_, _≤_};
