@@ -1,6 +1,6 @@
--- Every event that the recogniser asks for fits, as `act` requires.
+-- Every request of the recogniser fits, as `act` requires.
 -- Assumes nothing.
-use mathlib.Core.Bool.{Bool, true, false}
+use mathlib.Core.Bool.{true}
 use mathlib.Core.Path.{_≡_, refl}
 use Prim.Native.Nat.{ℕ}
 use native.Mathlib.Omega.{arith}
@@ -11,32 +11,25 @@ use Rattle.recogniser.specs.declared.Phase.{Phase}
 use Rattle.recogniser.specs.declared.Phase.the-variants.{Hunt, Body, Field3, Field4, Field5}
 use Rattle.recogniser.specs.declared.Meaning.{Meaning}
 use Rattle.recogniser.specs.declared.Meaning.the-variants.{Quiet, Trigger, Header}
-use Rattle.recogniser.specs.declared.Event.{Event}
+use Rattle.recogniser.specs.declared.Request.{Request}
 use Rattle.recogniser.specs.declared.Recogniser.{Recogniser}
 use Rattle.recogniser.specs.declared.Heard.{Heard}
 use Rattle.recogniser.specs.Parts.{shifted}
 use Rattle.recogniser.specs.Hunting.{meaningOf, huntBy, isFast}
 use Rattle.recogniser.specs.Fields.{isSlow, isFrame, lengthOf, endsOf}
-use Rattle.recogniser.specs.Groups.{storesOf, frameEventOf}
 use Rattle.recogniser.specs.Step.{stepBy, stepOf}
-use Rattle.controller.specs.Events.{eventFits}
+use Rattle.controller.specs.Requests.{requestFits}
 
-abbrev Fits : Event → Type 0
-Fits e = eventFits e ≡ true
+abbrev Fits : Request → Type 0
+Fits e = requestFits e ≡ true
 
 abbrev HeardFits : Heard → Type 0
-HeardFits h = Fits (h .event)
+HeardFits h = Fits (h .event .request)
 
 frame-low : (command : ℕ) → isFrame command ≡ true → ltb command 16 ≡ true
 frame-low command e =
     let p = leb-true command 6 (both (leb 4 command) (leb command 6) e .1) in
     lt-ltb command 16 (omega arith)
-
-frame-fits : (r : Recogniser) (bit : ℕ) (ends : Bool) → isFrame (r .command) ≡ true → Fits (frameEventOf r bit ends)
-frame-fits r bit ends e =
-    choice Fits (storesOf (r .command) (r .count))
-    (λ _. choice Fits ends (λ _. frame-low (r .command) e) (λ _. refl))
-    (λ _. choice Fits ends (λ _. frame-low (r .command) e) (λ _. refl))
 
 hunt-fits : (w : ℕ) (meaning : Meaning) → HeardFits (huntBy w meaning)
 hunt-fits w Quiet = refl
@@ -58,9 +51,9 @@ phase-fits Field4 r bit cnt =
     (λ _. choice Fits (isSlow (r .command)) (λ _. refl) (λ _. refl))))
 phase-fits Field5 r bit cnt =
     choice HeardFits (isFrame (r .command))
-    (λ e. choice HeardFits (endsOf r cnt) (λ _. frame-fits r bit true e) (λ _. frame-fits r bit false e))
+    (λ e. choice HeardFits (endsOf r cnt) (λ _. frame-low (r .command) e) (λ _. refl))
     (λ _. choice HeardFits (endsOf r cnt) (λ _. choice Fits (isSlow (r .command)) (λ _. refl) (λ _. refl)) (λ _. refl))
 
-pub heard-fits : (r : Recogniser) (bit cnt : ℕ) → eventFits (stepOf r bit cnt .event) ≡ true
+pub heard-fits : (r : Recogniser) (bit cnt : ℕ) → requestFits (stepOf r bit cnt .event .request) ≡ true
 unfolding stepOf
 heard-fits r bit cnt = phase-fits (r .phase) r bit cnt

@@ -1,4 +1,4 @@
--- What an event keeps of the store and the model, as "a sound state stays sound" cites it.
+-- What a request keeps of the store and the model, as "a sound state stays sound" cites it.
 -- Assumes nothing.
 use mathlib.Core.Bool.{Bool, true, false, _||_}
 use mathlib.Core.List.{List, [], _∷_}
@@ -10,8 +10,8 @@ use lib.Dec.{ltb, eqb}
 use lib.ListN.{getD, set, replicate}
 use borrow.Author.Tests.{lt-ltb, eq-eqb}
 use Rattle.bits.proofs.Truth.{both, choice, clash, or-left, or-right}
-use Rattle.recogniser.specs.declared.Event.{Event}
-use Rattle.recogniser.specs.declared.Event.the-variants as event
+use Rattle.recogniser.specs.declared.Request.{Request}
+use Rattle.recogniser.specs.declared.Request.the-variants as request
 use Rattle.registers.specs.declared.Plan.{Plan}
 use Rattle.registers.specs.declared.Model.{Model}
 use Rattle.registers.specs.Plan.{existsAt}
@@ -20,11 +20,11 @@ use Rattle.registers.specs.Fifos.{movedOn}
 use Rattle.registers.specs.Sound.{everyFrom, fitsAt, pointersFit, zeroAt, missingZero}
 use Rattle.controller.specs.declared.Acted.{Acted}
 use Rattle.controller.specs.Commands.{actOf}
-use Rattle.controller.specs.Events.{changesRegisters, changesRunning}
+use Rattle.controller.specs.Requests.{changesRegisters, changesRunning}
 use Rattle.controller.proofs.Cases.{write-keeps, slow-cases, act-keeps}
 
--- The model after an event.
-abbrev pub after : Plan → Model → Event → ℕ → List ℕ → Model
+-- The model after an request.
+abbrev pub after : Plan → Model → Request → ℕ → List ℕ → Model
 after plan m e time store = actOf plan m e time store .acted .model
 
 -- A test that is weaker at each number still passes.
@@ -78,63 +78,45 @@ pub zeros-missing : (plan : Plan) (m : Model) → m .registers ≡ zeros16 → m
 unfolding missingZero
 zeros-missing plan m e = rw e (zeros-zero plan)
 
--- What holds of the model before an event holds of it after.
-module _ (plan : Plan) (m : Model) (e : Event) (time : ℕ) (store : List ℕ) where
+-- What holds of the model before a request holds of it after.
+module _ (plan : Plan) (m : Model) (e : Request) (time : ℕ) (store : List ℕ) where
   pub writes-fit : pointersFit (m .writes) ≡ true → pointersFit (after plan m e time store .writes) ≡ true
   writes-fit h =
-      act-keeps (λ r w d b. pointersFit w ≡ true) plan m e time store h h zeros-fit (λ address value _ _. h)
+      act-keeps (λ r w d b n. pointersFit w ≡ true) plan m e time store h h zeros-fit (λ address value _ _. h)
       (λ feen word. write-keeps (λ f. pointersFit (f .writes) ≡ true) (λ n word f. moved-fits (f .writes) n) 16 0 feen word _ h)
-      (λ n. h) (λ _. zeros-fit)
+      (λ n. h) (λ _. zeros-fit) (λ _ _. h)
 
   pub reads-fit : pointersFit (m .reads) ≡ true → pointersFit (after plan m e time store .reads) ≡ true
   reads-fit h =
-      act-keeps (λ r w d b. pointersFit d ≡ true) plan m e time store h h zeros-fit (λ address value _ _. h) (λ feen word. h)
-      (λ n. moved-fits (m .reads) n h) (λ _. zeros-fit)
+      act-keeps (λ r w d b n. pointersFit d ≡ true) plan m e time store h h zeros-fit (λ address value _ _. h) (λ feen word. h)
+      (λ n. moved-fits (m .reads) n h) (λ _. zeros-fit) (λ _ _. h)
 
   pub missing-zero : missingZero plan m ≡ true → missingZero plan (after plan m e time store) ≡ true
   unfolding missingZero
   missing-zero h =
-      act-keeps (λ r w d b. ZeroIn plan r) plan m e time store h h h
+      act-keeps (λ r w d b n. ZeroIn plan r) plan m e time store h h h
       (λ address value there _. written-zero plan (m .registers) address _ there h)
-      (λ feen word. h) (λ n. h) (λ _. zeros-zero plan)
+      (λ feen word. h) (λ n. h) (λ _. zeros-zero plan) (λ _ _. h)
 
   pub base-low : m .base ≤ time → after plan m e time store .base ≤ time
   base-low h =
-      act-keeps (λ r w d b. b ≤ time) plan m e time store h (le-refl time) h (λ address value _ _. h) (λ feen word. h)
-      (λ n. h) (λ _. le-refl time)
+      act-keeps (λ r w d b n. b ≤ time) plan m e time store h (le-refl time) h (λ address value _ _. h) (λ feen word. h)
+      (λ n. h) (λ _. le-refl time) (λ _ _. h)
 
   pub registers-kept : changesRegisters e ≡ false → after plan m e time store .registers ≡ m .registers
   registers-kept h =
-      act-keeps (λ r w d b. r ≡ m .registers) plan m e time store refl refl refl (λ address value _ t. clash t h)
-      (λ feen word. refl) (λ n. refl) (λ t. clash t h)
+      act-keeps (λ r w d b n. r ≡ m .registers) plan m e time store refl refl refl (λ address value _ t. clash t h)
+      (λ feen word. refl) (λ n. refl) (λ t. clash t h) (λ _ _. refl)
 
   pub cnt-kept : changesRegisters e ≡ false → cntOf plan (after plan m e time store) ≡ cntOf plan m
   cnt-kept h = ap (λ l. getD l (plan .cnt) 0) (registers-kept h)
 
--- RunMode: ended by SlowBegins, started by EnDataTake, else as it was.
-pub begins-stops : (plan : Plan) (m : Model) (time : ℕ) (store : List ℕ) → after plan m event.SlowBegins time store .running ≡ false
+  -- RunMode: ended by LeaveRunMode, started by EnDataTake, else as it was.
+  pub running-kept : changesRunning e ≡ false → after plan m e time store .running ≡ m .running
+  running-kept h =
+      act-keeps (λ r w d b n. n ≡ m .running) plan m e time store refl refl refl (λ address value _ _. refl) (λ feen word. refl)
+      (λ n. refl) (λ _. refl) (λ b t. clash t h)
+
+pub begins-stops : (plan : Plan) (m : Model) (time : ℕ) (store : List ℕ) → after plan m request.LeaveRunMode time store .running ≡ false
 unfolding actOf
 begins-stops plan m time store = refl
-
-pub running-kept : (plan : Plan) (m : Model) (e : Event) (time : ℕ) (store : List ℕ)
-    → changesRunning e ≡ false → after plan m e time store .running ≡ m .running
-unfolding actOf
-running-kept plan m event.Nothing time store h = refl
-running-kept plan m (event.Lv1 flip) time store h = refl
-running-kept plan m (event.Fast body) time store h =
-    let P : Model → Type 0 = λ n. n .running ≡ m .running in
-    choice P (m .running)
-    (λ _. choice P (eqb body 0b0001) (λ _. refl) (λ _. choice P (eqb body 0b0010) (λ _. refl) (λ _. refl)))
-    (λ _. refl)
-running-kept plan m (event.BadFast body) time store h = refl
-running-kept plan m event.SlowBegins time store h = clash refl h
-running-kept plan m (event.Slow command address value) time store h =
-    let P : Acted → Type 0 = λ a. a .model .running ≡ m .running in
-    slow-cases (λ f. P (f .acted)) plan m command address value time store
-    (λ _. choice P (existsAt plan address) (λ _. refl) (λ _. refl))
-    (choice P (existsAt plan address) (λ _. refl) (λ _. refl))
-    refl refl (λ t. clash t h) (λ _. refl) refl
-running-kept plan m (event.BadSlow command) time store h = refl
-running-kept plan m (event.FrameBit place bit) time store h = refl
-running-kept plan m (event.FrameEnd command unsteady) time store h = refl
-running-kept plan m (event.FrameEndBit command unsteady place bit) time store h = refl

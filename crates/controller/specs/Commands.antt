@@ -6,8 +6,8 @@ use Prim.Native.Nat.{ℕ, _+_, _*_, _-_, _/_, _%_, _^_}
 use lib.Dec.{eqb}
 use lib.ListN.{getD, set}
 use Rattle.recogniser.specs.Fields.{dataBits, controlBits, receiverBits}
-use Rattle.recogniser.specs.declared.Event.{Event}
-use Rattle.recogniser.specs.declared.Event.the-variants as event
+use Rattle.recogniser.specs.declared.Request.{Request}
+use Rattle.recogniser.specs.declared.Request.the-variants as request
 use Rattle.registers.specs.declared.Plan.{Plan}
 use Rattle.registers.specs.declared.Model.{Model}
 use Rattle.registers.specs.Plan.{existsAt}
@@ -135,15 +135,13 @@ slowOf plan m command address value time store =
     (cond (eqb command 9) (effect (resetOf m time) store)
     (effect (resetFrontEndsOf m value time) store))))))
 
--- What an event does in its cycle.
-unfoldable pub actOf : Plan → Model → Event → ℕ → List ℕ → Effect
-actOf plan m event.Nothing time store = effect (acted m Nothing) store
-actOf plan m (event.Lv1 flip) time store = effect (lv1Of plan m flip time) store
-actOf plan m (event.Fast body) time store = effect (fastOf m body time) store
-actOf plan m (event.BadFast body) time store = effect (badFastOf m body time) store
-actOf plan m event.SlowBegins time store = effect (leaveOf m) store
-actOf plan m (event.Slow command address value) time store = slowOf plan m command address value time store
-actOf plan m (event.BadSlow command) time store = effect (badSlowOf m command time) store
-actOf plan m (event.FrameBit place bit) time store = effect (acted m Nothing) store
-actOf plan m (event.FrameEnd command unsteady) time store = effect (frameOf plan m command unsteady time) store
-actOf plan m (event.FrameEndBit command unsteady place bit) time store = effect (frameOf plan m command unsteady time) store
+-- What a request does in its cycle.
+unfoldable pub actOf : Plan → Model → Request → ℕ → List ℕ → Effect
+actOf plan m request.Nothing time store = effect (acted m Nothing) store
+actOf plan m (request.Lv1 flip) time store = effect (lv1Of plan m flip time) store
+actOf plan m (request.Fast body) time store = effect (fastOf m body time) store
+actOf plan m (request.BadFast body) time store = effect (badFastOf m body time) store
+actOf plan m request.LeaveRunMode time store = effect (leaveOf m) store
+actOf plan m (request.Slow command address value) time store = slowOf plan m command address value time store
+actOf plan m (request.BadSlow command) time store = effect (badSlowOf m command time) store
+actOf plan m (request.Frame command unsteady) time store = effect (frameOf plan m command unsteady time) store

@@ -1,12 +1,12 @@
-// What each event does to the registers, FIFOs, counters, warnings and RunMode, and its record.
+// What each request does to the registers, FIFOs, counters, warnings and RunMode, and its record.
 ghost use mathlib.Core.Path.{_≡_};
 ghost use mathlib.Core.Bool.{true};
 ghost use Prim.Native.Nat.{_<_, _^_};
 ghost use lib.ListN.{length};
 ghost use Rattle.controller.specs.Records.{kindOf, recordOf, isFrameHead, frameBitsOf};
 ghost use Rattle.controller.specs.Commands.{acted, bunchOf, lv1Of, fastOf, badFastOf, leaveOf, writeRegisterOf, readRegisterOf, writeFifoOf, readFifoOf, enableOf, resetOf, resetFrontEndsOf, badSlowOf, frameValueOf, frameOf, slowOf, actOf};
-ghost use Rattle.controller.specs.Events.{eventFits};
-use recogniser::Event;
+ghost use Rattle.controller.specs.Requests.{requestFits};
+use recogniser::Request;
 use registers::Model;
 use registers::Plan;
 
@@ -332,30 +332,23 @@ fn slow(
     reset_front_ends(model, value, time)
 }
 
-// What an event does in its cycle. A body and Field 3 have four bits, which keeps a record's kind within its byte.
-pub fn act(model: Model, plan: Plan, event: Event, time: u64, store: &mut [u32]) -> Acted
-    requires { ⌜ (time < 2 ^ 48) × (length (now store) ≡ 2048) × (eventFits event ≡ true) ⌝ }
-    ensures { λ r. ⌜ (record { acted = r; store = now (store .exit) }) ≡ actOf plan model event time (now (store .entry)) ⌝ }
+// What a request does in its cycle. A body and Field 3 have four bits, which keeps a record's kind within its byte.
+pub fn act(model: Model, plan: Plan, request: Request, time: u64, store: &mut [u32]) -> Acted
+    requires { ⌜ (time < 2 ^ 48) × (length (now store) ≡ 2048) × (requestFits request ≡ true) ⌝ }
+    ensures { λ r. ⌜ (record { acted = r; store = now (store .exit) }) ≡ actOf plan model request time (now (store .entry)) ⌝ }
 {
-    match event {
-        Event::Nothing => silent(model),
-        Event::Lv1 { flip } => lv1(model, plan, flip, time),
-        Event::Fast { body } => fast(model, body, time),
-        Event::BadFast { body } => bad_fast(model, body, time),
-        Event::SlowBegins => leave(model),
-        Event::Slow {
+    match request {
+        Request::Nothing => silent(model),
+        Request::Lv1 { flip } => lv1(model, plan, flip, time),
+        Request::Fast { body } => fast(model, body, time),
+        Request::BadFast { body } => bad_fast(model, body, time),
+        Request::LeaveRunMode => leave(model),
+        Request::Slow {
             command,
             address,
             value,
         } => slow(model, plan, command, address, value, time, store),
-        Event::BadSlow { command } => bad_slow(model, command, time),
-        Event::FrameBit { place: _, bit: _ } => silent(model),
-        Event::FrameEnd { command, unsteady } => frame(model, plan, command, unsteady, time),
-        Event::FrameEndBit {
-            command,
-            unsteady,
-            place: _,
-            bit: _,
-        } => frame(model, plan, command, unsteady, time),
+        Request::BadSlow { command } => bad_slow(model, command, time),
+        Request::Frame { command, unsteady } => frame(model, plan, command, unsteady, time),
     }
 }

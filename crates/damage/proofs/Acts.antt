@@ -1,4 +1,4 @@
--- What an event of a clean or damaged stream does to the model in RunMode, and the phases that such a stream keeps to.
+-- What a request of a clean or damaged stream does to the model in RunMode, and the phases that such a stream keeps to.
 -- Assumes nothing.
 use mathlib.Core.Path.{_≡_, _∙_, refl, ap}
 use mathlib.Core.Bool.{Bool, true, false, cond, not}
@@ -10,11 +10,11 @@ use Rattle.recogniser.specs.declared.Phase.{Phase}
 use Rattle.recogniser.specs.declared.Phase.the-variants.{Hunt, Body, Field3, Field4, Field5}
 use Rattle.recogniser.specs.declared.Meaning.{Meaning}
 use Rattle.recogniser.specs.declared.Meaning.the-variants.{Quiet, Trigger, Header}
-use Rattle.recogniser.specs.declared.Event.{Event}
-use Rattle.recogniser.specs.declared.Event.the-variants.{Nothing, Lv1, Fast, BadFast, SlowBegins, Slow, BadSlow, FrameBit, FrameEnd, FrameEndBit}
+use Rattle.recogniser.specs.declared.Request.{Request}
+use Rattle.recogniser.specs.declared.Request.the-variants.{Nothing, LeaveRunMode, Lv1, Fast, BadFast, Slow, BadSlow, Frame}
 use Rattle.recogniser.specs.declared.Recogniser.{Recogniser}
 use Rattle.recogniser.specs.declared.Heard.{Heard}
-use Rattle.recogniser.specs.Parts.{shifted, startOf, idle, heard, gatheredOf}
+use Rattle.recogniser.specs.Parts.{shifted, startOf, idle, asked, gatheredOf}
 use Rattle.recogniser.specs.Hunting.{meaningOf, huntBy, isFast}
 use Rattle.recogniser.specs.Step.{stepBy, stepOf}
 use Rattle.registers.specs.declared.Plan.{Plan}
@@ -26,7 +26,7 @@ use Rattle.controller.specs.Commands.{actOf, fastEffect}
 use Rattle.taking.specs.Entries.{entryWords}
 use Rattle.damage.specs.Records.{Counters, counters, entriesOf, counted}
 
--- The phases outside Slow commands, and the events that lead into none.
+-- The phases outside Slow commands, and the requests that lead into none.
 abbrev pub quick : Phase → Bool
 quick Hunt = true
 quick Body = true
@@ -34,17 +34,15 @@ quick Field3 = false
 quick Field4 = false
 quick Field5 = false
 
-abbrev pub calm : Event → Bool
+abbrev pub calm : Request → Bool
 calm Nothing = true
 calm (Lv1 flip) = true
 calm (Fast body) = true
 calm (BadFast body) = true
-calm SlowBegins = false
+calm LeaveRunMode = false
 calm (Slow command address value) = false
 calm (BadSlow command) = false
-calm (FrameBit place bit) = false
-calm (FrameEnd command unsteady) = false
-calm (FrameEndBit command unsteady place bit) = false
+calm (Frame command unsteady) = false
 
 -- Outside Slow commands CNT does not matter.
 module _ (r : Recogniser) (bit cnt : ℕ) where
@@ -59,9 +57,9 @@ module _ (r : Recogniser) (bit cnt : ℕ) where
   unfolding stepOf
   step-any-cnt h = any-cnt (r .phase) h
 
--- A calm event leaves the recogniser outside Slow commands.
+-- A calm request leaves the recogniser outside Slow commands.
 abbrev Stays : Heard → Type 0
-Stays h = T (calm (h .event)) → T (quick (h .next .phase))
+Stays h = T (calm (h .event .request)) → T (quick (h .next .phase))
 
 hunt-stays : (w : ℕ) (m : Meaning) → Stays (huntBy w m)
 hunt-stays w Quiet h = tt
@@ -74,8 +72,8 @@ module _ (r : Recogniser) (bit : ℕ) (now : T (quick (r .phase))) where
   phase-stays Body q =
       let body : ℕ = shifted 4 (r .shift) bit in
       cond-case Stays (ltb (r .count) 3) {x = gatheredOf r body} (λ _ h. now)
-      (λ _. cond-case Stays (isFast body) {x = heard idle (Fast body)} (λ _ h. tt)
-      (λ _. cond-case Stays (eqb body 0b1011) {x = heard (startOf Field3 0 0 0) SlowBegins} {y = heard idle (BadFast body)} (λ _ h. absurd h) (λ _ h. tt)))
+      (λ _. cond-case Stays (isFast body) {x = asked idle (Fast body)} (λ _ h. tt)
+      (λ _. cond-case Stays (eqb body 0b1011) {x = asked (startOf Field3 0 0 0) LeaveRunMode} {y = asked idle (BadFast body)} (λ _ h. absurd h) (λ _ h. tt)))
   phase-stays Field3 q = absurd q
   phase-stays Field4 q = absurd q
   phase-stays Field5 q = absurd q
@@ -96,8 +94,8 @@ modelCounters m = counters (m .l1id) (m .base)
 abbrev pub modelSends : Plan → Model → Bool
 modelSends plan m = eqb (registerOf m (plan .csr) / 2 ^ 6 % 2) 0
 
--- What a calm event does in RunMode is what the records' definitions say.
-pub record Does (plan : Plan) (m : Model) (e : Event) (time : ℕ) (store : List ℕ) : Type 0 where
+-- What a calm request does in RunMode is what the records' definitions say.
+pub record Does (plan : Plan) (m : Model) (e : Request) (time : ℕ) (store : List ℕ) : Type 0 where
   pub words : wordsOf (actOf plan m e time store .acted .cycle) ≡ entryWords (entriesOf (modelSends plan m) (modelCounters m) time e)
   pub counts : modelCounters (actOf plan m e time store .acted .model) ≡ counted (modelCounters m) time e
   pub running : actOf plan m e time store .acted .model .running ≡ true
@@ -126,7 +124,7 @@ fast-does m body time =
       registers = refl;
     }))
 
-pub does : (plan : Plan) (m : Model) (e : Event) (time : ℕ) (store : List ℕ) → m .running ≡ true → T (calm e) → Does plan m e time store
+pub does : (plan : Plan) (m : Model) (e : Request) (time : ℕ) (store : List ℕ) → m .running ≡ true → T (calm e) → Does plan m e time store
 unfolding actOf
 does plan m Nothing time store r h = record { words = refl; counts = refl; running = r; registers = refl }
 does plan m (Lv1 flip) time store r h = record { words = rw r; counts = rw r; running = r; registers = refl }
@@ -140,9 +138,7 @@ does plan m (Fast body) time store r h =
       registers = ap (λ b. after b .registers) r ∙ f .registers;
     }
 does plan m (BadFast body) time store r h = record { words = refl; counts = refl; running = r; registers = refl }
-does plan m SlowBegins time store r h = absurd h
+does plan m LeaveRunMode time store r h = absurd h
 does plan m (Slow command address value) time store r h = absurd h
 does plan m (BadSlow command) time store r h = absurd h
-does plan m (FrameBit place bit) time store r h = absurd h
-does plan m (FrameEnd command unsteady) time store r h = absurd h
-does plan m (FrameEndBit command unsteady place bit) time store r h = absurd h
+does plan m (Frame command unsteady) time store r h = absurd h

@@ -7,7 +7,7 @@ use Prim.Native.Nat.{ℕ, _+_, _-_, _%_}
 use native.Mathlib.Omega.{arith}
 use lib.Dec.{ltb, T}
 use Rattle.taking.specs.Entries.{Entry}
-use Rattle.damage.specs.Commands.{Command, lv1, bcr, ecr, cal, sync, eventOf}
+use Rattle.damage.specs.Commands.{Command, lv1, bcr, ecr, cal, sync, requestOf}
 use Rattle.damage.specs.Streams.{Item, itemSize}
 use Rattle.damage.specs.Table.{Instead, itself, damage, affected, bitHit, insteadOf}
 use Rattle.damage.specs.Records.{Counters, entriesOf, counted, lastCycle, itemEntries, itemCounted, cleanEntries, insteadEntries, insteadCounted, damagedEntries}
@@ -26,8 +26,8 @@ Onward sent n is = (c d : Counters) (a b : Bool) → Agree a b c d → SameAfter
 
 -- one command, recorded at cycle m, and what follows it from cycle n on
 alike-one : (sent : Bool) (m n : ℕ) (is : List Item) → Onward sent n is → (c d : Counters) (a b : Bool) → Agree a b c d → (e : Command)
-    → SameAfter a b (entriesOf sent c m (eventOf e) ++ cleanEntries sent (counted c m (eventOf e)) n is)
-    (entriesOf sent d m (eventOf e) ++ cleanEntries sent (counted d m (eventOf e)) n is)
+    → SameAfter a b (entriesOf sent c m (requestOf e) ++ cleanEntries sent (counted c m (requestOf e)) n is)
+    (entriesOf sent d m (requestOf e) ++ cleanEntries sent (counted d m (requestOf e)) n is)
 alike-one sent m n is more c d a b g lv1 = (
   refl,
   refl,

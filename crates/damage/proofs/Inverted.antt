@@ -10,8 +10,8 @@ use lib.Dec.{ltb, leb, T, ltb→lt, nltb→le}
 use lib.ListN.{length, length-append, length-replicate}
 use borrow.Author.Tests.{lt-leb}
 use Rattle.bits.proofs.Truth.{and-right, cond-case}
-use Rattle.recogniser.specs.declared.Event.{Event}
-use Rattle.recogniser.specs.declared.Event.the-variants.{Nothing}
+use Rattle.recogniser.specs.declared.Request.{Request}
+use Rattle.recogniser.specs.declared.Request.the-variants.{Nothing}
 use Rattle.recogniser.specs.declared.Recogniser.{Recogniser}
 use Rattle.recogniser.specs.declared.Phase.the-variants.{Hunt}
 use Rattle.recogniser.specs.Parts.{idle, startOf}
@@ -19,7 +19,7 @@ use Rattle.recogniser.specs.Step.{stepOf}
 use Rattle.damage.specs.Commands.{Command, lv1, bcr, ecr, cal, sync, codeOf, widthOf, isFastCommand}
 use Rattle.damage.specs.Streams.{Item, zeros, zerosBetween, itemBits, itemSize, streamBits, spaced, timed, inverted}
 use Rattle.damage.specs.Table.{Instead, damage, hitsFast, itself, insteadOf}
-use Rattle.damage.specs.Traces.{eventsOf, standsAfter, quiet, spread, itemTrace, cleanTrace, damagedItem, damagedTrace}
+use Rattle.damage.specs.Traces.{requestsOf, standsAfter, quiet, spread, itemTrace, cleanTrace, damagedItem, damagedTrace}
 use Rattle.damage.proofs.Computed.{below, below-at, each-at}
 use Rattle.damage.proofs.Trace.{Shows, chain, onward}
 use Rattle.damage.proofs.Resume.{shownBy, shouldShow, Resumes, Settles, empty-resumes, idling, trailing, late, clean-item, resumed-run}
@@ -43,31 +43,31 @@ inverted-zeros (suc k) (suc n) h = rw suc-sub-suc (ap (λ (l : List ℕ). 0 ∷ 
 quiet-split : (k n : ℕ) → k < n → quiet n ≡ quiet k ++ (Nothing ∷ quiet (n - suc k))
 quiet-split k zero h = absurd (not-suc-le-zero h)
 quiet-split zero (suc n) h = rw (suc-sub-suc, sub-zero n)
-quiet-split (suc k) (suc n) h = rw suc-sub-suc (ap (λ (l : List Event). Nothing ∷ l) (quiet-split k n (le-of-suc-le-suc h)))
+quiet-split (suc k) (suc n) h = rw suc-sub-suc (ap (λ (l : List Request). Nothing ∷ l) (quiet-split k n (le-of-suc-le-suc h)))
 
--- The bits show the events, and leave a recogniser that resumes after the command c.
-pub record Safely (c : Command) (r : Recogniser) (bits : List ℕ) (events : List Event) : Type 0 where
+-- The bits show the requests, and leave a recogniser that resumes after the command c.
+pub record Safely (c : Command) (r : Recogniser) (bits : List ℕ) (requests : List Request) : Type 0 where
   pub end : Recogniser
-  pub shows : Shows r bits events end
+  pub shows : Shows r bits requests end
   pub resumes : Resumes c end
 
-goes-on : {c : Command} {r : Recogniser} {bits : List ℕ} {events : List Event} → Safely c r bits events → (is : List Item) (t : ℕ) → T (spaced c is)
-    → eventsOf r (bits ++ streamBits is t) ≡ events ++ cleanTrace is t
+goes-on : {c : Command} {r : Recogniser} {bits : List ℕ} {requests : List Request} → Safely c r bits requests → (is : List Item) (t : ℕ) → T (spaced c is)
+    → requestsOf r (bits ++ streamBits is t) ≡ requests ++ cleanTrace is t
 goes-on {c} s is t h = onward (s .shows) (streamBits is t) (resumed-run c (s .end) (s .resumes) is t h)
 
 -- a bit of a command: computed for each command and bit
 abbrev hit : Command → ℕ → List ℕ
 hit c k = inverted k (codeOf c)
 
-abbrev hitTrace : Command → ℕ → List Event
+abbrev hitTrace : Command → ℕ → List Request
 hitTrace c k = spread (widthOf c) (damage c (suc k))
 
-hit-shows : (c : Command) → below (widthOf c) (λ k. eventsOf idle (hit c k)) ≡ below (widthOf c) (hitTrace c)
-unfolding stepOf eventsOf standsAfter
-hit-shows = each-at (λ c. below (widthOf c) (λ k. eventsOf idle (hit c k))) (λ c. below (widthOf c) (hitTrace c)) refl
+hit-shows : (c : Command) → below (widthOf c) (λ k. requestsOf idle (hit c k)) ≡ below (widthOf c) (hitTrace c)
+unfolding stepOf requestsOf standsAfter
+hit-shows = each-at (λ c. below (widthOf c) (λ k. requestsOf idle (hit c k))) (λ c. below (widthOf c) (hitTrace c)) refl
 
 hit-resumes : (c : Command) → below (widthOf c) (λ k. shownBy c (standsAfter idle (hit c k))) ≡ below (widthOf c) (λ k. shouldShow c)
-unfolding stepOf eventsOf standsAfter
+unfolding stepOf requestsOf standsAfter
 hit-resumes lv1 = refl
 hit-resumes bcr = refl
 hit-resumes ecr = refl
@@ -77,7 +77,7 @@ hit-resumes sync = refl
 pub in-command : (a : ℕ) (c : Command) (k : ℕ) → k < widthOf c → Safely c idle (zeros a ++ hit c k) (quiet a ++ hitTrace c k)
 in-command a c k h = record {
   end = standsAfter idle (hit c k);
-  shows = chain (idling a) (record { seen = below-at (widthOf c) (λ k. eventsOf idle (hit c k)) (hitTrace c) (hit-shows c) k h; left = refl });
+  shows = chain (idling a) (record { seen = below-at (widthOf c) (λ k. requestsOf idle (hit c k)) (hitTrace c) (hit-shows c) k h; left = refl });
   resumes = below-at (widthOf c) (λ k. shownBy c (standsAfter idle (hit c k))) (λ k. shouldShow c) (hit-resumes c) k h;
 }
 
@@ -103,20 +103,20 @@ one = startOf Hunt 1 0 0
 abbrev near : Command → ℕ → List ℕ
 near c z = zeros z ++ codeOf c
 
-abbrev nearTrace : Command → ℕ → List Event
+abbrev nearTrace : Command → ℕ → List Request
 nearTrace c z = quiet z ++ spread (widthOf c) (zeroDamage c (suc z))
 
-near-shows : (c : Command) → below 5 (λ z. eventsOf one (near c z)) ≡ below 5 (nearTrace c)
-unfolding stepOf eventsOf standsAfter
-near-shows = each-at (λ c. below 5 (λ z. eventsOf one (near c z))) (λ c. below 5 (nearTrace c)) refl
+near-shows : (c : Command) → below 5 (λ z. requestsOf one (near c z)) ≡ below 5 (nearTrace c)
+unfolding stepOf requestsOf standsAfter
+near-shows = each-at (λ c. below 5 (λ z. requestsOf one (near c z))) (λ c. below 5 (nearTrace c)) refl
 
 near-resumes : (c : Command) → below 5 (λ z. shownBy c (standsAfter one (near c z))) ≡ below 5 (λ z. shouldShow c)
-unfolding stepOf eventsOf standsAfter
+unfolding stepOf requestsOf standsAfter
 near-resumes = each-at (λ c. below 5 (λ z. shownBy c (standsAfter one (near c z)))) (λ c. below 5 (λ z. shouldShow c)) refl
 
 -- zeros after that one: nothing is seen, and five of them empty the window
 one-settles : Settles one
-unfolding stepOf eventsOf standsAfter
+unfolding stepOf requestsOf standsAfter
 one-settles = record { few = refl; emptied = refl }
 
 -- three zeros or more ahead hit no Fast
@@ -136,7 +136,7 @@ behind-one c z =
     let g = ltb→lt z 5 h in
     record {
       end = standsAfter one (near c z);
-      shows = record { seen = below-at 5 (λ z. eventsOf one (near c z)) (nearTrace c) (near-shows c) z g; left = refl };
+      shows = record { seen = below-at 5 (λ z. requestsOf one (near c z)) (nearTrace c) (near-shows c) z g; left = refl };
       resumes = below-at 5 (λ z. shownBy c (standsAfter one (near c z))) (λ z. shouldShow c) (near-resumes c) z g;
     })
     (λ h.
@@ -148,7 +148,7 @@ behind-one c z =
     })
 
 one-bit : Shows idle (1 ∷ []) (Nothing ∷ []) one
-unfolding stepOf eventsOf standsAfter
+unfolding stepOf requestsOf standsAfter
 one-bit = record { seen = refl; left = refl }
 
 -- an inverted bit among the zeros of an item, and anywhere in it
@@ -172,11 +172,11 @@ in-item i k h =
     rw (inverted-right k (zeros (i .ahead)) (codeOf (i .command)) (omega arith), z) (in-command (i .ahead) (i .command) (k - i .ahead) (omega arith))))
 
 -- an inverted bit in the zeros at the end
-in-tail : (k t : ℕ) → eventsOf idle (inverted k (zeros t)) ≡ quiet t
-unfolding stepOf eventsOf
+in-tail : (k t : ℕ) → requestsOf idle (inverted k (zeros t)) ≡ quiet t
+unfolding stepOf requestsOf
 in-tail k zero = refl
-in-tail zero (suc t) = ap (λ (l : List Event). Nothing ∷ l) (trailing one one-settles t)
-in-tail (suc k) (suc t) = ap (λ (l : List Event). Nothing ∷ l) (in-tail k t)
+in-tail zero (suc t) = ap (λ (l : List Request). Nothing ∷ l) (trailing one one-settles t)
+in-tail (suc k) (suc t) = ap (λ (l : List Request). Nothing ∷ l) (in-tail k t)
 
 item-length : (i : Item) → length (itemBits i) ≡ itemSize i
 item-length i = simp (length-append, length-replicate)
@@ -186,10 +186,10 @@ spaced-timed c [] h = tt
 spaced-timed c (i ∷ is) h = and-right (leb (zerosBetween c (i .command)) (i .ahead)) _ h
 
 -- anywhere in a clean stream
-pub damaged-run : (is : List Item) (t k : ℕ) → T (timed is) → eventsOf idle (inverted k (streamBits is t)) ≡ damagedTrace is t k
+pub damaged-run : (is : List Item) (t k : ℕ) → T (timed is) → requestsOf idle (inverted k (streamBits is t)) ≡ damagedTrace is t k
 damaged-run [] t k h = in-tail k t
 damaged-run (i ∷ is) t k h =
-    cond-case (λ l. eventsOf idle (inverted k (itemBits i ++ streamBits is t)) ≡ l) (ltb k (itemSize i)) {x = damagedItem i k ++ cleanTrace is t} {y = itemTrace i ++ damagedTrace is t (k - itemSize i)}
+    cond-case (λ l. requestsOf idle (inverted k (itemBits i ++ streamBits is t)) ≡ l) (ltb k (itemSize i)) {x = damagedItem i k ++ cleanTrace is t} {y = itemTrace i ++ damagedTrace is t (k - itemSize i)}
     (λ b.
     let g : k < length (itemBits i) = rw (item-length i) (ltb→lt k (itemSize i) b) in
     rw (inverted-left k (itemBits i) (streamBits is t) g) (goes-on (in-item i k (ltb→lt k (itemSize i) b)) is t h))

@@ -8,7 +8,7 @@ use native.Mathlib.Omega.{arith}
 use lib.Dec.{leb, ltb, T, leb→le, ltb→lt, nltb→le}
 use lib.ListN.{length}
 use Rattle.bits.proofs.Truth.{and-left, and-right, cond-case}
-use Rattle.recogniser.specs.declared.Event.{Event}
+use Rattle.recogniser.specs.declared.Request.{Request}
 use Rattle.taking.specs.Entries.{Entry}
 use Rattle.damage.specs.Commands.{Command, widthOf}
 use Rattle.damage.specs.Streams.{Item, itemSize}
@@ -19,18 +19,18 @@ use Rattle.damage.proofs.Inverted.{zeroDamage, instead-by}
 use Rattle.damage.proofs.Computed.{below, below-at, each-at, by-both}
 
 -- The records of a trace that begins at cycle n, and the counters after it.
-unfoldable pub performed : Bool → Counters → ℕ → List Event → List Entry
+unfoldable pub performed : Bool → Counters → ℕ → List Request → List Entry
 performed sent c n [] = []
 performed sent c n (e ∷ es) = entriesOf sent c n e ++ performed sent (counted c n e) (suc n) es
 
-unfoldable pub counting : Counters → ℕ → List Event → Counters
+unfoldable pub counting : Counters → ℕ → List Request → Counters
 counting c n [] = c
 counting c n (e ∷ es) = counting (counted c n e) (suc n) es
 
 suc-shift : (n m : ℕ) → suc n + m ≡ n + suc m
 suc-shift n m = omega arith
 
-pub performed-append : (sent : Bool) (c : Counters) (n : ℕ) (es fs : List Event)
+pub performed-append : (sent : Bool) (c : Counters) (n : ℕ) (es fs : List Request)
     → performed sent c n (es ++ fs) ≡ performed sent c n es ++ performed sent (counting c n es) (n + length es) fs
 unfolding performed counting
 performed-append sent c n [] fs = ap (λ m. performed sent c m fs) (omega arith)
@@ -39,13 +39,13 @@ performed-append sent c n (e ∷ es) fs =
     ∙ ap (λ m. entriesOf sent c n e ++ (performed sent (counted c n e) (suc n) es ++ performed sent (counting (counted c n e) (suc n) es) m fs)) (suc-shift n (length es))
     ∙ sym (append-assoc (entriesOf sent c n e) _ _)
 
-pub counting-append : (c : Counters) (n : ℕ) (es fs : List Event) → counting c n (es ++ fs) ≡ counting (counting c n es) (n + length es) fs
+pub counting-append : (c : Counters) (n : ℕ) (es fs : List Request) → counting c n (es ++ fs) ≡ counting (counting c n es) (n + length es) fs
 unfolding counting
 counting-append c n [] fs = ap (λ m. counting c m fs) (omega arith)
 counting-append c n (e ∷ es) fs =
     counting-append (counted c n e) (suc n) es fs ∙ ap (λ m. counting (counting (counted c n e) (suc n) es) m fs) (suc-shift n (length es))
 
-performed-quiet : (sent : Bool) (c : Counters) (n a : ℕ) (es : List Event) → performed sent c n (quiet a ++ es) ≡ performed sent c (n + a) es
+performed-quiet : (sent : Bool) (c : Counters) (n a : ℕ) (es : List Request) → performed sent c n (quiet a ++ es) ≡ performed sent c (n + a) es
 unfolding performed
 performed-quiet sent c n zero es = ap (λ m. performed sent c m es) (omega arith)
 performed-quiet sent c n (suc a) es = performed-quiet sent c (suc n) a es ∙ ap (λ m. performed sent c m es) (suc-shift n a)
@@ -61,7 +61,7 @@ within width nothing = true
 within width (at p e) = leb 1 p && leb p width
 
 module _ (sent : Bool) (c : Counters) where
-  performed-spread : (n width : ℕ) (x : Instead) (es : List Event) → T (within width x)
+  performed-spread : (n width : ℕ) (x : Instead) (es : List Request) → T (within width x)
       → performed sent c n (spread width x ++ es) ≡ insteadEntries sent c n x ++ performed sent (insteadCounted c n x) (n + width) es
   unfolding performed
   performed-spread n width nothing es h = performed-quiet sent c n width es
@@ -76,7 +76,7 @@ module _ (sent : Bool) (c : Counters) where
       (performed-quiet sent c₁ (suc (n + (p - 1))) (width - p) es ∙ ap (λ m. performed sent c₁ m es) z))
 
   -- an item in whose command's place x stands
-  performed-item : (n a width : ℕ) (x : Instead) (es : List Event) → T (within width x)
+  performed-item : (n a width : ℕ) (x : Instead) (es : List Request) → T (within width x)
       → performed sent c n ((quiet a ++ spread width x) ++ es) ≡ insteadEntries sent c (n + a) x ++ performed sent (insteadCounted c (n + a) x) (n + (a + width)) es
   performed-item n a width x es h =
       let z : n + a + width ≡ n + (a + width) = omega arith in

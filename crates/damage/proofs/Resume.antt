@@ -8,22 +8,22 @@ use native.Mathlib.Omega.{arith}
 use lib.Dec.{ltb, leb, T, ltb→lt, nltb→le, leb→le}
 use lib.ListN.{replicate, replicate-append-replicate}
 use Rattle.bits.proofs.Truth.{and-left, cond-case}
-use Rattle.recogniser.specs.declared.Event.{Event}
-use Rattle.recogniser.specs.declared.Event.the-variants.{Nothing}
+use Rattle.recogniser.specs.declared.Request.{Request}
+use Rattle.recogniser.specs.declared.Request.the-variants.{Nothing}
 use Rattle.recogniser.specs.declared.Recogniser.{Recogniser}
 use Rattle.recogniser.specs.Parts.{idle}
 use Rattle.recogniser.specs.Step.{stepOf}
 use Rattle.damage.specs.Commands.{Command, codeOf}
 use Rattle.damage.specs.Streams.{Item, zeros, zerosBetween, itemBits, streamBits, spaced}
-use Rattle.damage.specs.Traces.{eventsOf, standsAfter, quiet, commandTrace, itemTrace, cleanTrace}
+use Rattle.damage.specs.Traces.{requestsOf, standsAfter, quiet, commandTrace, itemTrace, cleanTrace}
 use Rattle.damage.proofs.Computed.{below, below-at, each, each-at}
 use Rattle.damage.proofs.Trace.{Shows, chain, onward}
 
 -- What a recogniser shows over a few zeros, over five, and over each command behind a few more zeros than the timing table asks after c.
 pub record Shown : Type 0 where
-  pub few : List (List Event)
+  pub few : List (List Request)
   pub emptied : Recogniser
-  pub next : List (List (List Event))
+  pub next : List (List (List Request))
   pub left : List (List Recogniser)
 
 abbrev behind : Command → Command → ℕ → List ℕ
@@ -31,9 +31,9 @@ behind c d y = zeros (zerosBetween c d + y) ++ codeOf d
 
 abbrev pub shownBy : Command → Recogniser → Shown
 shownBy c r = record {
-  few = below 6 (λ z. eventsOf r (zeros z));
+  few = below 6 (λ z. requestsOf r (zeros z));
   emptied = standsAfter r (zeros 5);
-  next = each (λ d. below 5 (λ y. eventsOf r (behind c d y)));
+  next = each (λ d. below 5 (λ y. requestsOf r (behind c d y)));
   left = each (λ d. below 5 (λ y. standsAfter r (behind c d y)));
 }
 
@@ -51,30 +51,30 @@ abbrev pub Resumes : Command → Recogniser → Type 0
 Resumes c r = shownBy c r ≡ shouldShow c
 
 pub empty-resumes : (c : Command) → Resumes c idle
-unfolding stepOf eventsOf standsAfter
+unfolding stepOf requestsOf standsAfter
 empty-resumes = each-at (λ c. shownBy c idle) shouldShow refl
 
 -- zeros, from an empty window and from one that resumes
 pub idling : (n : ℕ) → Shows idle (zeros n) (quiet n) idle
-unfolding stepOf eventsOf standsAfter
+unfolding stepOf requestsOf standsAfter
 idling zero = record { seen = refl; left = refl }
-idling (suc n) = record { seen = ap (λ (l : List Event). Nothing ∷ l) (idling n .seen); left = idling n .left }
+idling (suc n) = record { seen = ap (λ (l : List Request). Nothing ∷ l) (idling n .seen); left = idling n .left }
 
 five-more : {A : Type 0} (a : A) (z : ℕ) → 5 ≤ z → replicate z a ≡ replicate 5 a ++ replicate (z - 5) a
 five-more a z h = let e : 5 + (z - 5) ≡ z = omega arith in sym (replicate-append-replicate 5 (z - 5) a ∙ ap (λ n. replicate n a) e)
 
 -- From r zeros show nothing, and five of them empty the window.
 pub record Settles (r : Recogniser) : Type 0 where
-  pub few : below 6 (λ z. eventsOf r (zeros z)) ≡ below 6 quiet
+  pub few : below 6 (λ z. requestsOf r (zeros z)) ≡ below 6 quiet
   pub emptied : standsAfter r (zeros 5) ≡ idle
 
 pub resumes-settles : (c : Command) (r : Recogniser) → Resumes c r → Settles r
 resumes-settles c r resumes = record { few = ap (λ (s : Shown). s .few) resumes; emptied = ap (λ (s : Shown). s .emptied) resumes }
 
 clean-command : (d : Command) → Shows idle (codeOf d) (commandTrace d) idle
-unfolding stepOf eventsOf standsAfter
+unfolding stepOf requestsOf standsAfter
 clean-command d = record {
-  seen = each-at (λ d. eventsOf idle (codeOf d)) commandTrace refl d;
+  seen = each-at (λ d. requestsOf idle (codeOf d)) commandTrace refl d;
   left = each-at (λ d. standsAfter idle (codeOf d)) (λ d. idle) refl d;
 }
 
@@ -83,16 +83,16 @@ pub clean-item : (i : Item) → Shows idle (itemBits i) (itemTrace i) idle
 clean-item i = chain (idling (i .ahead)) (clean-command (i .command))
 
 module _ (r : Recogniser) (settles : Settles r) where
-  few-zeros : (z : ℕ) → z < 6 → eventsOf r (zeros z) ≡ quiet z
-  few-zeros = below-at 6 (λ z. eventsOf r (zeros z)) quiet (settles .few)
+  few-zeros : (z : ℕ) → z < 6 → requestsOf r (zeros z) ≡ quiet z
+  few-zeros = below-at 6 (λ z. requestsOf r (zeros z)) quiet (settles .few)
 
   five : Shows r (zeros 5) (quiet 5) idle
   five = record { seen = few-zeros 5 (omega arith); left = settles .emptied }
 
   -- any number of zeros
-  pub trailing : (z : ℕ) → eventsOf r (zeros z) ≡ quiet z
+  pub trailing : (z : ℕ) → requestsOf r (zeros z) ≡ quiet z
   trailing z =
-      cond-case (λ (b : Bool). eventsOf r (zeros z) ≡ quiet z) (ltb z 5) {x = ltb z 5} {y = ltb z 5}
+      cond-case (λ (b : Bool). requestsOf r (zeros z) ≡ quiet z) (ltb z 5) {x = ltb z 5} {y = ltb z 5}
       (λ h. few-zeros z (let g = ltb→lt z 5 h in omega arith))
       (λ h.
       let g = nltb→le z 5 h in
@@ -108,8 +108,8 @@ module _ (r : Recogniser) (settles : Settles r) where
 module _ (c : Command) (r : Recogniser) (resumes : Resumes c r) (d : Command) where
   soon : (y : ℕ) → y < 5 → Shows r (behind c d y) (quiet (zerosBetween c d + y) ++ commandTrace d) idle
   soon y h = record {
-    seen = below-at 5 (λ y. eventsOf r (behind c d y)) (λ y. quiet (zerosBetween c d + y) ++ commandTrace d)
-        (each-at (λ d. below 5 (λ y. eventsOf r (behind c d y))) (λ d. below 5 (λ y. quiet (zerosBetween c d + y) ++ commandTrace d)) (ap (λ (s : Shown). s .next) resumes) d) y h;
+    seen = below-at 5 (λ y. requestsOf r (behind c d y)) (λ y. quiet (zerosBetween c d + y) ++ commandTrace d)
+        (each-at (λ d. below 5 (λ y. requestsOf r (behind c d y))) (λ d. below 5 (λ y. quiet (zerosBetween c d + y) ++ commandTrace d)) (ap (λ (s : Shown). s .next) resumes) d) y h;
     left = below-at 5 (λ y. standsAfter r (behind c d y)) (λ y. idle)
         (each-at (λ d. below 5 (λ y. standsAfter r (behind c d y))) (λ d. below 5 (λ y. idle)) (ap (λ (s : Shown). s .left) resumes) d) y h;
   }
@@ -123,12 +123,12 @@ module _ (c : Command) (r : Recogniser) (resumes : Resumes c r) (d : Command) wh
       (λ h. late r (resumes-settles c r resumes) d z (let g = nltb→le (z - zerosBetween c d) 5 h in omega arith))
 
 -- from an empty window a clean stream shows its commands and nothing else
-pub clean-run : (is : List Item) (t : ℕ) → eventsOf idle (streamBits is t) ≡ cleanTrace is t
+pub clean-run : (is : List Item) (t : ℕ) → requestsOf idle (streamBits is t) ≡ cleanTrace is t
 clean-run [] t = idling t .seen
 clean-run (i ∷ is) t = onward (clean-item i) (streamBits is t) (clean-run is t)
 
 -- and from a recogniser that resumes too, where what follows is spaced as the timing table asks
-pub resumed-run : (c : Command) (r : Recogniser) → Resumes c r → (is : List Item) (t : ℕ) → T (spaced c is) → eventsOf r (streamBits is t) ≡ cleanTrace is t
+pub resumed-run : (c : Command) (r : Recogniser) → Resumes c r → (is : List Item) (t : ℕ) → T (spaced c is) → requestsOf r (streamBits is t) ≡ cleanTrace is t
 resumed-run c r resumes [] t h = trailing r (resumes-settles c r resumes) t
 resumed-run c r resumes (i ∷ is) t h =
     onward

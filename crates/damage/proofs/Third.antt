@@ -9,7 +9,7 @@ use lib.Dec.{eqb, ltb, T, ltb→lt, nltb→le}
 use lib.ListN.{length, getD, length-append}
 use Rattle.bits.proofs.Truth.{and-left, and-right, cond-case}
 use Rattle.recogniser.specs.declared.Phase.the-variants.{Hunt}
-use Rattle.recogniser.specs.declared.Event.{Event}
+use Rattle.recogniser.specs.declared.Request.{Request}
 use Rattle.recogniser.specs.declared.Recogniser.{Recogniser}
 use Rattle.recogniser.specs.declared.Heard.{Heard}
 use Rattle.recogniser.specs.Parts.{idle}
@@ -26,17 +26,17 @@ use Rattle.taking.proofs.Calls.{call-kept}
 use Rattle.damage.specs.Commands.{Command, widthOf}
 use Rattle.damage.specs.Streams.{Item, itemSize, streamBits, timed, inverted}
 use Rattle.damage.specs.Table.{damage, hitsFast, itself, insteadOf}
-use Rattle.damage.specs.Traces.{eventsOf, standsAfter, quiet, spread, commandTrace, itemTrace, cleanTrace, damagedItem, damagedTrace}
+use Rattle.damage.specs.Traces.{requestsOf, standsAfter, quiet, spread, commandTrace, itemTrace, cleanTrace, damagedItem, damagedTrace}
 use Rattle.damage.specs.Records.{countersOf, sendsOf, entriesOf, counted, cleanEntries, damagedEntries}
 use Rattle.damage.proofs.Computed.{below, below-at, each-at}
-use Rattle.damage.proofs.Trace.{events-append, stands-append, length-events}
+use Rattle.damage.proofs.Trace.{requests-append, stands-append, length-requests}
 use Rattle.damage.proofs.Resume.{clean-run}
 use Rattle.damage.proofs.Inverted.{zeroDamage, instead-by, damaged-run}
 use Rattle.damage.proofs.Recorded.{performed, counting, performed-append, counting-append, performed-clean, performed-damaged}
 use Rattle.damage.proofs.Acts.{quick, calm, step-any-cnt, step-stays, from-empty, does}
 
--- no event of a trace leads into a Slow command
-abbrev calmly : List Event → Bool
+-- no request of a trace leads into a Slow command
+abbrev calmly : List Request → Bool
 calmly [] = true
 calmly (e ∷ es) = calm e && calmly es
 
@@ -44,15 +44,15 @@ both : (a b : Bool) → T a → T b → T (a && b)
 both true b p q = q
 both false b p q = p
 
-calmly-left : (es fs : List Event) → T (calmly (es ++ fs)) → T (calmly es)
+calmly-left : (es fs : List Request) → T (calmly (es ++ fs)) → T (calmly es)
 calmly-left [] fs h = tt
 calmly-left (e ∷ es) fs h = both (calm e) (calmly es) (and-left (calm e) _ h) (calmly-left es fs (and-right (calm e) _ h))
 
-calmly-right : (es fs : List Event) → T (calmly (es ++ fs)) → T (calmly fs)
+calmly-right : (es fs : List Request) → T (calmly (es ++ fs)) → T (calmly fs)
 calmly-right [] fs h = h
 calmly-right (e ∷ es) fs h = calmly-right es fs (and-right (calm e) _ h)
 
-calmly-append : (es fs : List Event) → T (calmly es) → T (calmly fs) → T (calmly (es ++ fs))
+calmly-append : (es fs : List Request) → T (calmly es) → T (calmly fs) → T (calmly (es ++ fs))
 calmly-append [] fs h k = k
 calmly-append (e ∷ es) fs h k = both (calm e) (calmly (es ++ fs)) (and-left (calm e) _ h) (calmly-append es fs (and-right (calm e) _ h) k)
 
@@ -64,8 +64,8 @@ entries-append : (es fs : List Entry) → entryWords (es ++ fs) ≡ entryWords e
 entries-append [] fs = refl
 entries-append (e ∷ es) fs = ap (λ l. (e .time * 65536 + e .kind * 256 + e .flags) ∷ e .value ∷ l) (entries-append es fs)
 
-abbrev trace : Decoder → List ℕ → List Event
-trace d bits = eventsOf (d .recogniser) bits
+abbrev trace : Decoder → List ℕ → List Request
+trace d bits = requestsOf (d .recogniser) bits
 
 -- From d the bits lead to v and write the words, RunMode on, as the trace says.
 record Follows (d : Decoder) (bits : List ℕ) (v : Decoder) (words : List ℕ) : Type 0 where
@@ -78,19 +78,19 @@ record Follows (d : Decoder) (bits : List ℕ) (v : Decoder) (words : List ℕ) 
   outside : T (quick (v .recogniser .phase))
 
 follows-none : (d : Decoder) → d .model .running ≡ true → T (quick (d .recogniser .phase)) → Follows d [] d []
-unfolding performed counting eventsOf standsAfter
+unfolding performed counting requestsOf standsAfter
 follows-none d r q = record { written = refl; stands = refl; counted = refl; next = omega arith; running = r; sent = refl; outside = q }
 
 follows-append : {d v u : Decoder} {xs ys : List ℕ} {ws zs : List ℕ} → Follows d xs v ws → Follows v ys u zs → Follows d (xs ++ ys) u (ws ++ zs)
 follows-append {d} {v} {u} {xs} {ys} {ws} {zs} a b = record {
   written =
-      rw (events-append (d .recogniser) xs ys, performed-append (sendsOf d) (countersOf d) (d .next) (trace d xs) (eventsOf (standsAfter (d .recogniser) xs) ys), length-events (d .recogniser) xs)
-      (ap₂ _++_ (a .written) (b .written ∙ (λ i. entryWords (performed (a .sent i) (a .counted i) (a .next i) (eventsOf (a .stands i) ys))))
+      rw (requests-append (d .recogniser) xs ys, performed-append (sendsOf d) (countersOf d) (d .next) (trace d xs) (requestsOf (standsAfter (d .recogniser) xs) ys), length-requests (d .recogniser) xs)
+      (ap₂ _++_ (a .written) (b .written ∙ (λ i. entryWords (performed (a .sent i) (a .counted i) (a .next i) (requestsOf (a .stands i) ys))))
       ∙ sym (entries-append (performed (sendsOf d) (countersOf d) (d .next) (trace d xs)) _));
   stands = b .stands ∙ ap (λ (r : Recogniser). standsAfter r ys) (a .stands) ∙ sym (stands-append (d .recogniser) xs ys);
   counted =
-      rw (events-append (d .recogniser) xs ys, counting-append (countersOf d) (d .next) (trace d xs) (eventsOf (standsAfter (d .recogniser) xs) ys), length-events (d .recogniser) xs)
-      (b .counted ∙ (λ i. counting (a .counted i) (a .next i) (eventsOf (a .stands i) ys)));
+      rw (requests-append (d .recogniser) xs ys, counting-append (countersOf d) (d .next) (trace d xs) (requestsOf (standsAfter (d .recogniser) xs) ys), length-requests (d .recogniser) xs)
+      (b .counted ∙ (λ i. counting (a .counted i) (a .next i) (requestsOf (a .stands i) ys)));
   next = let e = a .next in let f = b .next in rw length-append (omega arith);
   running = b .running;
   sent = b .sent ∙ a .sent;
@@ -99,13 +99,13 @@ follows-append {d} {v} {u} {xs} {ys} {ws} {zs} a b = record {
 
 -- one cycle
 follows-one : (w : World) (bit : ℕ) → w .decoder .model .running ≡ true → T (quick (w .decoder .recogniser .phase))
-    → T (calm (stepOf (w .decoder .recogniser) bit 0 .event))
+    → T (calm (stepOf (w .decoder .recogniser) bit 0 .event .request))
     → Follows (w .decoder) (bit ∷ []) (turnOf w bit .state .decoder) (wordsOf (turnOf w bit .cycle))
-unfolding turnOf performed counting eventsOf standsAfter
+unfolding turnOf performed counting requestsOf standsAfter
 follows-one w bit r q h =
     let d : Decoder = w .decoder in
     let e : stepOf (d .recogniser) bit (cntOf (d .plan) (d .model)) ≡ stepOf (d .recogniser) bit 0 = step-any-cnt (d .recogniser) bit _ q in
-    let x : Event = stepOf (d .recogniser) bit 0 .event in
+    let x : Request = stepOf (d .recogniser) bit 0 .event .request in
     let f = does (d .plan) (d .model) x (d .next) (w .store) r h in
     rw e
     (record {
@@ -120,18 +120,18 @@ follows-one w bit r q h =
 
 -- the trace after one cycle
 after-one : (w : World) (bit : ℕ) (bits : List ℕ) → turnOf w bit .state .decoder .recogniser ≡ standsAfter (w .decoder .recogniser) (bit ∷ [])
-    → T (calmly (eventsOf (stepOf (w .decoder .recogniser) bit 0 .next) bits)) → T (calmly (trace (turnOf w bit .state .decoder) bits))
+    → T (calmly (requestsOf (stepOf (w .decoder .recogniser) bit 0 .next) bits)) → T (calmly (trace (turnOf w bit .state .decoder) bits))
 unfolding standsAfter
 after-one w bit bits e h = rw e h
 
 -- any bits whose trace is calm, whatever store and tray are lent
 follows-bits : (bits : List ℕ) (w : World) → w .decoder .model .running ≡ true → T (quick (w .decoder .recogniser .phase)) → T (calmly (trace (w .decoder) bits))
     → Follows (w .decoder) bits (stateAfter turnOf w bits .decoder) (wordsAfter turnOf w bits)
-unfolding eventsOf
+unfolding requestsOf
 follows-bits [] w r q h = follows-none (w .decoder) r q
 follows-bits (bit ∷ bits) w r q h =
     let d : Decoder = w .decoder in
-    let x : Event = stepOf (d .recogniser) bit 0 .event in
+    let x : Request = stepOf (d .recogniser) bit 0 .event .request in
     let a = follows-one w bit r q (and-left (calm x) _ h) in
     follows-append a (follows-bits bits (turnOf w bit .state) (a .running) (a .outside) (after-one w bit bits (a .stands) (and-right (calm x) _ h)))
 
@@ -152,9 +152,9 @@ follows-calls (c ∷ cs) d r q h =
     let v : Decoder = takeOf d c .taken .decoder in
     let xs : List ℕ = bitsTaken d c in
     let ys : List ℕ = allBits v cs in
-    let k : T (calmly (trace d xs ++ eventsOf (standsAfter (d .recogniser) xs) ys)) = rw (← events-append (d .recogniser) xs ys) h in
+    let k : T (calmly (trace d xs ++ requestsOf (standsAfter (d .recogniser) xs) ys)) = rw (← requests-append (d .recogniser) xs ys) h in
     let a = follows-call d c r q (calmly-left (trace d xs) _ k) in
-    let b = follows-calls cs v (a .running) (a .outside) (rw (a .stands) (calmly-right (trace d xs) (eventsOf (standsAfter (d .recogniser) xs) ys) k)) in
+    let b = follows-calls cs v (a .running) (a .outside) (rw (a .stands) (calmly-right (trace d xs) (requestsOf (standsAfter (d .recogniser) xs) ys) k)) in
     (b .0, follows-append a (b .1))
 
 -- clean and damaged traces are calm: computed for what stands in a command's place
@@ -199,14 +199,14 @@ calm-damaged (i ∷ is) t k =
     (λ b. calmly-append (itemTrace i) (damagedTrace is t (k - itemSize i)) (calm-item i) (calm-damaged is t (k - itemSize i)))
 
 -- the trace from a state that hunts with an empty window is that of an empty recogniser
-hunting-trace : (r : Recogniser) (bits : List ℕ) → r .phase ≡ Hunt → r .shift ≡ 0 → eventsOf r bits ≡ eventsOf idle bits
-unfolding eventsOf
+hunting-trace : (r : Recogniser) (bits : List ℕ) → r .phase ≡ Hunt → r .shift ≡ 0 → requestsOf r bits ≡ requestsOf idle bits
+unfolding requestsOf
 hunting-trace r [] h e = refl
-hunting-trace r (bit ∷ bits) h e = ap (λ (x : Heard). x .event ∷ eventsOf (x .next) bits) (from-empty r bit h e)
+hunting-trace r (bit ∷ bits) h e = ap (λ (x : Heard). x .event .request ∷ requestsOf (x .next) bits) (from-empty r bit h e)
 
 -- A list of calls in RunMode, from an empty window, whose bits have a calm trace writes the records of that trace.
 module _ (d : Decoder) (running : d .model .running ≡ true) (hunting : d .recogniser .phase ≡ Hunt) (empty : d .recogniser .shift ≡ 0) where
-  writes : (cs : List Call) (es : List Event) → eventsOf idle (allBits d cs) ≡ es → T (calmly es)
+  writes : (cs : List Call) (es : List Request) → requestsOf idle (allBits d cs) ≡ es → T (calmly es)
       → allWords d cs ≡ entryWords (performed (sendsOf d) (countersOf d) (d .next) es)
   writes cs es e h =
       let t : trace d (allBits d cs) ≡ es = hunting-trace (d .recogniser) (allBits d cs) hunting empty ∙ e in
@@ -216,11 +216,11 @@ module _ (d : Decoder) (running : d .model .running ≡ true) (hunting : d .reco
   pub clean-words : (cs : List Call) (is : List Item) (t : ℕ) → allBits d cs ≡ streamBits is t
       → allWords d cs ≡ entryWords (cleanEntries (sendsOf d) (countersOf d) (d .next) is)
   clean-words cs is t e =
-      writes cs (cleanTrace is t) (ap (eventsOf idle) e ∙ clean-run is t) (calm-clean is t)
+      writes cs (cleanTrace is t) (ap (requestsOf idle) e ∙ clean-run is t) (calm-clean is t)
       ∙ ap entryWords (performed-clean (sendsOf d) (countersOf d) (d .next) is t)
 
   pub damaged-words : (cs : List Call) (is : List Item) (t k : ℕ) → T (timed is) → allBits d cs ≡ inverted k (streamBits is t)
       → allWords d cs ≡ entryWords (damagedEntries (sendsOf d) (countersOf d) (d .next) is k)
   damaged-words cs is t k h e =
-      writes cs (damagedTrace is t k) (ap (eventsOf idle) e ∙ damaged-run is t k h) (calm-damaged is t k)
+      writes cs (damagedTrace is t k) (ap (requestsOf idle) e ∙ damaged-run is t k h) (calm-damaged is t k)
       ∙ ap entryWords (performed-damaged (sendsOf d) (countersOf d) (d .next) is t k)

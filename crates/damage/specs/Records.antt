@@ -1,16 +1,16 @@
 -- The records of clean and damaged streams in RunMode, by their counters (document 01, "A record" and "The damage table").
 -- Assumes nothing.
-use mathlib.Core.Bool.{Bool, cond}
+use mathlib.Core.Bool.{Bool, false, cond}
 use mathlib.Core.List.{List, [], _∷_, _++_}
 use Prim.Native.Nat.{ℕ, _+_, _*_, _-_, _/_, _%_, _^_}
 use lib.Dec.{eqb, ltb}
-use Rattle.recogniser.specs.declared.Event.{Event}
-use Rattle.recogniser.specs.declared.Event.the-variants.{Nothing, Lv1, Fast, BadFast, SlowBegins, Slow, BadSlow, FrameBit, FrameEnd, FrameEndBit}
+use Rattle.recogniser.specs.declared.Request.{Request}
+use Rattle.recogniser.specs.declared.Request.the-variants.{Nothing, LeaveRunMode, Lv1, Fast, BadFast, Slow, BadSlow, Frame}
 use Rattle.registers.specs.Registers.{registerOf}
 use Rattle.controller.specs.Records.{kindLv1, kindFast, kindBadFast, flagFlip, flagSent}
 use Rattle.decoder.specs.declared.Decoder.{Decoder}
 use Rattle.taking.specs.Entries.{Entry, entry}
-use Rattle.damage.specs.Commands.{widthOf, eventOf}
+use Rattle.damage.specs.Commands.{widthOf, requestOf}
 use Rattle.damage.specs.Streams.{Item, itemSize}
 use Rattle.damage.specs.Table.{Instead, nothing, at, insteadOf}
 
@@ -29,32 +29,34 @@ countersOf d = counters (d .model .l1id) (d .model .base)
 abbrev pub sendsOf : Decoder → Bool
 sendsOf d = eqb (registerOf (d .model) (d .plan .csr) / 2 ^ 6 % 2) 0
 
--- The record of an event at a cycle, RunMode on; LV1s are sent to the front ends or not. A clean or damaged stream brings no Slow command.
-abbrev pub entriesOf : Bool → Counters → ℕ → Event → List Entry
-entriesOf sent c time Nothing = []
-entriesOf sent c time (Lv1 flip) =
-    entry time kindLv1 (0x01 + flagFlip flip + flagSent sent) (c .l1id * 256 + (time - c .base) % 256) ∷ []
-entriesOf sent c time (Fast body) = entry time (kindFast body) 0x01 0 ∷ []
-entriesOf sent c time (BadFast body) = entry time kindBadFast 0x00 body ∷ []
-entriesOf sent c time SlowBegins = []
-entriesOf sent c time (Slow command address value) = []
-entriesOf sent c time (BadSlow command) = []
-entriesOf sent c time (FrameBit place bit) = []
-entriesOf sent c time (FrameEnd command unsteady) = []
-entriesOf sent c time (FrameEndBit command unsteady place bit) = []
+-- The record of a request at a cycle, RunMode on, and the counters after it: an LV1 adds 1 to L1ID, ECR sets it to 0, BCR moves the base. LV1s are sent to
+-- the front ends or not. A clean or damaged stream brings no Slow command.
+pub record Line : Type 0 where
+  pub entries : List Entry
+  pub after : Counters
 
--- The counters after it: an LV1 adds 1 to L1ID, ECR sets it to 0, BCR moves the base.
-abbrev pub counted : Counters → ℕ → Event → Counters
-counted c time Nothing = c
-counted c time (Lv1 flip) = counters ((c .l1id + 1) % 256) (c .base)
-counted c time (Fast body) = counters (cond (eqb body 0b0010) 0 (c .l1id)) (cond (eqb body 0b0001) time (c .base))
-counted c time (BadFast body) = c
-counted c time SlowBegins = c
-counted c time (Slow command address value) = c
-counted c time (BadSlow command) = c
-counted c time (FrameBit place bit) = c
-counted c time (FrameEnd command unsteady) = c
-counted c time (FrameEndBit command unsteady place bit) = c
+abbrev pub line : List Entry → Counters → Line
+line entries after = record { entries = entries; after = after }
+
+abbrev pub lineOf : Bool → Counters → ℕ → Request → Line
+lineOf sent c time Nothing = line [] c
+lineOf sent c time LeaveRunMode = line [] c
+lineOf sent c time (Lv1 flip) =
+    line
+    (entry time kindLv1 (0x01 + flagFlip flip + flagSent sent) (c .l1id * 256 + (time - c .base) % 256) ∷ [])
+    (counters ((c .l1id + 1) % 256) (c .base))
+lineOf sent c time (Fast body) =
+    line (entry time (kindFast body) 0x01 0 ∷ []) (counters (cond (eqb body 0b0010) 0 (c .l1id)) (cond (eqb body 0b0001) time (c .base)))
+lineOf sent c time (BadFast body) = line (entry time kindBadFast 0x00 body ∷ []) c
+lineOf sent c time (Slow command address value) = line [] c
+lineOf sent c time (BadSlow command) = line [] c
+lineOf sent c time (Frame command unsteady) = line [] c
+
+abbrev pub entriesOf : Bool → Counters → ℕ → Request → List Entry
+entriesOf sent c time q = lineOf sent c time q .entries
+
+abbrev pub counted : Counters → ℕ → Request → Counters
+counted c time q = lineOf false c time q .after
 
 -- The cycle of a command's last bit, in a stream whose first bit is cycle n.
 abbrev pub lastCycle : ℕ → Item → ℕ
@@ -62,10 +64,10 @@ lastCycle n i = n + i .ahead + (widthOf (i .command) - 1)
 
 -- The paper's record for one command, and for each command of a stream and no other.
 abbrev pub itemEntries : Bool → Counters → ℕ → Item → List Entry
-itemEntries sent c n i = entriesOf sent c (lastCycle n i) (eventOf (i .command))
+itemEntries sent c n i = entriesOf sent c (lastCycle n i) (requestOf (i .command))
 
 abbrev pub itemCounted : Counters → ℕ → Item → Counters
-itemCounted c n i = counted c (lastCycle n i) (eventOf (i .command))
+itemCounted c n i = counted c (lastCycle n i) (requestOf (i .command))
 
 abbrev pub cleanEntries : Bool → Counters → ℕ → List Item → List Entry
 cleanEntries sent c n [] = []

@@ -6,9 +6,9 @@ use Prim.Native.Nat.{ℕ, suc, _+_, _-_}
 use lib.Dec.{ltb, leb}
 use lib.ListN.{drop}
 use Rattle.bits.specs.Bits.{numberOf}
-use Rattle.recogniser.specs.declared.Event.{Event}
-use Rattle.recogniser.specs.declared.Event.the-variants.{Lv1, BadFast}
-use Rattle.damage.specs.Commands.{Command, lv1, bcr, ecr, cal, sync, fasts, among, codeOf, widthOf, isFastCommand, eventOf}
+use Rattle.recogniser.specs.declared.Request.{Request}
+use Rattle.recogniser.specs.declared.Request.the-variants.{Lv1, BadFast}
+use Rattle.damage.specs.Commands.{Command, lv1, bcr, ecr, cal, sync, fasts, among, codeOf, widthOf, isFastCommand, requestOf}
 use Rattle.damage.specs.Streams.{Item, inverted}
 
 -- What the table's right column says: "flip at 5" and the like, "bad Fast, at 9", or "none".
@@ -52,10 +52,10 @@ abbrev pub lookUp : List Row → Command → ℕ → Outcome
 lookUp [] c bit = none
 lookUp (r ∷ rs) c bit = cond (speaksOf r c bit) (r .outcome) (lookUp rs c bit)
 
--- What stands in a command's place: nothing, or an event at one of its bits, counted from 1.
+-- What stands in a command's place: nothing, or a request at one of its bits, counted from 1.
 pub data Instead : Type 0 where
   nothing : Instead
-  at : ℕ → Event → Instead
+  at : ℕ → Request → Instead
 
 -- A bad Fast has the damaged body.
 abbrev pub damagedBody : Command → ℕ → ℕ
@@ -69,7 +69,7 @@ asInstead c bit (badFastAt p) = at p (BadFast (damagedBody c bit))
 
 -- The command itself, at its last bit.
 abbrev pub itself : Command → Instead
-itself c = at (widthOf c) (eventOf c)
+itself c = at (widthOf c) (requestOf c)
 
 -- A bit of the command inverted, counted from 1; bit 0 is a zero ahead of it.
 abbrev pub damage : Command → ℕ → Instead

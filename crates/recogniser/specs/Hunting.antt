@@ -6,10 +6,10 @@ use lib.Dec.{ltb, eqb}
 use Rattle.recogniser.specs.declared.Phase.the-variants.{Hunt, Body, Field3}
 use Rattle.recogniser.specs.declared.Meaning.{Meaning}
 use Rattle.recogniser.specs.declared.Meaning.the-variants.{Quiet, Trigger, Header}
-use Rattle.recogniser.specs.declared.Event.the-variants.{Nothing, Lv1, Fast, BadFast, SlowBegins}
+use Rattle.recogniser.specs.declared.Request.the-variants.{Nothing, LeaveRunMode, Lv1, Fast, BadFast}
 use Rattle.recogniser.specs.declared.Recogniser.{Recogniser}
 use Rattle.recogniser.specs.declared.Heard.{Heard}
-use Rattle.recogniser.specs.Parts.{shifted, startOf, idle, heard, gatheredOf}
+use Rattle.recogniser.specs.Parts.{shifted, startOf, idle, asked, gatheredOf}
 
 -- "11100, 11111, 11001, 10101 and 01101 are an LV1 with flip."
 abbrev pub isFlip : ℕ → Bool
@@ -23,9 +23,9 @@ meaningOf w =
     (cond (eqb w 0b10110) Header Quiet))
 
 abbrev pub huntBy : ℕ → Meaning → Heard
-huntBy w Quiet = heard (startOf Hunt w 0 0) Nothing
-huntBy w (Trigger flip) = heard idle (Lv1 flip)
-huntBy w Header = heard (startOf Body 0 0 0) Nothing
+huntBy w Quiet = asked (startOf Hunt w 0 0) Nothing
+huntBy w (Trigger flip) = asked idle (Lv1 flip)
+huntBy w Header = asked (startOf Body 0 0 0) Nothing
 
 abbrev pub huntOf : Recogniser → ℕ → Heard
 huntOf r bit = let w = shifted 5 (r .shift) bit in huntBy w (meaningOf w)
@@ -39,6 +39,6 @@ abbrev pub bodyOf : Recogniser → ℕ → Heard
 bodyOf r bit =
     let body = shifted 4 (r .shift) bit in
     cond (ltb (r .count) 3) (gatheredOf r body)
-    (cond (isFast body) (heard idle (Fast body))
-    (cond (eqb body 0b1011) (heard (startOf Field3 0 0 0) SlowBegins)
-    (heard idle (BadFast body))))
+    (cond (isFast body) (asked idle (Fast body))
+    (cond (eqb body 0b1011) (asked (startOf Field3 0 0 0) LeaveRunMode)
+    (asked idle (BadFast body))))

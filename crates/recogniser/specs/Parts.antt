@@ -4,8 +4,10 @@ use mathlib.Core.Bool.{false}
 use Prim.Native.Nat.{ℕ, _+_, _*_, _%_, _^_}
 use Rattle.recogniser.specs.declared.Phase.{Phase}
 use Rattle.recogniser.specs.declared.Phase.the-variants.{Hunt}
+use Rattle.recogniser.specs.declared.FrameBit.the-variants.{None}
+use Rattle.recogniser.specs.declared.Request.{Request}
+use Rattle.recogniser.specs.declared.Request.the-variants.{Nothing}
 use Rattle.recogniser.specs.declared.Event.{Event}
-use Rattle.recogniser.specs.declared.Event.the-variants.{Nothing}
 use Rattle.recogniser.specs.declared.Recogniser.{Recogniser}
 use Rattle.recogniser.specs.declared.Heard.{Heard}
 
@@ -33,9 +35,19 @@ idle = startOf Hunt 0 0 0
 abbrev pub heard : Recogniser → Event → Heard
 heard next event = record { next = next; event = event }
 
+-- A request and no frame bit; and not even a request.
+abbrev pub asking : Request → Event
+asking request = record { frame = None; request = request }
+
+abbrev pub silent : Event
+silent = asking Nothing
+
+abbrev pub asked : Recogniser → Request → Heard
+asked next request = heard next (asking request)
+
 -- One bit more of a body, Field 3 or Field 4 that is not whole yet.
 abbrev pub gatheredOf : Recogniser → ℕ → Heard
-gatheredOf r nibble = heard (record {
+gatheredOf r nibble = asked (record {
   phase = r .phase;
   shift = nibble;
   count = r .count + 1;

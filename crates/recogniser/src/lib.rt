@@ -2,11 +2,11 @@
 // It owns only what the chip triplicates; registers, counters and RunMode belong to the model.
 ghost use mathlib.Core.Path.{_≡_};
 ghost use Prim.Native.Nat.{_<_};
-ghost use Rattle.recogniser.specs.Parts.{shifted, startOf, heard, gatheredOf};
+ghost use Rattle.recogniser.specs.Parts.{shifted, startOf, asked, gatheredOf};
 ghost use Rattle.recogniser.specs.declared.Phase.the-variants.{Hunt};
 ghost use Rattle.recogniser.specs.Hunting.{meaningOf, isFast, huntBy, huntOf, bodyOf};
 ghost use Rattle.recogniser.specs.Fields.{lengthOf, isSlow, isFrame, keptOf, endsOf, slowOf, field3Of, field4Of, keptFieldOf};
-ghost use Rattle.recogniser.specs.Groups.{groupOf, unsteadyOf, storesOf, placeOf, frameEventOf, frameFieldOf};
+ghost use Rattle.recogniser.specs.Groups.{groupOf, unsteadyOf, storesOf, placeOf, frameBitOf, frameFieldOf};
 ghost use Rattle.recogniser.specs.Step.{field5Of, stepOf};
 
 // Where the recogniser stands.
@@ -30,9 +30,16 @@ pub struct Group {
     pub first: bool,
 }
 
-// What one cycle asks for: a record with its effect, a frame bit at its place, both, leaving RunMode, or nothing.
-pub enum Event {
+// What one cycle does to the frame: nothing, or a bit at its place.
+pub enum FrameBit {
+    None,
+    At { place: u32, bit: u8 },
+}
+
+// What one cycle asks of the controller: nothing, leaving RunMode, or a record with its effect.
+pub enum Request {
     Nothing,
+    LeaveRunMode,
     Lv1 {
         flip: bool,
     },
@@ -42,7 +49,6 @@ pub enum Event {
     BadFast {
         body: u8,
     },
-    SlowBegins,
     Slow {
         command: u8,
         address: u8,
@@ -51,20 +57,24 @@ pub enum Event {
     BadSlow {
         command: u8,
     },
-    FrameBit {
-        place: u32,
-        bit: u8,
-    },
-    FrameEnd {
+    Frame {
         command: u8,
         unsteady: bool,
     },
-    FrameEndBit {
-        command: u8,
-        unsteady: bool,
-        place: u32,
-        bit: u8,
-    },
+}
+
+// What one cycle asks for.
+pub struct Event {
+    pub frame: FrameBit,
+    pub request: Request,
+}
+
+impl Event {
+    // Nothing at all.
+    pub const NOTHING: Event = Event {
+        frame: FrameBit::None,
+        request: Request::Nothing,
+    };
 }
 
 pub struct Recogniser {
@@ -188,17 +198,17 @@ fn kept(command: u8, held: u32, bit: u8) -> u32
 }
 
 // The end of a Slow command that carries no frame.
-fn slow(command: u8, address: u8, value: u32) -> Event
+fn slow(command: u8, address: u8, value: u32) -> Request
     ensures { λ r. ⌜ r ≡ slowOf command address value ⌝ }
 {
     if is_slow(command) {
-        return Event::Slow {
+        return Request::Slow {
             command: command,
             address: address,
             value: value,
         };
     }
-    Event::BadSlow { command: command }
+    Request::BadSlow { command: command }
 }
 
 impl Group {
@@ -234,13 +244,16 @@ fn place(command: u8, count: u32) -> u32
 }
 
 impl Heard {
-    // What was heard, and hunting on with this window.
-    pub fn hunting(window: u8, event: Event) -> Self
-        ensures { λ r. ⌜ r ≡ heard (startOf Hunt window 0 0) event ⌝ }
+    // A request, and hunting on with this window.
+    pub fn hunting(window: u8, request: Request) -> Self
+        ensures { λ r. ⌜ r ≡ asked (startOf Hunt window 0 0) request ⌝ }
     {
         Heard {
             next: Recogniser::start(Phase::Hunt, window, 0, 0),
-            event: event,
+            event: Event {
+                frame: FrameBit::None,
+                request: request,
+            },
         }
     }
 
@@ -250,11 +263,11 @@ impl Heard {
     {
         let m = classify(window);
         match m {
-            Meaning::Quiet => Heard::hunting(window, Event::Nothing),
-            Meaning::Trigger { flip } => Heard::hunting(0, Event::Lv1 { flip: flip }),
+            Meaning::Quiet => Heard::hunting(window, Request::Nothing),
+            Meaning::Trigger { flip } => Heard::hunting(0, Request::Lv1 { flip: flip }),
             Meaning::Header => Heard {
                 next: Recogniser::start(Phase::Body, 0, 0, 0),
-                event: Event::Nothing,
+                event: Event::NOTHING,
             },
         }
     }
@@ -286,7 +299,7 @@ impl Recogniser {
         self.count = self.count + 1;
         Heard {
             next: self,
-            event: Event::Nothing,
+            event: Event::NOTHING,
         }
     }
 
@@ -306,15 +319,18 @@ impl Recogniser {
             return self.gather(body);
         }
         if is_fast(body) {
-            return Heard::hunting(0, Event::Fast { body: body });
+            return Heard::hunting(0, Request::Fast { body: body });
         }
         if body == 0b1011 {
             return Heard {
                 next: Recogniser::start(Phase::Field3, 0, 0, 0),
-                event: Event::SlowBegins,
+                event: Event {
+                    frame: FrameBit::None,
+                    request: Request::LeaveRunMode,
+                },
             };
         }
-        Heard::hunting(0, Event::BadFast { body: body })
+        Heard::hunting(0, Request::BadFast { body: body })
     }
 
     fn field3(self, bit: u8) -> Heard
@@ -327,7 +343,7 @@ impl Recogniser {
         }
         Heard {
             next: Recogniser::start(Phase::Field4, 0, command, 0),
-            event: Event::Nothing,
+            event: Event::NOTHING,
         }
     }
 
@@ -343,13 +359,13 @@ impl Recogniser {
         if 0 < length(command, cnt) {
             return Heard {
                 next: Recogniser::start(Phase::Field5, 0, command, address),
-                event: Event::Nothing,
+                event: Event::NOTHING,
             };
         }
         if is_frame(command) {
             return Heard::hunting(
                 0,
-                Event::FrameEnd {
+                Request::Frame {
                     command: command,
                     unsteady: false,
                 },
@@ -379,7 +395,7 @@ impl Recogniser {
         next.count = self.count + 1;
         Heard {
             next: next,
-            event: Event::Nothing,
+            event: Event::NOTHING,
         }
     }
 
@@ -398,50 +414,49 @@ impl Recogniser {
         (bit == 1) != now.first
     }
 
-    fn frame_event(self, bit: u8, ends: bool) -> Event
-        ensures { λ r. ⌜ r ≡ frameEventOf self bit ends ⌝ }
+    // The frame bit that this cycle stores.
+    fn frame_bit(self, bit: u8) -> FrameBit
+        ensures { λ r. ⌜ r ≡ frameBitOf self bit ⌝ }
     {
-        let command = self.command;
-        let at = place(command, self.count);
-        if stores(command, self.count) {
-            if ends {
-                return Event::FrameEndBit {
-                    command: command,
-                    unsteady: self.unsteady_with(bit),
-                    place: at,
-                    bit: bit,
-                };
-            }
-            return Event::FrameBit {
-                place: at,
+        if stores(self.command, self.count) {
+            return FrameBit::At {
+                place: place(self.command, self.count),
                 bit: bit,
             };
         }
-        if ends {
-            return Event::FrameEnd {
-                command: command,
-                unsteady: self.unsteady_with(bit),
-            };
-        }
-        Event::Nothing
+        FrameBit::None
     }
 
     // Field 5 of a frame.
     fn frame_field(self, bit: u8, cnt: u16) -> Heard
         ensures { λ r. ⌜ r ≡ frameFieldOf self bit cnt ⌝ }
     {
+        let frame = self.frame_bit(bit);
+        let unsteady = self.unsteady_with(bit);
         if self.ends(cnt) {
-            return Heard::hunting(0, self.frame_event(bit, true));
+            return Heard {
+                next: Recogniser::start(Phase::Hunt, 0, 0, 0),
+                event: Event {
+                    frame: frame,
+                    request: Request::Frame {
+                        command: self.command,
+                        unsteady: unsteady,
+                    },
+                },
+            };
         }
         let g = self.group;
         let group = g.with(self.count, bit);
         let mut next = self;
-        next.unsteady = self.unsteady_with(bit);
+        next.unsteady = unsteady;
         next.group = group;
         next.count = self.count + 1;
         Heard {
             next: next,
-            event: self.frame_event(bit, false),
+            event: Event {
+                frame: frame,
+                request: Request::Nothing,
+            },
         }
     }
 

@@ -6,8 +6,8 @@ use mathlib.Core.List.{[], _∷_}
 use Prim.Native.Nat.{ℕ, zero, suc, _+_, _-_}
 use lib.ListN.{length, replicate}
 use Rattle.recogniser.specs.declared.Phase.the-variants.{Field5}
-use Rattle.recogniser.specs.declared.Event.{Event}
-use Rattle.recogniser.specs.declared.Event.the-variants.{Nothing, Lv1, Fast, BadFast, SlowBegins, Slow, BadSlow, FrameBit, FrameEnd, FrameEndBit}
+use Rattle.recogniser.specs.declared.FrameBit.{FrameBit}
+use Rattle.recogniser.specs.declared.FrameBit.the-variants.{None, At}
 use Rattle.recogniser.specs.declared.Recogniser.{Recogniser}
 use Rattle.recogniser.specs.Parts.{startOf}
 use Rattle.recogniser.specs.Fields.{lengthOf}
@@ -40,22 +40,14 @@ inField count =
       unsteady = r .unsteady;
     }
 
-abbrev pub isFrameBit : Event → ℕ
-isFrameBit Nothing = 0
-isFrameBit (Lv1 flip) = 0
-isFrameBit (Fast body) = 0
-isFrameBit (BadFast body) = 0
-isFrameBit SlowBegins = 0
-isFrameBit (Slow command address value) = 0
-isFrameBit (BadSlow command) = 0
-isFrameBit (FrameBit place bit) = 1
-isFrameBit (FrameEnd command unsteady) = 0
-isFrameBit (FrameEndBit command unsteady place bit) = 1
+abbrev pub isFrameBit : FrameBit → ℕ
+isFrameBit None = 0
+isFrameBit (At place bit) = 1
 
 -- How many frame bits are stored over so many cycles of ones, by a CNT.
 abbrev pub storedBits : ℕ → ℕ → Recogniser → ℕ
 storedBits zero cnt r = 0
-storedBits (suc n) cnt r = isFrameBit (stepOf r 1 cnt .event) + storedBits n cnt (stepOf r 1 cnt .next)
+storedBits (suc n) cnt r = isFrameBit (stepOf r 1 cnt .event .frame) + storedBits n cnt (stepOf r 1 cnt .next)
 
 -- Inside a WrFrontEnd, CNT FFFF, from the default opening.
 abbrev pub receiving : ℕ → Decoder

@@ -10,6 +10,7 @@ use recogniser::Heard;
 use recogniser::Meaning;
 use recogniser::Phase;
 use recogniser::Recogniser;
+use recogniser::Request;
 
 // How many cycles, the recogniser after them, and what the last of them asks for.
 pub struct Stretch {
@@ -60,7 +61,7 @@ fn hunt_on(shift: u8, input: &[u8], place: usize, end: usize) -> Stretch
         }
         return Stretch::of(at - place, Heard::hunted(window));
     }
-    Stretch::of(at - place, Heard::hunting(window, Event::Nothing))
+    Stretch::of(at - place, Heard::hunting(window, Request::Nothing))
 }
 
 // The same phase, with these bits of it received.
@@ -92,7 +93,7 @@ fn body_on(r: Recogniser, input: &[u8], place: usize, end: usize) -> Stretch
     Stretch {
         taken: at - place,
         next: standing(r, nibble, count),
-        event: Event::Nothing,
+        event: Event::NOTHING,
     }
 }
 

@@ -4,6 +4,7 @@ pub mod Ends
 pub mod Calls
 pub mod Refusals
 pub mod Stretched
+pub mod Performs
 pub mod Loop
 pub mod Slows
 pub mod Stays

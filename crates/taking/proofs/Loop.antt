@@ -1,7 +1,7 @@
 -- What the taking loop keeps, and what each way through its body does to that.
 -- Assumes nothing.
 use mathlib.Core.Path.{_≡_, _∙_, refl, sym, ap}
-use mathlib.Core.Bool.{true, false, cond}
+use mathlib.Core.Bool.{Bool, true, false, cond}
 use mathlib.Core.List.{List, _∷_, _++_}
 use Prim.Native.Nat.{ℕ, zero, suc, _+_, _-_, _/_, _<_, _≤_}
 use native.Mathlib.Nat.{add-zero}
@@ -10,23 +10,26 @@ use borrow.Author.Tests.{lt-ltb}
 use lib.ListN.{length, set, take, drop, length-set, length-take, length-drop, take-append-drop}
 use lib.Seq.{sets, set-append-left, take-set-le, drop-set-add}
 use Rattle.bits.specs.Bits.{bitOf, bitsOf}
-use Rattle.recogniser.specs.declared.Event.the-variants as event
+use Rattle.bits.proofs.Truth.{clash}
+use Rattle.recogniser.specs.declared.Request.the-variants as request
 use Rattle.recogniser.specs.declared.Recogniser.{Recogniser}
 use Rattle.stretches.specs.declared.Stretch.{Stretch}
 use Rattle.stretches.specs.Stretch.{stretchOf}
 use Rattle.stretches.proofs.Stretches.{Passes, ends, last, more, stretch-passes, stretch-some, stretch-within}
 use Rattle.frames.specs.Tray.{trayOf}
+use Rattle.registers.specs.declared.Plan.{Plan}
 use Rattle.registers.specs.declared.Model.{Model}
 use Rattle.registers.specs.Registers.{cntOf}
-use Rattle.controller.specs.declared.Acted.{Acted}
+use Rattle.controller.specs.declared.Cycle.{Cycle}
 use Rattle.controller.specs.declared.Cycle.the-variants.{Nothing, Record}
 use Rattle.controller.specs.Records.{isFrameHead}
 use Rattle.controller.specs.Commands.{Effect, actOf}
-use Rattle.controller.specs.Events.{eventFits}
+use Rattle.controller.specs.Requests.{requestFits}
 use Rattle.controller.proofs.Heard.{heard-fits}
 use Rattle.decoder.specs.declared.Decoder.{Decoder}
 use Rattle.taking.specs.declared.Ending.{Ending}
 use Rattle.taking.specs.declared.Ending.the-variants.{Done, Frame, ListFull}
+use Rattle.taking.specs.Perform.{Performing, written, performOf}
 use Rattle.taking.specs.Run.{Run, ended, oneBit, oneRecord, afterCycle, runOf}
 use Rattle.taking.specs.Turn.{World, turnOf}
 use Rattle.taking.specs.Take.{Call, Left, finished, takenOf}
@@ -134,7 +137,18 @@ wrote-one taken at free x v list r h =
       list = sets (set (set list at x) (a i) v) (b i) (r .words);
     }
 
-passes-fit : {cnt : ℕ} {r : Recogniser} {bits : List ℕ} {s : Stretch} → Passes cnt r bits s → eventFits (s .event) ≡ true
+-- Once a request is performed, the call goes on, or it stops at a frame's record.
+pub record Goes (d : Decoder) (c : Call) (tray : List ℕ) (r : Recogniser) (taken : ℕ) (p : Performing) : Type 0 where
+  pub from : c .free ≤ p .performed .at
+  pub onwards : p .performed .stops ≡ false → Going d c (p .store) tray (p .list) r (p .performed .model) (p .performed .cnt) taken (p .performed .at)
+  pub stopped : p .performed .stops ≡ true → answered c (worldAt d (p .store) tray r (p .performed .model) taken) taken (p .performed .at) Frame (p .list) ≡ takenOf d c
+
+-- a record leaves the store
+same-store : (plan : Plan) (m : Model) (y : Cycle) (store list : List ℕ) (at : ℕ) → length (written plan m y store list at .store) ≡ length store
+same-store plan m Nothing store list at = refl
+same-store plan m (Record x v) store list at = refl
+
+passes-fit : {cnt : ℕ} {r : Recogniser} {bits : List ℕ} {s : Stretch} → Passes cnt r bits s → requestFits (s .event .request) ≡ true
 passes-fit (ends r) = refl
 passes-fit {cnt} (last r bit bits) = heard-fits r bit cnt
 passes-fit (more r bit bits s silent p) = passes-fit p
@@ -143,11 +157,10 @@ module _ {d : Decoder} {c : Call} {store tray list : List ℕ} {r : Recogniser} 
   abbrev here : World
   here = worldAt d store tray r m taken
 
-  pub done : c .count ≤ taken → answered c (worldAt d store tray r m (c .count)) taken at Done list ≡ takenOf d c
+  pub done : c .count ≤ taken → answered c here taken at Done list ≡ takenOf d c
   done h =
       let e : c .count - taken ≡ 0 = omega arith in
-      let n : d .next + c .count ≡ d .next + taken = omega (arith, g .low) in
-      rw n (ending c here Done taken at list ∙ (rw e at (g .rest)))
+      ending c here Done taken at list ∙ (rw e at (g .rest))
 
   module _ (more : taken < c .count) where
     first : left c taken ≡ bitOf (c .input) (c .first + taken) ∷ bitsOf (c .input) (c .first + taken + 1) (c .count - taken - 1)
@@ -183,7 +196,7 @@ module _ {d : Decoder} {c : Call} {store tray list : List ℕ} {r : Recogniser} 
       passes = rw (went, first) (stretch-passes r cnt _ _)
 
       -- what the last cycle of a stretch asks for has a record that fits
-      pub stretched-fits : eventFits (s .event) ≡ true
+      pub stretched-fits : requestFits (s .event .request) ≡ true
       stretched-fits = passes-fit passes
 
       after : drop (s .taken) (left c taken) ≡ left c on
@@ -196,71 +209,75 @@ module _ {d : Decoder} {c : Call} {store tray list : List ℕ} {r : Recogniser} 
       time : d .next + taken + s .taken - 1 ≡ d .next + on - 1
       time = omega arith
 
-      module _ (a : Acted) (store₁ tray₁ : List ℕ)
-          (did : _≡_ {A = Effect} (record { acted = a; store = store₁ }) (actOf (d .plan) m (s .event) (d .next + on - 1) store))
-          (put : tray₁ ≡ trayOf tray (s .event)) where
-        abbrev there : World
-        there = worldAt d store₁ tray₁ (s .next) (a .model) on
+      module _ (tray₁ : List ℕ) (put : tray₁ ≡ trayOf tray (s .event .frame)) (kept-tray : length tray₁ ≡ length tray) where
+        module _ (f : Effect) (did : f ≡ actOf (d .plan) m (s .event .request) (d .next + on - 1) store) (kept : length (f .store) ≡ length store) where
+          abbrev there : World
+          there = worldAt d (f .store) tray₁ (s .next) (f .acted .model) on
 
-        lands : landed here s ≡ record { state = there; cycle = a .cycle }
-        lands =
-            let e : d .next + taken + s .taken ≡ d .next + on = omega arith in
-            rw (time, e, ← did, put)
+          lands : landed here s ≡ record { state = there; cycle = f .acted .cycle }
+          lands =
+              let e : d .next + taken + s .taken ≡ d .next + on = omega arith in
+              rw (time, e, ← did, put)
 
-        onward : finished on ((at - c .free) / 2) list at (afterCycle (runOf turnOf (left c on)) there (a .cycle) (length list - at)) ≡ takenOf d c
-        onward =
-            let e : (n : ℕ) → on + n ≡ taken + (s .taken + n) = λ n. omega arith in
-            let k : cntOf (d .plan) m ≡ cnt = sym (g .cnt-is) in
-            let run : Run World = afterCycle (runOf turnOf (left c on)) there (a .cycle) (length list - at) in
-            let to : runOf turnOf (left c taken) here (length list - at) ≡ bitsAhead (s .taken) run =
-            run-stretch cnt (length list - at) room passes here refl k
-            ∙ (λ i. bitsAhead (s .taken) (afterCycle (runOf turnOf (after i)) (lands i .state) (lands i .cycle) (length list - at))) in
-            rw (e (run .bits)) (ap (finished taken ((at - c .free) / 2) list at) (sym to) ∙ g .rest)
+          onward : finished on ((at - c .free) / 2) list at (afterCycle (runOf turnOf (left c on)) there (f .acted .cycle) (length list - at)) ≡ takenOf d c
+          onward =
+              let e : (n : ℕ) → on + n ≡ taken + (s .taken + n) = λ n. omega arith in
+              let k : cntOf (d .plan) m ≡ cnt = sym (g .cnt-is) in
+              let run : Run World = afterCycle (runOf turnOf (left c on)) there (f .acted .cycle) (length list - at) in
+              let to : runOf turnOf (left c taken) here (length list - at) ≡ bitsAhead (s .taken) run =
+              run-stretch cnt (length list - at) room passes here refl k
+              ∙ (λ i. bitsAhead (s .taken) (afterCycle (runOf turnOf (after i)) (lands i .state) (lands i .cycle) (length list - at))) in
+              rw (e (run .bits)) (ap (finished taken ((at - c .free) / 2) list at) (sym to) ∙ g .rest)
 
-        module _ (kept : length store₁ ≡ length store) (kept-tray : length tray₁ ≡ length tray) (cnt₁ : ℕ) (fresh : cnt₁ ≡ cntOf (d .plan) (a .model)) where
-          pub silent : a .cycle ≡ Nothing → Going d c store₁ tray₁ list (s .next) (a .model) cnt₁ on at
-          silent n = record {
-            low = moved .1;
+          goes : (y : Cycle) → f .acted .cycle ≡ y → Goes d c tray₁ (s .next) on (written (d .plan) (f .acted .model) y (f .store) list at)
+          goes Nothing e = record {
             from = g .from;
-            fits = g .fits;
-            same = g .same;
-            long = kept ∙ g .long;
-            wide = kept-tray ∙ g .wide;
-            cnt-is = fresh;
-            rest = rw n at onward;
+            onwards = λ _. record {
+              low = moved .1;
+              from = g .from;
+              fits = g .fits;
+              same = g .same;
+              long = kept ∙ g .long;
+              wide = kept-tray ∙ g .wide;
+              cnt-is = refl;
+              rest = rw e at onward;
+            };
+            stopped = λ t. clash t refl;
           }
+          goes (Record x v) e =
+              let list₁ : List ℕ = set (set list at x) (at + 1) v in
+              let same-list : length list₁ ≡ length list = simp length-set in
+              let low : c .free ≤ at + 2 = omega (arith, g .from) in
+              let next : Bool → Run World = λ b. cond b (ended there Frame) (runOf turnOf (left c on) there (length list - at - 2)) in
+              let recorded : finished on ((at + 2 - c .free) / 2) list₁ (at + 2) (next (isFrameHead x)) ≡ takenOf d c =
+              sym (wrote-one on at (c .free) x v list (next (isFrameHead x)) (g .from)) ∙ (rw e at onward) in
+              record {
+                from = low;
+                onwards = λ h.
+                    let n : length list - at - 2 ≡ length list₁ - (at + 2) = omega (arith, same-list) in
+                    record {
+                      low = moved .1;
+                      from = low;
+                      fits = omega (arith, same-list);
+                      same = same-list ∙ g .same;
+                      long = kept ∙ g .long;
+                      wide = kept-tray ∙ g .wide;
+                      cnt-is = refl;
+                      rest = rw n at (rw h at recorded);
+                    };
+                stopped = λ h. ending c there Frame on (at + 2) list₁ ∙ (rw h at recorded);
+              }
 
-          module _ (x v : ℕ) (is : a .cycle ≡ Record x v) (list₁ : List ℕ) (wrote : list₁ ≡ set (set list at x) (at + 1) v) where
-            same-list : length list₁ ≡ length list
-            same-list = rw wrote (simp length-set)
+        -- a stretch that asks nothing of the controller
+        pub quiet : s .event .request ≡ request.Nothing → Going d c store tray₁ list (s .next) m cnt on at
+        unfolding actOf
+        quiet e = rw (g .cnt-is) (goes (record { acted = record { model = m; cycle = Nothing }; store = store }) (rw e) refl Nothing refl .onwards refl)
 
-            next-run : Run World
-            next-run = cond (isFrameHead x) (ended there Frame) (runOf turnOf (left c on) there (length list - at - 2))
-
-            recorded : finished on ((at + 2 - c .free) / 2) list₁ (at + 2) next-run ≡ takenOf d c
-            unfolding next-run
-            recorded = rw wrote (sym (wrote-one on at (c .free) x v list next-run (g .from)) ∙ (rw is at onward))
-
-            pub framed : isFrameHead x ≡ true → answered c there on (at + 2) Frame list₁ ≡ takenOf d c
-            unfolding next-run
-            framed f = ending c there Frame on (at + 2) list₁ ∙ (rw f at recorded)
-
-            pub again : isFrameHead x ≡ false → Going d c store₁ tray₁ list₁ (s .next) (a .model) cnt₁ on (at + 2)
-            unfolding next-run
-            again f =
-                let e : length list - at - 2 ≡ length list₁ - (at + 2) = omega (arith, same-list) in
-                record {
-                  low = moved .1;
-                  from = let h = g .from in omega arith;
-                  fits = omega (arith, same-list);
-                  same = same-list ∙ g .same;
-                  long = kept ∙ g .long;
-                  wide = kept-tray ∙ g .wide;
-                  cnt-is = fresh;
-                  rest = rw e at (rw f at recorded);
-                }
-
-      -- a stretch that asks for nothing
-      pub quiet : s .event ≡ event.Nothing → Going d c store tray list (s .next) m cnt on at
-      unfolding actOf trayOf
-      quiet e = silent (record { model = m; cycle = Nothing }) store tray (rw e) (rw e) refl refl cnt (g .cnt-is) refl
+        -- a stretch whose request is performed
+        pub performed : (p : Performing) → p ≡ performOf (d .plan) m (s .event .request) (d .next + on - 1) store list at → length (p .store) ≡ length store
+            → Goes d c tray₁ (s .next) on p
+        unfolding performOf
+        performed p e kept =
+            let f : Effect = actOf (d .plan) m (s .event .request) (d .next + on - 1) store in
+            let k : length (f .store) ≡ length store = sym (ap (λ (q : Performing). length (q .store)) e ∙ same-store (d .plan) (f .acted .model) (f .acted .cycle) (f .store) list at) ∙ kept in
+            rw e (goes f refl k (f .acted .cycle) refl)

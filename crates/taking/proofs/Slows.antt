@@ -1,4 +1,4 @@
--- A step against Slow commands: it leaves the recogniser idle, begins a Slow, or goes on with an event that leaves RunMode and registers alone.
+-- A step against Slow commands: it leaves the recogniser idle, begins a Slow, or goes on with a request that leaves RunMode and registers alone.
 -- Assumes nothing.
 use mathlib.Core.Bool.{false}
 use mathlib.Core.Path.{_≡_, refl}
@@ -9,28 +9,28 @@ use Rattle.recogniser.specs.declared.Phase.{Phase}
 use Rattle.recogniser.specs.declared.Phase.the-variants.{Hunt, Body, Field3, Field4, Field5}
 use Rattle.recogniser.specs.declared.Meaning.{Meaning}
 use Rattle.recogniser.specs.declared.Meaning.the-variants.{Quiet, Trigger, Header}
-use Rattle.recogniser.specs.declared.Event.{Event}
-use Rattle.recogniser.specs.declared.Event.the-variants.{Nothing, SlowBegins}
+use Rattle.recogniser.specs.declared.FrameBit.{FrameBit}
+use Rattle.recogniser.specs.declared.Request.{Request}
+use Rattle.recogniser.specs.declared.Request.the-variants.{Nothing, LeaveRunMode}
 use Rattle.recogniser.specs.declared.Recogniser.{Recogniser}
 use Rattle.recogniser.specs.declared.Heard.{Heard}
 use Rattle.recogniser.specs.Parts.{shifted, idle, heard}
 use Rattle.recogniser.specs.Hunting.{isFast, meaningOf, huntBy}
 use Rattle.recogniser.specs.Fields.{isFrame, lengthOf, endsOf}
-use Rattle.recogniser.specs.Groups.{storesOf, frameEventOf}
 use Rattle.recogniser.specs.Step.{stepBy, stepOf}
-use Rattle.controller.specs.Events.{changesRegisters, changesRunning}
+use Rattle.controller.specs.Requests.{changesRegisters, changesRunning}
 use Rattle.decoder.specs.Sound.{insideSlow}
 
--- An event that leaves registers and RunMode alone.
-pub record Keeps (e : Event) : Type 0 where
+-- A request that leaves registers and RunMode alone.
+pub record Keeps (e : Request) : Type 0 where
   pub registers : changesRegisters e ≡ false
   pub running : changesRunning e ≡ false
 
 -- What a step may do, by the recogniser before it.
 pub data Steps (r : Recogniser) : Heard → Type 0 where
-  over : {e : Event} → Steps r (heard idle e)
-  begins : {next : Recogniser} → Steps r (heard next SlowBegins)
-  goes-on : {next : Recogniser} {e : Event} → Keeps e → (T (insideSlow (next .phase)) → T (insideSlow (r .phase))) → Steps r (heard next e)
+  over : {f : FrameBit} {e : Request} → Steps r (heard idle (record { frame = f; request = e }))
+  begins : {next : Recogniser} {f : FrameBit} → Steps r (heard next (record { frame = f; request = LeaveRunMode }))
+  goes-on : {next : Recogniser} {f : FrameBit} {e : Request} → Keeps e → (T (insideSlow (next .phase)) → T (insideSlow (r .phase))) → Steps r (heard next (record { frame = f; request = e }))
 
 nothing-keeps : Keeps Nothing
 nothing-keeps = record { registers = refl; running = refl }
@@ -41,10 +41,6 @@ hunt-steps r w (Trigger flip) = over
 hunt-steps r w Header = goes-on nothing-keeps (λ t. absurd t)
 
 module _ (r : Recogniser) (bit cnt : ℕ) where
-  frame-keeps : Keeps (frameEventOf r bit false)
-  frame-keeps =
-      cond-case Keeps (storesOf (r .command) (r .count)) (λ _. record { registers = refl; running = refl }) (λ _. nothing-keeps)
-
   phase-steps : (p : Phase) → (T (insideSlow p) → T (insideSlow (r .phase))) → Steps r (stepBy p r bit cnt)
   phase-steps Hunt inside = hunt-steps r (shifted 5 (r .shift) bit) (meaningOf (shifted 5 (r .shift) bit))
   phase-steps Body inside =
@@ -61,7 +57,7 @@ module _ (r : Recogniser) (bit cnt : ℕ) where
       (λ _. cond-case (Steps r) (isFrame (r .command)) (λ _. over) (λ _. over)))
   phase-steps Field5 inside =
       cond-case (Steps r) (isFrame (r .command))
-      (λ _. cond-case (Steps r) (endsOf r cnt) (λ _. over) (λ _. goes-on frame-keeps (λ t. t)))
+      (λ _. cond-case (Steps r) (endsOf r cnt) (λ _. over) (λ _. goes-on nothing-keeps (λ t. t)))
       (λ _. cond-case (Steps r) (endsOf r cnt) (λ _. over) (λ _. goes-on nothing-keeps (λ t. t)))
 
   pub slow-steps : Steps r (stepOf r bit cnt)

@@ -11,7 +11,7 @@ use lib.ListN.{length, take}
 use borrow.Author.Tests.{leb-true, leb-false, not-false}
 use Rattle.bits.specs.Bits.{bitOf, bitsOf}
 use Rattle.bits.proofs.Truth.{choice}
-use Rattle.recogniser.specs.declared.Event.the-variants.{SlowBegins}
+use Rattle.recogniser.specs.declared.Request.the-variants.{LeaveRunMode}
 use Rattle.recogniser.specs.declared.Recogniser.{Recogniser}
 use Rattle.recogniser.specs.declared.Heard.{Heard}
 use Rattle.registers.specs.declared.Plan.{Plan}
@@ -63,14 +63,14 @@ start-sound plan cycle =
 -- RunMode stays off inside a Slow, and the recogniser stays fit by CNT as it then stands.
 module _ (plan : Plan) (m : Model) (r : Recogniser) (time : ℕ) (store : List ℕ) where
   stays-stopped : {h : Heard} → Steps r h → (T (insideSlow (r .phase)) → m .running ≡ false)
-      → T (insideSlow (h .next .phase)) → after plan m (h .event) time store .running ≡ false
+      → T (insideSlow (h .next .phase)) → after plan m (h .event .request) time store .running ≡ false
   stays-stopped over off t = absurd t
   stays-stopped begins off t = begins-stops plan m time store
   stays-stopped (goes-on {e = e} k inside) off t = running-kept plan m e time store (k .running) ∙ off (inside t)
 
-  stays-fit : {h : Heard} → Steps r h → T (fitOf (h .next) (cntOf plan m)) → T (fitOf (h .next) (cntOf plan (after plan m (h .event) time store)))
+  stays-fit : {h : Heard} → Steps r h → T (fitOf (h .next) (cntOf plan m)) → T (fitOf (h .next) (cntOf plan (after plan m (h .event .request) time store)))
   stays-fit over t = start-fits _
-  stays-fit begins t = rw (cnt-kept plan m SlowBegins time store refl) t
+  stays-fit begins t = rw (cnt-kept plan m LeaveRunMode time store refl) t
   stays-fit (goes-on {e = e} k inside) t = rw (cnt-kept plan m e time store (k .registers)) t
 
 -- A cycle keeps a sound state sound.
@@ -84,10 +84,10 @@ turn-sound w bit b t below =
     sound (turnOf w bit .state .decoder) (record {
       plan = s .plan;
       next = omega arith;
-      base = omega (arith, base-low (d .plan) (d .model) (h .event) (d .next) (w .store) (s .base));
-      writes = writes-fit (d .plan) (d .model) (h .event) (d .next) (w .store) (s .writes);
-      reads = reads-fit (d .plan) (d .model) (h .event) (d .next) (w .store) (s .reads);
-      missing = missing-zero (d .plan) (d .model) (h .event) (d .next) (w .store) (s .missing);
+      base = omega (arith, base-low (d .plan) (d .model) (h .event .request) (d .next) (w .store) (s .base));
+      writes = writes-fit (d .plan) (d .model) (h .event .request) (d .next) (w .store) (s .writes);
+      reads = reads-fit (d .plan) (d .model) (h .event .request) (d .next) (w .store) (s .reads);
+      missing = missing-zero (d .plan) (d .model) (h .event .request) (d .next) (w .store) (s .missing);
       stopped = stays-stopped (d .plan) (d .model) (d .recogniser) (d .next) (w .store) k (s .stopped);
       fits = stays-fit (d .plan) (d .model) (d .recogniser) (d .next) (w .store) k (step-fits (d .recogniser) bit _ b (s .fits));
     })

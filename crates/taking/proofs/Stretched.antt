@@ -7,11 +7,12 @@ use Prim.Native.Nat.{ℕ, suc, _+_, _-_, _≤_}
 use native.Mathlib.Omega.{arith}
 use borrow.Author.Tests.{le-ltb}
 use lib.ListN.{drop}
+use Rattle.recogniser.specs.declared.Request.{Request}
+use Rattle.recogniser.specs.declared.Request.the-variants.{Nothing}
 use Rattle.recogniser.specs.declared.Event.{Event}
-use Rattle.recogniser.specs.declared.Event.the-variants.{Nothing}
 use Rattle.recogniser.specs.declared.Recogniser.{Recogniser}
 use Rattle.recogniser.specs.declared.Heard.{Heard}
-use Rattle.recogniser.specs.Parts.{heard}
+use Rattle.recogniser.specs.Parts.{silent, heard, asked}
 use Rattle.recogniser.specs.Step.{stepOf}
 use Rattle.stretches.specs.declared.Stretch.{Stretch}
 use Rattle.stretches.specs.Stretch.{stretched, oneMore}
@@ -25,16 +26,16 @@ use Rattle.taking.specs.declared.Ending.the-variants.{Done, ListFull}
 use Rattle.taking.specs.Run.{Turned, Run, ended, oneBit, afterCycle, runOf}
 use Rattle.taking.specs.Turn.{World, turned, turnOf}
 
--- The turn that a stretch makes: its last event acts in the cycle of its last bit.
-abbrev pub effectAt : World → Event → ℕ → Effect
-effectAt w e time = actOf (w .decoder .plan) (w .decoder .model) e time (w .store)
+-- The turn that a stretch makes: its last request acts in the cycle of its last bit.
+abbrev pub effectAt : World → Request → ℕ → Effect
+effectAt w q time = actOf (w .decoder .plan) (w .decoder .model) q time (w .store)
 
 abbrev pub landedBy : World → ℕ → Recogniser → Event → ℕ → Effect → Turned World
 landedBy w taken r e time f = record {
   state = record {
     decoder = record { plan = w .decoder .plan; next = w .decoder .next + taken; recogniser = r; model = f .acted .model };
     store = f .store;
-    tray = trayOf (w .tray) e;
+    tray = trayOf (w .tray) (e .frame);
   };
   cycle = f .acted .cycle;
 }
@@ -42,7 +43,7 @@ landedBy w taken r e time f = record {
 abbrev pub landed : World → Stretch → Turned World
 landed w s =
     let time = w .decoder .next + s .taken - 1 in
-    landedBy w (s .taken) (s .next) (s .event) time (effectAt w (s .event) time)
+    landedBy w (s .taken) (s .next) (s .event) time (effectAt w (s .event .request) time)
 
 -- So many bits ahead of a run.
 abbrev pub bitsAhead : ℕ → Run World → Run World
@@ -59,10 +60,10 @@ passed w r = record {
   tray = w .tray;
 }
 
-silent-turn : (w : World) (h : Heard) → h .event ≡ Nothing
-    → turned w h (effectAt w (h .event) (w .decoder .next)) ≡ record { state = passed w (h .next); cycle = cycle.Nothing }
+silent-turn : (w : World) (h : Heard) → h .event ≡ silent
+    → turned w h (effectAt w (h .event .request) (w .decoder .next)) ≡ record { state = passed w (h .next); cycle = cycle.Nothing }
 unfolding actOf trayOf
-silent-turn w h e = ap (λ (x : Event). turned w (heard (h .next) x) (effectAt w x (w .decoder .next))) e
+silent-turn w h e = ap (λ (x : Event). turned w (heard (h .next) x) (effectAt w (x .request) (w .decoder .next))) e
 
 same-landing : (w : World) (s : Stretch) (r : Recogniser) → landed (passed w r) s ≡ landed w (oneMore s)
 same-landing w s r =
@@ -87,8 +88,8 @@ unfolding turnOf
 turn-lands w bit cnt e =
     let h : Heard = stepOf (w .decoder .recogniser) bit cnt in
     let t : w .decoder .next ≡ w .decoder .next + 1 - 1 = omega arith in
-    ap (λ c. let g : Heard = stepOf (w .decoder .recogniser) bit c in turned w g (effectAt w (g .event) (w .decoder .next))) e
-    ∙ ap (λ n. landedBy w 1 (h .next) (h .event) n (effectAt w (h .event) n)) t
+    ap (λ c. let g : Heard = stepOf (w .decoder .recogniser) bit c in turned w g (effectAt w (g .event .request) (w .decoder .next))) e
+    ∙ ap (λ n. landedBy w 1 (h .next) (h .event) n (effectAt w (h .event .request) n)) t
 
 module _ (cnt room : ℕ) (enough : 2 ≤ room) where
   -- where two words are free, the next bit is taken
@@ -110,7 +111,7 @@ module _ (cnt room : ℕ) (enough : 2 ≤ room) where
       ∙ ap (λ (t : Turned World). oneBit (afterCycle (runOf turnOf bits) (t .state) (t .cycle) room)) (turn-lands w bit cnt e)
       ∙ ap oneBit (none-ahead (one-left w bit bits)) ∙ one-ahead 0 (one-left w bit bits)
 
-  at-end : (w : World) → runOf turnOf [] w room ≡ rest w [] (stretched 0 (heard (w .decoder .recogniser) Nothing)) room
+  at-end : (w : World) → runOf turnOf [] w room ≡ rest w [] (stretched 0 (asked (w .decoder .recogniser) Nothing)) room
   unfolding actOf trayOf
   at-end w =
       let n : w .decoder .next ≡ w .decoder .next + 0 = omega arith in
@@ -118,14 +119,14 @@ module _ (cnt room : ℕ) (enough : 2 ≤ room) where
       ap (λ m. ended (record { decoder = d m; store = w .store; tray = w .tray }) Done) n
 
   one-silent : (w : World) (bit : ℕ) (bits : List ℕ) (s : Stretch) → cntOf (w .decoder .plan) (w .decoder .model) ≡ cnt
-      → stepOf (w .decoder .recogniser) bit cnt .event ≡ Nothing
+      → stepOf (w .decoder .recogniser) bit cnt .event ≡ silent
       → runOf turnOf bits (passed w (stepOf (w .decoder .recogniser) bit cnt .next)) room ≡ rest (passed w (stepOf (w .decoder .recogniser) bit cnt .next)) bits s room
       → runOf turnOf (bit ∷ bits) w room ≡ rest w (bit ∷ bits) (oneMore s) room
   unfolding turnOf
-  one-silent w bit bits s e silent ih =
+  one-silent w bit bits s e none ih =
       let h : Heard = stepOf (w .decoder .recogniser) bit cnt in
       let to : turnOf w bit ≡ record { state = passed w (h .next); cycle = cycle.Nothing } =
-      ap (λ c. let g : Heard = stepOf (w .decoder .recogniser) bit c in turned w g (effectAt w (g .event) (w .decoder .next))) e ∙ silent-turn w h silent in
+      ap (λ c. let g : Heard = stepOf (w .decoder .recogniser) bit c in turned w g (effectAt w (g .event .request) (w .decoder .next))) e ∙ silent-turn w h none in
       first-bit w bit bits
       ∙ ap (λ (t : Turned World). oneBit (afterCycle (runOf turnOf bits) (t .state) (t .cycle) room)) to
       ∙ ap oneBit ih
@@ -134,8 +135,8 @@ module _ (cnt room : ℕ) (enough : 2 ≤ room) where
 
   pub run-stretch : {r : Recogniser} {bits : List ℕ} {s : Stretch} → Passes cnt r bits s → (w : World) → w .decoder .recogniser ≡ r
       → cntOf (w .decoder .plan) (w .decoder .model) ≡ cnt → runOf turnOf bits w room ≡ rest w bits s room
-  run-stretch (ends r) w h e = at-end w ∙ ap (λ (q : Recogniser). rest w [] (stretched 0 (heard q Nothing)) room) h
+  run-stretch (ends r) w h e = at-end w ∙ ap (λ (q : Recogniser). rest w [] (stretched 0 (asked q Nothing)) room) h
   run-stretch (last r bit bits) w h e = one-cycle w bit bits e ∙ ap (λ (q : Recogniser). rest w (bit ∷ bits) (stretched 1 (stepOf q bit cnt)) room) h
-  run-stretch (more r bit bits s silent p) w h e =
-      one-silent w bit bits s e (ap (λ (q : Recogniser). stepOf q bit cnt .event) h ∙ silent)
+  run-stretch (more r bit bits s none p) w h e =
+      one-silent w bit bits s e (ap (λ (q : Recogniser). stepOf q bit cnt .event) h ∙ none)
       (run-stretch p (passed w (stepOf (w .decoder .recogniser) bit cnt .next)) (ap (λ (q : Recogniser). stepOf q bit cnt .next) h) e)

@@ -1,4 +1,5 @@
 pub mod Entries
+pub mod Perform
 pub mod Run
 pub mod Turn
 pub mod Take

@@ -20,7 +20,7 @@ abbrev pub heardOf : Decoder → ℕ → Heard
 heardOf d bit = stepOf (d .recogniser) bit (cntOf (d .plan) (d .model))
 
 abbrev pub effectOf : Decoder → Heard → List ℕ → Effect
-effectOf d h store = actOf (d .plan) (d .model) (h .event) (d .next) store
+effectOf d h store = actOf (d .plan) (d .model) (h .event .request) (d .next) store
 
 -- "Each bit takes the next number. .. A record's time is the cycle of its command's last bit."
 abbrev pub turned : World → Heard → Effect → Turned World
@@ -28,7 +28,7 @@ turned w h e = record {
   state = record {
     decoder = record { plan = w .decoder .plan; next = w .decoder .next + 1; recogniser = h .next; model = e .acted .model };
     store = e .store;
-    tray = trayOf (w .tray) (h .event);
+    tray = trayOf (w .tray) (h .event .frame);
   };
   cycle = e .acted .cycle;
 }

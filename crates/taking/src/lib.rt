@@ -1,12 +1,15 @@
 // The taking call. It asks nothing of its caller: it refuses by number.
 ghost use mathlib.Core.Path.{_≡_};
-ghost use Prim.Native.Nat.{_+_, _*_, _/_, _≤_, _^_};
+ghost use Prim.Native.Nat.{_+_, _*_, _-_, _/_, _<_, _≤_, _^_};
 ghost use lib.ListN.{length, set};
+ghost use mathlib.Core.Bool.{true};
+ghost use Rattle.controller.specs.Requests.{requestFits};
+ghost use Rattle.taking.specs.Perform.{performOf};
 ghost use Rattle.taking.specs.Take.{buffersFit, rangeFits, takenOf, takeOf, endingNumber};
 use controller::Cycle;
 use decoder::Decoder;
-use recogniser::Event;
 use recogniser::Recogniser;
+use recogniser::Request;
 use registers::Model;
 use registers::Plan;
 
@@ -97,34 +100,79 @@ impl Taken {
         }
     }
 
-    // What a call tells after so many bits, with the list filled up to a word.
-    fn told(decoder: Decoder, bits: usize, words: usize, ending: Ending) -> Taken
-        ensures { λ r. ⌜ r ≡ (record { decoder = decoder; told = record { bits = bits; records = words / 2; ending = ending } }) ⌝ }
+    // What a call tells where it ends: the state that the loop's locals make up, the bits taken, and the list filled up to a word.
+    fn told(
+        plan: Plan,
+        start: u64,
+        recogniser: Recogniser,
+        model: Model,
+        taken: usize,
+        at: usize,
+        free: usize,
+        ending: Ending,
+    ) -> Taken
+        requires { ⌜ (start + taken ≤ 2 ^ 48) × (free ≤ at) ⌝ }
+        ensures { λ r. ⌜ r ≡ (record { decoder = record { plan = plan; next = start + taken; recogniser = recogniser; model = model }; told = record { bits = taken; records = (at - free) / 2; ending = ending } }) ⌝ }
     {
         Taken {
-            decoder: decoder,
+            decoder: Decoder {
+                plan: plan,
+                next: start + taken as u64,
+                recogniser: recogniser,
+                model: model,
+            },
             told: Told {
-                bits: bits,
-                records: words / Decoder::LIST_UNIT,
+                bits: taken,
+                records: (at - free) / Decoder::LIST_UNIT,
                 ending: ending,
             },
         }
     }
 }
 
-// The state that the loop's locals make up.
-fn joined(plan: Plan, next: u64, recogniser: Recogniser, model: Model) -> Decoder
-    ensures { λ r. ⌜ r ≡ (record { plan = plan; next = next; recogniser = recogniser; model = model }) ⌝ }
+// What is left once a request is performed: the model with its CNT, the next free word of the list, and whether the call stops here.
+struct Performed {
+    model: Model,
+    cnt: u16,
+    at: usize,
+    stops: bool,
+}
+
+// Performs a request at its cycle: its effect, and its record in the list.
+fn perform(
+    model: Model,
+    plan: Plan,
+    request: Request,
+    time: u64,
+    store: &mut [u32],
+    list: &mut [u64],
+    at: usize,
+) -> Performed
+    requires { ⌜ (time < 2 ^ 48) × (length (now store) ≡ 2048) × (requestFits request ≡ true) × (2 ≤ length (now list) - at) ⌝ }
+    ensures { λ r. ⌜ (record { performed = r; store = now (store .exit); list = now (list .exit) }) ≡ performOf plan model request time (now (store .entry)) (now (list .entry)) at ⌝ }
 {
-    Decoder {
-        plan: plan,
-        next: next,
-        recogniser: recogniser,
-        model: model,
+    let acted = controller::act(model, plan, request, time, store);
+    let m = acted.model;
+    let cnt = m.cnt(plan);
+    let cycle = acted.cycle;
+    let Cycle::Record { head, value } = cycle else {
+        return Performed {
+            model: m,
+            cnt: cnt,
+            at: at,
+            stops: false,
+        };
+    };
+    write_record(&mut list[at..], head, value);
+    Performed {
+        model: m,
+        cnt: cnt,
+        at: at + Decoder::LIST_UNIT,
+        stops: controller::is_frame_head(head),
     }
 }
 
-// A call that is not refused, stretch by stretch. The recogniser, CNT and the counts are locals; arrays are touched only when an event asks for it.
+// A call that is not refused, stretch by stretch. The recogniser, CNT and the counts are locals; arrays are touched only when a frame bit or a request asks for it.
 fn run(
     decoder: Decoder,
     input: &[u8],
@@ -148,35 +196,64 @@ fn run(
     let mut at = free;
     while taken < count {
         if list.len() - at < Decoder::LIST_UNIT {
-            let d = joined(plan, start + taken as u64, recogniser, model);
-            return Taken::told(d, taken, at - free, Ending::ListFull);
+            return Taken::told(
+                plan,
+                start,
+                recogniser,
+                model,
+                taken,
+                at,
+                free,
+                Ending::ListFull,
+            );
         }
         let stretch = stretches::advance(recogniser, input, first + taken, first + count, cnt);
         let next = stretch.next;
         recogniser = next;
         taken = taken + stretch.taken;
         let event = stretch.event;
-        if let Event::Nothing = event {
+        let frame = event.frame;
+        frames::keep(tray, frame);
+        let request = event.request;
+        if let Request::Nothing = request {
             continue;
         }
-        frames::keep(tray, event);
-        let acted = controller::act(model, plan, event, start + taken as u64 - 1, store);
-        let m = acted.model;
+        let done = perform(
+            model,
+            plan,
+            request,
+            start + taken as u64 - 1,
+            store,
+            list,
+            at,
+        );
+        let m = done.model;
         model = m;
-        cnt = m.cnt(plan);
-        let cycle = acted.cycle;
-        let Cycle::Record { head, value } = cycle else {
-            continue;
-        };
-        write_record(&mut list[at..], head, value);
-        at = at + Decoder::LIST_UNIT;
-        if controller::is_frame_head(head) {
-            let d = joined(plan, start + taken as u64, recogniser, model);
-            return Taken::told(d, taken, at - free, Ending::Frame);
+        cnt = done.cnt;
+        at = done.at;
+        if done.stops {
+            return Taken::told(
+                plan,
+                start,
+                recogniser,
+                model,
+                taken,
+                at,
+                free,
+                Ending::Frame,
+            );
         }
     }
-    let d = joined(plan, start + count as u64, recogniser, model);
-    Taken::told(d, taken, at - free, Ending::Done)
+    Taken::told(
+        plan,
+        start,
+        recogniser,
+        model,
+        taken,
+        at,
+        free,
+        Ending::Done,
+    )
 }
 
 // Takes bits `first` to `first + count` of the input, one a cycle, and writes their records into the rest of the list from word `free` on. It stops

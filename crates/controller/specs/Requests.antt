@@ -1,0 +1,35 @@
+-- What a request has whose record fits, and what requests change.
+-- Assumes nothing.
+use mathlib.Core.Bool.{Bool, true, false, _||_}
+use lib.Dec.{ltb, eqb}
+use Rattle.recogniser.specs.declared.Request.{Request}
+use Rattle.recogniser.specs.declared.Request.the-variants.{Nothing, LeaveRunMode, Lv1, Fast, BadFast, Slow, BadSlow, Frame}
+
+-- A body and Field 3 have four bits ("Hunting", "Slow commands"), so that a kind made of one stays below 256. The requests that store to registers are
+-- WrRegister and GlobalResetMCC; those that set RunMode: "RunMode ends at the ninth header bit of any Slow and starts at the end of EnDataTake."
+pub record Traits : Type 0 where
+  pub fits : Bool
+  pub registers : Bool
+  pub running : Bool
+
+abbrev pub traits : Bool → Bool → Bool → Traits
+traits fits registers running = record { fits = fits; registers = registers; running = running }
+
+abbrev pub traitsOf : Request → Traits
+traitsOf Nothing = traits true false false
+traitsOf LeaveRunMode = traits true false true
+traitsOf (Lv1 flip) = traits true false false
+traitsOf (Fast body) = traits (ltb body 16) false false
+traitsOf (BadFast body) = traits true false false
+traitsOf (Slow command address value) = traits true (eqb command 0 || eqb command 9) (eqb command 8)
+traitsOf (BadSlow command) = traits true false false
+traitsOf (Frame command unsteady) = traits (ltb command 16) false false
+
+abbrev pub requestFits : Request → Bool
+requestFits q = traitsOf q .fits
+
+abbrev pub changesRegisters : Request → Bool
+changesRegisters q = traitsOf q .registers
+
+abbrev pub changesRunning : Request → Bool
+changesRunning q = traitsOf q .running
