@@ -1,4 +1,4 @@
 pub mod Wrote
 pub mod Cases
 pub mod Laws
-pub mod Heard
+pub mod RequestsFit

@@ -8,7 +8,7 @@ use Rattle.registers.specs.declared.Plan.{Plan}
 use Rattle.registers.specs.declared.Model.{Model}
 use Rattle.registers.specs.Registers.{feenOf}
 use Rattle.registers.specs.Fifos.{writeOf}
-use Rattle.registers.proofs.Writes.{fifos}
+use Rattle.registers.proofs.WriteLoop.{fifos}
 use Rattle.controller.specs.Records.{flagActed}
 use Rattle.controller.specs.Parts.{withPointers}
 use Rattle.controller.specs.Commands.{effect, acted, slowRecord, writeFifoOf}

@@ -13,8 +13,8 @@ use Rattle.recogniser.specs.declared.Meaning.the-variants.{Quiet, Trigger, Head
 use Rattle.recogniser.specs.declared.Request.{Request}
 use Rattle.recogniser.specs.declared.Request.the-variants.{Nothing, LeaveRunMode, Lv1, Fast, BadFast, Slow, BadSlow, Frame}
 use Rattle.recogniser.specs.declared.Recogniser.{Recogniser}
-use Rattle.recogniser.specs.declared.Heard.{Heard}
-use Rattle.recogniser.specs.Parts.{shifted, startOf, idle, asked, gatheredOf}
+use Rattle.recogniser.specs.declared.Transition.{Transition}
+use Rattle.recogniser.specs.Parts.{shifted, startOf, idle, moveTo, gatheredOf}
 use Rattle.recogniser.specs.Hunting.{meaningOf, huntBy, isFast}
 use Rattle.recogniser.specs.Step.{stepBy, stepOf}
 use Rattle.registers.specs.declared.Plan.{Plan}
@@ -58,7 +58,7 @@ module _ (r : Recogniser) (bit cnt : ℕ) where
   step-any-cnt h = any-cnt (r .phase) h
 
 -- A calm request leaves the recogniser outside Slow commands.
-abbrev Stays : Heard → Type 0
+abbrev Stays : Transition → Type 0
 Stays h = T (calm (h .event .request)) → T (quick (h .next .phase))
 
 hunt-stays : (w : ℕ) (m : Meaning) → Stays (huntBy w m)
@@ -72,8 +72,8 @@ module _ (r : Recogniser) (bit : ℕ) (now : T (quick (r .phase))) where
   phase-stays Body q =
       let body : ℕ = shifted 4 (r .shift) bit in
       cond-case Stays (ltb (r .count) 3) {x = gatheredOf r body} (λ _ h. now)
-      (λ _. cond-case Stays (isFast body) {x = asked idle (Fast body)} (λ _ h. tt)
-      (λ _. cond-case Stays (eqb body 0b1011) {x = asked (startOf Field3 0 0 0) LeaveRunMode} {y = asked idle (BadFast body)} (λ _ h. absurd h) (λ _ h. tt)))
+      (λ _. cond-case Stays (isFast body) {x = moveTo idle (Fast body)} (λ _ h. tt)
+      (λ _. cond-case Stays (eqb body 0b1011) {x = moveTo (startOf Field3 0 0 0) LeaveRunMode} {y = moveTo idle (BadFast body)} (λ _ h. absurd h) (λ _ h. tt)))
   phase-stays Field3 q = absurd q
   phase-stays Field4 q = absurd q
   phase-stays Field5 q = absurd q

@@ -11,7 +11,7 @@ use Rattle.bits.proofs.Truth.{and-left, and-right, cond-case}
 use Rattle.recogniser.specs.declared.Phase.the-variants.{Hunt}
 use Rattle.recogniser.specs.declared.Request.{Request}
 use Rattle.recogniser.specs.declared.Recogniser.{Recogniser}
-use Rattle.recogniser.specs.declared.Heard.{Heard}
+use Rattle.recogniser.specs.declared.Transition.{Transition}
 use Rattle.recogniser.specs.Parts.{idle}
 use Rattle.recogniser.specs.Step.{stepOf}
 use Rattle.registers.specs.Registers.{cntOf}
@@ -202,7 +202,7 @@ calm-damaged (i ∷ is) t k =
 hunting-trace : (r : Recogniser) (bits : List ℕ) → r .phase ≡ Hunt → r .shift ≡ 0 → requestsOf r bits ≡ requestsOf idle bits
 unfolding requestsOf
 hunting-trace r [] h e = refl
-hunting-trace r (bit ∷ bits) h e = ap (λ (x : Heard). x .event .request ∷ requestsOf (x .next) bits) (from-empty r bit h e)
+hunting-trace r (bit ∷ bits) h e = ap (λ (x : Transition). x .event .request ∷ requestsOf (x .next) bits) (from-empty r bit h e)
 
 -- A list of calls in RunMode, from an empty window, whose bits have a calm trace writes the records of that trace.
 module _ (d : Decoder) (running : d .model .running ≡ true) (hunting : d .recogniser .phase ≡ Hunt) (empty : d .recogniser .shift ≡ 0) where

@@ -11,7 +11,7 @@ use Rattle.decoder.specs.declared.Decoder.{Decoder}
 use Rattle.decoder.specs.declared.Opened.{Opened}
 use Rattle.decoder.specs.declared.Opening.{Opening}
 use Rattle.decoder.specs.declared.Opening.the-variants.{Accepted, WrongPlan, WrongCycle}
-use Rattle.decoder.specs.Limits.{clockLimit}
+use Rattle.limits.specs.Limits.{clockLimit}
 
 -- "a state that hunts, with window 00000, RunMode off, and registers, pointers, L1ID and warnings 0". "The base is the opening cycle".
 abbrev pub openedAt : Plan → ℕ → Decoder

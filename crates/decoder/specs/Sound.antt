@@ -9,7 +9,7 @@ use Rattle.registers.specs.Registers.{cntOf}
 use Rattle.registers.specs.Sound.{pointersFit, missingZero}
 use Rattle.decoder.specs.Fit.{fitOf}
 use Rattle.decoder.specs.declared.Decoder.{Decoder}
-use Rattle.decoder.specs.Limits.{clockLimit}
+use Rattle.limits.specs.Limits.{clockLimit}
 
 -- "RunMode is off inside a Slow command".
 abbrev pub insideSlow : Phase → Bool

@@ -9,7 +9,7 @@ use native.Mathlib.Omega.{arith}
 use lib.ListN.{length, take, drop, drop-of-length-le}
 use borrow.Author.Tests.{le-leb, ltb-false}
 use Rattle.bits.proofs.Truth.{choice}
-use Rattle.decoder.specs.Limits.{clockLimit}
+use Rattle.limits.specs.Limits.{clockLimit}
 use Rattle.decoder.proofs.Soundness.{sound-parts}
 use Rattle.hexlines.specs.declared.Seen.{Seen}
 use Rattle.hexlines.specs.declared.Fed.{Fed}

@@ -11,7 +11,7 @@ use lib.Seq.{sets, sets-eq, take-at}
 use borrow.Author.Tests.{le-leb, leb-true, ne-eqb}
 use Rattle.bits.specs.Bits.{bitsOf}
 use Rattle.decoder.specs.declared.Decoder.{Decoder}
-use Rattle.decoder.specs.Limits.{clockLimit}
+use Rattle.limits.specs.Limits.{clockLimit}
 use Rattle.decoder.specs.Sound.{soundOf}
 use Rattle.taking.specs.declared.Ending.the-variants.{ClockOver}
 use Rattle.taking.specs.Run.{Run, runOf, stateAfter}

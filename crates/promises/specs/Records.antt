@@ -11,7 +11,7 @@ use lib.ListN.{length, take}
 use Rattle.registers.specs.declared.Plan.{Plan}
 use Rattle.controller.specs.Records.{isFrameHead}
 use Rattle.decoder.specs.declared.Decoder.{Decoder}
-use Rattle.decoder.specs.Limits.{listUnit}
+use Rattle.limits.specs.Limits.{listUnit}
 use Rattle.decoder.specs.Opening.{openOf}
 use Rattle.decoder.specs.Sound.{soundOf}
 use Rattle.taking.specs.declared.Ending.the-variants.{Done, Frame, ListFull}

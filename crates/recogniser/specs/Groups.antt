@@ -5,11 +5,12 @@ use Prim.Native.Nat.{ℕ, _+_, _/_, _%_}
 use lib.Dec.{eqb}
 use Rattle.recogniser.specs.declared.FrameBit.{FrameBit}
 use Rattle.recogniser.specs.declared.FrameBit.the-variants.{None, At}
-use Rattle.recogniser.specs.declared.Request.the-variants.{Nothing, Frame}
+use Rattle.recogniser.specs.declared.Request.the-variants.{Nothing, Slow}
+use Rattle.recogniser.specs.declared.SlowRequest.the-variants.{Frame}
 use Rattle.recogniser.specs.declared.Group.{Group}
 use Rattle.recogniser.specs.declared.Recogniser.{Recogniser}
-use Rattle.recogniser.specs.declared.Heard.{Heard}
-use Rattle.recogniser.specs.Parts.{idle, heard}
+use Rattle.recogniser.specs.declared.Transition.{Transition}
+use Rattle.recogniser.specs.Parts.{idle, transition}
 use Rattle.recogniser.specs.Fields.{endsOf}
 
 -- "WrFrontEnd and RdFrontEnd carry each bit for eight cycles." What is held of a group once a cycle's bit has arrived: its first bit.
@@ -40,10 +41,10 @@ abbrev pub frameBitOf : Recogniser → ℕ → FrameBit
 frameBitOf r bit = cond (storesOf (r .command) (r .count)) (At (placeOf (r .command) (r .count)) bit) None
 
 -- Field 5 of a frame.
-abbrev pub frameFieldOf : Recogniser → ℕ → ℕ → Heard
+abbrev pub frameFieldOf : Recogniser → ℕ → ℕ → Transition
 frameFieldOf r bit cnt =
-    cond (endsOf r cnt) (heard idle (record { frame = frameBitOf r bit; request = Frame (r .command) (unsteadyOf r bit) }))
-    (heard (record {
+    cond (endsOf r cnt) (transition idle (record { frame = frameBitOf r bit; request = Slow (Frame (r .command) (unsteadyOf r bit)) }))
+    (transition (record {
       phase = r .phase;
       shift = r .shift;
       count = r .count + 1;

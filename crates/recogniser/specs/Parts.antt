@@ -9,7 +9,7 @@ use Rattle.recogniser.specs.declared.Request.{Request}
 use Rattle.recogniser.specs.declared.Request.the-variants.{Nothing}
 use Rattle.recogniser.specs.declared.Event.{Event}
 use Rattle.recogniser.specs.declared.Recogniser.{Recogniser}
-use Rattle.recogniser.specs.declared.Heard.{Heard}
+use Rattle.recogniser.specs.declared.Transition.{Transition}
 
 -- "Hunting": a register of so many bits "takes each new bit at its low end and drops its oldest bit".
 abbrev pub shifted : ℕ → ℕ → ℕ → ℕ
@@ -32,22 +32,23 @@ startOf phase shift command address = record {
 abbrev pub idle : Recogniser
 idle = startOf Hunt 0 0 0
 
-abbrev pub heard : Recogniser → Event → Heard
-heard next event = record { next = next; event = event }
+abbrev pub transition : Recogniser → Event → Transition
+transition next event = record { next = next; event = event }
 
--- A request and no frame bit; and not even a request.
-abbrev pub asking : Request → Event
-asking request = record { frame = None; request = request }
+-- An event with a request and no frame bit; and one with neither.
+abbrev pub requesting : Request → Event
+requesting request = record { frame = None; request = request }
 
-abbrev pub silent : Event
-silent = asking Nothing
+abbrev pub noEvent : Event
+noEvent = requesting Nothing
 
-abbrev pub asked : Recogniser → Request → Heard
-asked next request = heard next (asking request)
+-- The recogniser moves on, with a request and no frame bit.
+abbrev pub moveTo : Recogniser → Request → Transition
+moveTo next request = transition next (requesting request)
 
 -- One bit more of a body, Field 3 or Field 4 that is not whole yet.
-abbrev pub gatheredOf : Recogniser → ℕ → Heard
-gatheredOf r nibble = asked (record {
+abbrev pub gatheredOf : Recogniser → ℕ → Transition
+gatheredOf r nibble = moveTo (record {
   phase = r .phase;
   shift = nibble;
   count = r .count + 1;

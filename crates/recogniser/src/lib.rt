@@ -2,10 +2,10 @@
 // It owns only what the chip triplicates; registers, counters and RunMode belong to the model.
 ghost use mathlib.Core.Path.{_≡_};
 ghost use Prim.Native.Nat.{_<_};
-ghost use Rattle.recogniser.specs.Parts.{shifted, startOf, asked, gatheredOf};
+ghost use Rattle.recogniser.specs.Parts.{shifted, startOf, moveTo, gatheredOf};
 ghost use Rattle.recogniser.specs.declared.Phase.the-variants.{Hunt};
 ghost use Rattle.recogniser.specs.Hunting.{meaningOf, isFast, huntBy, huntOf, bodyOf};
-ghost use Rattle.recogniser.specs.Fields.{lengthOf, isSlow, isFrame, keptOf, endsOf, slowOf, field3Of, field4Of, keptFieldOf};
+ghost use Rattle.recogniser.specs.Fields.{lengthOf, isSlow, isFrame, keptOf, endsOf, slowRequestOf, field3Of, field4Of, keptFieldOf};
 ghost use Rattle.recogniser.specs.Groups.{groupOf, unsteadyOf, storesOf, placeOf, frameBitOf, frameFieldOf};
 ghost use Rattle.recogniser.specs.Step.{field5Of, stepOf};
 
@@ -36,31 +36,30 @@ pub enum FrameBit {
     At { place: u32, bit: u8 },
 }
 
-// What one cycle asks of the controller: nothing, leaving RunMode, or a record with its effect.
-pub enum Request {
-    Nothing,
+// What one cycle of a Slow command asks of the controller: leaving RunMode, or a record with its effect.
+pub enum SlowRequest {
     LeaveRunMode,
-    Lv1 {
-        flip: bool,
-    },
-    Fast {
-        body: u8,
-    },
-    BadFast {
-        body: u8,
-    },
-    Slow {
+    Command {
         command: u8,
         address: u8,
         value: u32,
     },
-    BadSlow {
+    Bad {
         command: u8,
     },
     Frame {
         command: u8,
         unsteady: bool,
     },
+}
+
+// What one cycle asks of the controller: nothing, a record with its effect, or what a Slow command asks.
+pub enum Request {
+    Nothing,
+    Lv1 { flip: bool },
+    Fast { body: u8 },
+    BadFast { body: u8 },
+    Slow { slow: SlowRequest },
 }
 
 // What one cycle asks for.
@@ -94,7 +93,7 @@ pub struct Recogniser {
 }
 
 // One cycle's answer: the recogniser after it, and what it asks for.
-pub struct Heard {
+pub struct Transition {
     pub next: Recogniser,
     pub event: Event,
 }
@@ -199,16 +198,20 @@ fn kept(command: u8, held: u32, bit: u8) -> u32
 
 // The end of a Slow command that carries no frame.
 fn slow(command: u8, address: u8, value: u32) -> Request
-    ensures { λ r. ⌜ r ≡ slowOf command address value ⌝ }
+    ensures { λ r. ⌜ r ≡ slowRequestOf command address value ⌝ }
 {
     if is_slow(command) {
         return Request::Slow {
-            command: command,
-            address: address,
-            value: value,
+            slow: SlowRequest::Command {
+                command: command,
+                address: address,
+                value: value,
+            },
         };
     }
-    Request::BadSlow { command: command }
+    Request::Slow {
+        slow: SlowRequest::Bad { command: command },
+    }
 }
 
 impl Group {
@@ -243,12 +246,12 @@ fn place(command: u8, count: u32) -> u32
     count / 8
 }
 
-impl Heard {
+impl Transition {
     // A request, and hunting on with this window.
     pub fn hunting(window: u8, request: Request) -> Self
-        ensures { λ r. ⌜ r ≡ asked (startOf Hunt window 0 0) request ⌝ }
+        ensures { λ r. ⌜ r ≡ moveTo (startOf Hunt window 0 0) request ⌝ }
     {
-        Heard {
+        Transition {
             next: Recogniser::start(Phase::Hunt, window, 0, 0),
             event: Event {
                 frame: FrameBit::None,
@@ -263,9 +266,9 @@ impl Heard {
     {
         let m = classify(window);
         match m {
-            Meaning::Quiet => Heard::hunting(window, Request::Nothing),
-            Meaning::Trigger { flip } => Heard::hunting(0, Request::Lv1 { flip: flip }),
-            Meaning::Header => Heard {
+            Meaning::Quiet => Transition::hunting(window, Request::Nothing),
+            Meaning::Trigger { flip } => Transition::hunting(0, Request::Lv1 { flip: flip }),
+            Meaning::Header => Transition {
                 next: Recogniser::start(Phase::Body, 0, 0, 0),
                 event: Event::NOTHING,
             },
@@ -291,26 +294,26 @@ impl Recogniser {
     }
 
     // One bit more of a body or a field of four.
-    fn gather(mut self, nibble: u8) -> Heard
+    fn gather(mut self, nibble: u8) -> Transition
         requires { ⌜ self .count < 3 ⌝ }
         ensures { λ r. ⌜ r ≡ gatheredOf self nibble ⌝ }
     {
         self.shift = nibble;
         self.count = self.count + 1;
-        Heard {
+        Transition {
             next: self,
             event: Event::NOTHING,
         }
     }
 
-    fn hunt(self, bit: u8) -> Heard
+    fn hunt(self, bit: u8) -> Transition
         requires { ⌜ bit < 2 ⌝ }
         ensures { λ r. ⌜ r ≡ huntOf self bit ⌝ }
     {
-        Heard::hunted(window_with(self.shift, bit))
+        Transition::hunted(window_with(self.shift, bit))
     }
 
-    pub fn body(self, bit: u8) -> Heard
+    pub fn body(self, bit: u8) -> Transition
         requires { ⌜ bit < 2 ⌝ }
         ensures { λ r. ⌜ r ≡ bodyOf self bit ⌝ }
     {
@@ -319,21 +322,23 @@ impl Recogniser {
             return self.gather(body);
         }
         if is_fast(body) {
-            return Heard::hunting(0, Request::Fast { body: body });
+            return Transition::hunting(0, Request::Fast { body: body });
         }
         if body == 0b1011 {
-            return Heard {
+            return Transition {
                 next: Recogniser::start(Phase::Field3, 0, 0, 0),
                 event: Event {
                     frame: FrameBit::None,
-                    request: Request::LeaveRunMode,
+                    request: Request::Slow {
+                        slow: SlowRequest::LeaveRunMode,
+                    },
                 },
             };
         }
-        Heard::hunting(0, Request::BadFast { body: body })
+        Transition::hunting(0, Request::BadFast { body: body })
     }
 
-    fn field3(self, bit: u8) -> Heard
+    fn field3(self, bit: u8) -> Transition
         requires { ⌜ bit < 2 ⌝ }
         ensures { λ r. ⌜ r ≡ field3Of self bit ⌝ }
     {
@@ -341,13 +346,13 @@ impl Recogniser {
         if self.count < 3 {
             return self.gather(command);
         }
-        Heard {
+        Transition {
             next: Recogniser::start(Phase::Field4, 0, command, 0),
             event: Event::NOTHING,
         }
     }
 
-    fn field4(self, bit: u8, cnt: u16) -> Heard
+    fn field4(self, bit: u8, cnt: u16) -> Transition
         requires { ⌜ bit < 2 ⌝ }
         ensures { λ r. ⌜ r ≡ field4Of self bit cnt ⌝ }
     {
@@ -357,21 +362,23 @@ impl Recogniser {
         }
         let command = self.command;
         if 0 < length(command, cnt) {
-            return Heard {
+            return Transition {
                 next: Recogniser::start(Phase::Field5, 0, command, address),
                 event: Event::NOTHING,
             };
         }
         if is_frame(command) {
-            return Heard::hunting(
+            return Transition::hunting(
                 0,
-                Request::Frame {
-                    command: command,
-                    unsteady: false,
+                Request::Slow {
+                    slow: SlowRequest::Frame {
+                        command: command,
+                        unsteady: false,
+                    },
                 },
             );
         }
-        Heard::hunting(0, slow(command, address, 0))
+        Transition::hunting(0, slow(command, address, 0))
     }
 
     // Whether the present bit is the last of Field 5; in 64 bits, so that the sum fits.
@@ -382,18 +389,18 @@ impl Recogniser {
     }
 
     // Field 5 of a command that carries no frame.
-    fn kept_field(self, bit: u8, cnt: u16) -> Heard
+    fn kept_field(self, bit: u8, cnt: u16) -> Transition
         requires { ⌜ bit < 2 ⌝ }
         ensures { λ r. ⌜ r ≡ keptFieldOf self bit cnt ⌝ }
     {
         let value = kept(self.command, self.held, bit);
         if self.ends(cnt) {
-            return Heard::hunting(0, slow(self.command, self.address, value));
+            return Transition::hunting(0, slow(self.command, self.address, value));
         }
         let mut next = self;
         next.held = value;
         next.count = self.count + 1;
-        Heard {
+        Transition {
             next: next,
             event: Event::NOTHING,
         }
@@ -428,19 +435,21 @@ impl Recogniser {
     }
 
     // Field 5 of a frame.
-    fn frame_field(self, bit: u8, cnt: u16) -> Heard
+    fn frame_field(self, bit: u8, cnt: u16) -> Transition
         ensures { λ r. ⌜ r ≡ frameFieldOf self bit cnt ⌝ }
     {
         let frame = self.frame_bit(bit);
         let unsteady = self.unsteady_with(bit);
         if self.ends(cnt) {
-            return Heard {
+            return Transition {
                 next: Recogniser::start(Phase::Hunt, 0, 0, 0),
                 event: Event {
                     frame: frame,
-                    request: Request::Frame {
-                        command: self.command,
-                        unsteady: unsteady,
+                    request: Request::Slow {
+                        slow: SlowRequest::Frame {
+                            command: self.command,
+                            unsteady: unsteady,
+                        },
                     },
                 },
             };
@@ -451,7 +460,7 @@ impl Recogniser {
         next.unsteady = unsteady;
         next.group = group;
         next.count = self.count + 1;
-        Heard {
+        Transition {
             next: next,
             event: Event {
                 frame: frame,
@@ -460,7 +469,7 @@ impl Recogniser {
         }
     }
 
-    fn field5(self, bit: u8, cnt: u16) -> Heard
+    fn field5(self, bit: u8, cnt: u16) -> Transition
         requires { ⌜ bit < 2 ⌝ }
         ensures { λ r. ⌜ r ≡ field5Of self bit cnt ⌝ }
     {
@@ -471,7 +480,7 @@ impl Recogniser {
     }
 
     // One cycle, by the present contents of the CNT register.
-    pub fn step(self, bit: u8, cnt: u16) -> Heard
+    pub fn step(self, bit: u8, cnt: u16) -> Transition
         requires { ⌜ bit < 2 ⌝ }
         ensures { λ r. ⌜ r ≡ stepOf self bit cnt ⌝ }
     {

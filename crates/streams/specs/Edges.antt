@@ -17,7 +17,7 @@ use Rattle.registers.specs.Plan.{defaultPlan}
 use Rattle.controller.specs.Parts.{withRunning}
 use Rattle.controller.specs.Records.{frameBitsOf}
 use Rattle.decoder.specs.declared.Decoder.{Decoder}
-use Rattle.decoder.specs.Limits.{clockLimit, storeLength, trayLength}
+use Rattle.limits.specs.Limits.{clockLimit, storeLength, trayLength}
 use Rattle.decoder.specs.declared.Opening.the-variants.{Accepted}
 use Rattle.decoder.specs.Opening.{openedAt, openOf, opened}
 use Rattle.taking.specs.declared.Ending.the-variants.{Done, Frame, ClockOver}

@@ -9,7 +9,7 @@ use Rattle.bits.specs.Bits.{numberOf}
 use Rattle.registers.specs.Plan.{defaultPlan}
 use Rattle.controller.specs.Parts.{withRunning, withRegisters}
 use Rattle.decoder.specs.declared.Decoder.{Decoder}
-use Rattle.decoder.specs.Limits.{storeLength, trayLength}
+use Rattle.limits.specs.Limits.{storeLength, trayLength}
 use Rattle.decoder.specs.Opening.{openedAt}
 use Rattle.taking.specs.declared.Ending.{Ending}
 use Rattle.taking.specs.Entries.{entryWords}

@@ -25,7 +25,7 @@ use Rattle.controller.specs.declared.Cycle.the-variants.{Nothing, Record}
 use Rattle.controller.specs.Records.{isFrameHead}
 use Rattle.controller.specs.Commands.{Effect, actOf}
 use Rattle.controller.specs.Requests.{requestFits}
-use Rattle.controller.proofs.Heard.{heard-fits}
+use Rattle.controller.proofs.RequestsFit.{step-request-fits}
 use Rattle.decoder.specs.declared.Decoder.{Decoder}
 use Rattle.taking.specs.declared.Ending.{Ending}
 use Rattle.taking.specs.declared.Ending.the-variants.{Done, Frame, ListFull}
@@ -150,8 +150,8 @@ same-store plan m (Record x v) store list at = refl
 
 passes-fit : {cnt : ℕ} {r : Recogniser} {bits : List ℕ} {s : Stretch} → Passes cnt r bits s → requestFits (s .event .request) ≡ true
 passes-fit (ends r) = refl
-passes-fit {cnt} (last r bit bits) = heard-fits r bit cnt
-passes-fit (more r bit bits s silent p) = passes-fit p
+passes-fit {cnt} (last r bit bits) = step-request-fits r bit cnt
+passes-fit (more r bit bits s noEvent p) = passes-fit p
 
 module _ {d : Decoder} {c : Call} {store tray list : List ℕ} {r : Recogniser} {m : Model} {cnt taken at : ℕ} (g : Going d c store tray list r m cnt taken at) where
   abbrev here : World

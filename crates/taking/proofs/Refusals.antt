@@ -9,7 +9,7 @@ use lib.ListN.{length}
 use borrow.Author.Tests.{le-leb, lt-leb, leb-true, eqb-true}
 use Rattle.bits.proofs.Truth.{both}
 use Rattle.decoder.specs.declared.Decoder.{Decoder}
-use Rattle.decoder.specs.Limits.{clockLimit, storeLength, trayLength, inputLimit}
+use Rattle.limits.specs.Limits.{clockLimit, storeLength, trayLength, inputLimit}
 use Rattle.decoder.specs.Sound.{soundOf}
 use Rattle.decoder.proofs.Soundness.{sound-parts}
 use Rattle.taking.specs.declared.Ending.{Ending}

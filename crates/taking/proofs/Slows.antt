@@ -13,8 +13,8 @@ use Rattle.recogniser.specs.declared.FrameBit.{FrameBit}
 use Rattle.recogniser.specs.declared.Request.{Request}
 use Rattle.recogniser.specs.declared.Request.the-variants.{Nothing, LeaveRunMode}
 use Rattle.recogniser.specs.declared.Recogniser.{Recogniser}
-use Rattle.recogniser.specs.declared.Heard.{Heard}
-use Rattle.recogniser.specs.Parts.{shifted, idle, heard}
+use Rattle.recogniser.specs.declared.Transition.{Transition}
+use Rattle.recogniser.specs.Parts.{shifted, idle, transition}
 use Rattle.recogniser.specs.Hunting.{isFast, meaningOf, huntBy}
 use Rattle.recogniser.specs.Fields.{isFrame, lengthOf, endsOf}
 use Rattle.recogniser.specs.Step.{stepBy, stepOf}
@@ -27,10 +27,10 @@ pub record Keeps (e : Request) : Type 0 where
   pub running : changesRunning e ≡ false
 
 -- What a step may do, by the recogniser before it.
-pub data Steps (r : Recogniser) : Heard → Type 0 where
-  over : {f : FrameBit} {e : Request} → Steps r (heard idle (record { frame = f; request = e }))
-  begins : {next : Recogniser} {f : FrameBit} → Steps r (heard next (record { frame = f; request = LeaveRunMode }))
-  goes-on : {next : Recogniser} {f : FrameBit} {e : Request} → Keeps e → (T (insideSlow (next .phase)) → T (insideSlow (r .phase))) → Steps r (heard next (record { frame = f; request = e }))
+pub data Steps (r : Recogniser) : Transition → Type 0 where
+  over : {f : FrameBit} {e : Request} → Steps r (transition idle (record { frame = f; request = e }))
+  begins : {next : Recogniser} {f : FrameBit} → Steps r (transition next (record { frame = f; request = LeaveRunMode }))
+  goes-on : {next : Recogniser} {f : FrameBit} {e : Request} → Keeps e → (T (insideSlow (next .phase)) → T (insideSlow (r .phase))) → Steps r (transition next (record { frame = f; request = e }))
 
 nothing-keeps : Keeps Nothing
 nothing-keeps = record { registers = refl; running = refl }

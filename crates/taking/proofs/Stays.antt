@@ -13,7 +13,7 @@ use Rattle.bits.specs.Bits.{bitOf, bitsOf}
 use Rattle.bits.proofs.Truth.{choice}
 use Rattle.recogniser.specs.declared.Request.the-variants.{LeaveRunMode}
 use Rattle.recogniser.specs.declared.Recogniser.{Recogniser}
-use Rattle.recogniser.specs.declared.Heard.{Heard}
+use Rattle.recogniser.specs.declared.Transition.{Transition}
 use Rattle.registers.specs.declared.Plan.{Plan}
 use Rattle.registers.specs.declared.Model.{Model}
 use Rattle.registers.specs.Plan.{planFits, defaultPlan}
@@ -22,13 +22,13 @@ use Rattle.controller.proofs.Laws.{after, zeros-fit, zeros-missing, writes-fit,
 use Rattle.decoder.specs.Fit.{fitOf}
 use Rattle.decoder.specs.declared.Decoder.{Decoder}
 use Rattle.decoder.specs.declared.Opened.{Opened}
-use Rattle.decoder.specs.Limits.{clockLimit}
+use Rattle.limits.specs.Limits.{clockLimit}
 use Rattle.decoder.specs.Opening.{openedAt, openOf}
 use Rattle.decoder.specs.Sound.{insideSlow, soundOf}
 use Rattle.decoder.proofs.Fits.{start-fits, step-fits}
 use Rattle.decoder.proofs.Soundness.{sound, sound-parts}
 use Rattle.taking.specs.Run.{runOf, stateAfter}
-use Rattle.taking.specs.Turn.{World, heardOf, turnOf}
+use Rattle.taking.specs.Turn.{World, transitionOf, turnOf}
 use Rattle.taking.specs.Take.{Call, Left, offered, worldOf, buffersFit, rangeFits, clockFits, takenOf, takeOf}
 use Rattle.taking.proofs.Runs.{run-faithful}
 use Rattle.taking.proofs.Slows.{Steps, over, begins, goes-on, slow-steps}
@@ -62,13 +62,13 @@ start-sound plan cycle =
 
 -- RunMode stays off inside a Slow, and the recogniser stays fit by CNT as it then stands.
 module _ (plan : Plan) (m : Model) (r : Recogniser) (time : ℕ) (store : List ℕ) where
-  stays-stopped : {h : Heard} → Steps r h → (T (insideSlow (r .phase)) → m .running ≡ false)
+  stays-stopped : {h : Transition} → Steps r h → (T (insideSlow (r .phase)) → m .running ≡ false)
       → T (insideSlow (h .next .phase)) → after plan m (h .event .request) time store .running ≡ false
   stays-stopped over off t = absurd t
   stays-stopped begins off t = begins-stops plan m time store
   stays-stopped (goes-on {e = e} k inside) off t = running-kept plan m e time store (k .running) ∙ off (inside t)
 
-  stays-fit : {h : Heard} → Steps r h → T (fitOf (h .next) (cntOf plan m)) → T (fitOf (h .next) (cntOf plan (after plan m (h .event .request) time store)))
+  stays-fit : {h : Transition} → Steps r h → T (fitOf (h .next) (cntOf plan m)) → T (fitOf (h .next) (cntOf plan (after plan m (h .event .request) time store)))
   stays-fit over t = start-fits _
   stays-fit begins t = rw (cnt-kept plan m LeaveRunMode time store refl) t
   stays-fit (goes-on {e = e} k inside) t = rw (cnt-kept plan m e time store (k .registers)) t
@@ -79,7 +79,7 @@ unfolding turnOf
 turn-sound w bit b t below =
     let d = w .decoder in
     let s = sound-parts d t in
-    let h = heardOf d bit in
+    let h = transitionOf d bit in
     let k = slow-steps (d .recogniser) bit (cntOf (d .plan) (d .model)) in
     sound (turnOf w bit .state .decoder) (record {
       plan = s .plan;

@@ -4,7 +4,7 @@ use mathlib.Core.List.{List, [], _∷_, _++_}
 use Prim.Native.Nat.{ℕ, _*_}
 use lib.ListN.{take, drop}
 use Rattle.decoder.specs.declared.Decoder.{Decoder}
-use Rattle.decoder.specs.Limits.{listUnit}
+use Rattle.limits.specs.Limits.{listUnit}
 use Rattle.taking.specs.Turn.{World}
 use Rattle.taking.specs.Take.{Call, Left, offered, takeOf}
 

@@ -7,7 +7,7 @@ use lib.Dec.{ltb}
 use Rattle.controller.specs.declared.Cycle.{Cycle}
 use Rattle.controller.specs.declared.Cycle.the-variants.{Nothing, Record}
 use Rattle.controller.specs.Records.{wordsOf, isFrameHead}
-use Rattle.decoder.specs.Limits.{listUnit}
+use Rattle.limits.specs.Limits.{listUnit}
 use Rattle.taking.specs.declared.Ending.{Ending}
 use Rattle.taking.specs.declared.Ending.the-variants.{Done, Frame, ListFull}
 

@@ -8,7 +8,7 @@ use lib.ListN.{length}
 use lib.Seq.{sets}
 use Rattle.bits.specs.Bits.{bitsOf}
 use Rattle.decoder.specs.declared.Decoder.{Decoder}
-use Rattle.decoder.specs.Limits.{clockLimit, storeLength, trayLength, listUnit, inputLimit}
+use Rattle.limits.specs.Limits.{clockLimit, storeLength, trayLength, listUnit, inputLimit}
 use Rattle.decoder.specs.Sound.{soundOf}
 use Rattle.taking.specs.declared.Taken.{Taken}
 use Rattle.taking.specs.declared.Ending.{Ending}

@@ -2,7 +2,7 @@
 -- Assumes nothing.
 use mathlib.Core.List.{List}
 use Prim.Native.Nat.{ℕ, _+_}
-use Rattle.recogniser.specs.declared.Heard.{Heard}
+use Rattle.recogniser.specs.declared.Transition.{Transition}
 use Rattle.recogniser.specs.Step.{stepOf}
 use Rattle.frames.specs.Tray.{trayOf}
 use Rattle.registers.specs.Registers.{cntOf}
@@ -16,14 +16,14 @@ pub record World : Type 0 where
   pub store : List ℕ
   pub tray : List ℕ
 
-abbrev pub heardOf : Decoder → ℕ → Heard
-heardOf d bit = stepOf (d .recogniser) bit (cntOf (d .plan) (d .model))
+abbrev pub transitionOf : Decoder → ℕ → Transition
+transitionOf d bit = stepOf (d .recogniser) bit (cntOf (d .plan) (d .model))
 
-abbrev pub effectOf : Decoder → Heard → List ℕ → Effect
+abbrev pub effectOf : Decoder → Transition → List ℕ → Effect
 effectOf d h store = actOf (d .plan) (d .model) (h .event .request) (d .next) store
 
 -- "Each bit takes the next number. .. A record's time is the cycle of its command's last bit."
-abbrev pub turned : World → Heard → Effect → Turned World
+abbrev pub turned : World → Transition → Effect → Turned World
 turned w h e = record {
   state = record {
     decoder = record { plan = w .decoder .plan; next = w .decoder .next + 1; recogniser = h .next; model = e .acted .model };
@@ -35,5 +35,5 @@ turned w h e = record {
 
 unfoldable pub turnOf : World → ℕ → Turned World
 turnOf w bit =
-    let h = heardOf (w .decoder) bit in
+    let h = transitionOf (w .decoder) bit in
     turned w h (effectOf (w .decoder) h (w .store))

@@ -1,8 +1,8 @@
--- `Heard::hunted` is what a window means while hunting.
+-- `Transition::hunted` is what a window means while hunting.
 -- Assumes nothing.
 use borrow.Author.Needs.{needs}
-use Rattle.recogniser.proofs.Heard.hunted.Statement.{statement}
-use Rattle.recogniser.proofs.Heard.hunted.Tie as tie
+use Rattle.recogniser.proofs.Transition.hunted.Statement.{statement}
+use Rattle.recogniser.proofs.Transition.hunted.Tie as tie
 
 classify-requires : tie.Need-classify-requires
 classify-requires c κs = search needs

@@ -1,8 +1,8 @@
--- `Heard::hunting` is what was heard, with the recogniser at the start of a hunt.
+-- `Transition::hunting` is a request, with the recogniser at the start of a hunt.
 -- Assumes nothing.
 use borrow.Author.Needs.{needs}
-use Rattle.recogniser.proofs.Heard.hunting.Statement.{statement}
-use Rattle.recogniser.proofs.Heard.hunting.Tie as tie
+use Rattle.recogniser.proofs.Transition.hunting.Statement.{statement}
+use Rattle.recogniser.proofs.Transition.hunting.Tie as tie
 
 start-requires : tie.Need-start-requires
 start-requires c κs = search needs
