@@ -6,7 +6,7 @@ use lib.Dec.{leb}
 use Rattle.recogniser.specs.Parts.{idle}
 use Rattle.registers.specs.declared.Plan.{Plan}
 use Rattle.registers.specs.Plan.{planFits, defaultPlan}
-use Rattle.registers.specs.Registers.{zeros16}
+use Rattle.registers.specs.Parts.{cleared}
 use Rattle.decoder.specs.declared.Decoder.{Decoder}
 use Rattle.decoder.specs.declared.Opened.{Opened}
 use Rattle.decoder.specs.declared.Opening.{Opening}
@@ -19,17 +19,7 @@ openedAt plan cycle = record {
   plan = plan;
   next = cycle;
   recogniser = idle;
-  model = record {
-    running = false;
-    l1id = 0;
-    base = cycle;
-    wlv1 = false;
-    wfst = false;
-    wslw = false;
-    registers = zeros16;
-    writes = zeros16;
-    reads = zeros16;
-  };
+  model = cleared false cycle;
 }
 
 abbrev pub opened : Decoder → Opening → Opened

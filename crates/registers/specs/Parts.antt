@@ -27,6 +27,10 @@ zeroPointers = pointers zeros16 zeros16
 abbrev pub model : Bool → Counters → Warnings → List ℕ → Pointers → Model
 model running c w registers p = record { running = running; counters = c; warnings = w; registers = registers; pointers = p }
 
+-- "registers, pointers, L1ID and warnings 0" (opening, GlobalResetMCC), with a base cycle.
+abbrev pub cleared : Bool → ℕ → Model
+cleared running base = model running (counters 0 base) noWarnings zeros16 zeroPointers
+
 abbrev pub withRunning : Bool → Model → Model
 withRunning running m = model running (m .counters) (m .warnings) (m .registers) (m .pointers)
 

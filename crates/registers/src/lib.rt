@@ -8,6 +8,7 @@ ghost use lib.ListN.{length};
 ghost use Rattle.registers.specs.Plan.{existsAt, planFits, defaultPlan};
 ghost use Rattle.limits.specs.Limits.{storeLength};
 ghost use Rattle.registers.specs.Registers.{registerOf, cntOf, warningBits, withWarnings, readOf};
+ghost use Rattle.registers.specs.Parts.{cleared};
 ghost use Rattle.registers.specs.Fifos.{movedOn, writeOf, readWordOf};
 ghost use Rattle.registers.specs.Sound.{pointersFit, missingZero};
 
@@ -167,6 +168,29 @@ impl Warnings {
 }
 
 impl Model {
+    // Registers, pointers, L1ID and warnings 0, with a base cycle.
+    pub fn cleared(running: bool, base: u64) -> Model
+        ensures { λ r. ⌜ r ≡ cleared running base ⌝ }
+    {
+        Model {
+            running: running,
+            counters: Counters {
+                l1id: 0,
+                base: base,
+            },
+            warnings: Warnings {
+                wlv1: false,
+                wfst: false,
+                wslw: false,
+            },
+            registers: [0u16; 16],
+            pointers: Pointers {
+                writes: [0u8; 16],
+                reads: [0u8; 16],
+            },
+        }
+    }
+
     // The register at an address, 0 where there is none.
     pub fn register(self, address: u8) -> u16
         ensures { λ r. ⌜ r ≡ registerOf self address ⌝ }
