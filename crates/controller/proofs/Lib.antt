@@ -1,4 +1,5 @@
-pub mod Wrote
-pub mod Cases
-pub mod Laws
+pub mod FifoWrite
+pub mod FastCases
+pub mod EffectCases
+pub mod EffectKeeps
 pub mod RequestsFit

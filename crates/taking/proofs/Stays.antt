@@ -18,7 +18,7 @@ use Rattle.registers.specs.declared.Plan.{Plan}
 use Rattle.registers.specs.declared.Model.{Model}
 use Rattle.registers.specs.Plan.{planFits, defaultPlan}
 use Rattle.registers.specs.Registers.{cntOf}
-use Rattle.controller.proofs.Laws.{after, zeros-fit, zeros-missing, writes-fit, reads-fit, missing-zero, base-low, cnt-kept, begins-stops, running-kept}
+use Rattle.controller.proofs.EffectKeeps.{after, zeros-fit, zeros-missing, writes-fit, reads-fit, missing-zero, base-low, cnt-kept, leave-stops, running-kept}
 use Rattle.decoder.specs.Fit.{fitOf}
 use Rattle.decoder.specs.declared.Decoder.{Decoder}
 use Rattle.decoder.specs.declared.Opened.{Opened}
@@ -65,7 +65,7 @@ module _ (plan : Plan) (m : Model) (r : Recogniser) (time : ℕ) (store : List �
   stays-stopped : {h : Transition} → Steps r h → (T (insideSlow (r .phase)) → m .running ≡ false)
       → T (insideSlow (h .next .phase)) → after plan m (h .event .request) time store .running ≡ false
   stays-stopped over off t = absurd t
-  stays-stopped begins off t = begins-stops plan m time store
+  stays-stopped begins off t = leave-stops plan m time store
   stays-stopped (goes-on {e = e} k inside) off t = running-kept plan m e time store (k .running) ∙ off (inside t)
 
   stays-fit : {h : Transition} → Steps r h → T (fitOf (h .next) (cntOf plan m)) → T (fitOf (h .next) (cntOf plan (after plan m (h .event .request) time store)))

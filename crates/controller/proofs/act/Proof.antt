@@ -1,4 +1,4 @@
--- `act` does what `actOf` says: by the request, what the function for it ensures. A `Fast` or a frame that fits has a kind within a byte.
+-- `act` does what `actOf` says: by the request, what the function for it ensures. A Fast that fits has a kind within a byte.
 -- Assumes nothing.
 use borrow.Author.Tests.{ltb-true}
 use borrow.Author.Needs.{needs}
@@ -22,7 +22,7 @@ enum-known-request-2 : tie.Need-enum-known-request-2
 enum-known-request-2 c = search needs
 
 fast-requires : tie.Need-fast-requires
-fast-requires c κs = (c .before .before .before .before .pre .0, ltb-true _ _ (rw (c .before .request2 .given .1) at (c .before .before .before .before .pre .2)))
+fast-requires c κs = ltb-true _ _ (rw (c .before .request2 .given .1) at (c .before .before .before .before .pre .1))
 
 enum-known-request-3 : tie.Need-enum-known-request-3
 enum-known-request-3 c = search needs
@@ -30,29 +30,13 @@ enum-known-request-3 c = search needs
 bad-fast-requires : tie.Need-bad-fast-requires
 bad-fast-requires c κs = search needs
 
-enum-told-2 : tie.Need-enum-told-2
-enum-told-2 c = search needs
-
-leave-requires : tie.Need-leave-requires
-leave-requires c κs = search needs
-
 enum-known-request-4 : tie.Need-enum-known-request-4
 enum-known-request-4 c = search needs
 
 slow-requires : tie.Need-slow-requires
-slow-requires c κs = search needs
-
-enum-known-request-5 : tie.Need-enum-known-request-5
-enum-known-request-5 c = search needs
-
-bad-slow-requires : tie.Need-bad-slow-requires
-bad-slow-requires c κs = search needs
-
-enum-known-request-6 : tie.Need-enum-known-request-6
-enum-known-request-6 c = search needs
-
-frame-requires : tie.Need-frame-requires
-frame-requires c κs = (c .before .before .before .before .pre .0, ltb-true _ _ (rw (c .before .request6 .given .1) at (c .before .before .before .before .pre .2)))
+slow-requires c κs =
+    let s = c .before .before .before .before in
+    (s .before .pre .0, rw (c .before .before .request4 .given .1) at (s .before .pre .1))
 
 returns : tie.Need-returns
 unfolding actOf
@@ -70,24 +54,14 @@ returns-4 : tie.Need-returns-4
 unfolding actOf
 returns-4 c = simp (c .before .before .request3 .given .1, c .bad-fast .ensures)
 
-returns-5 : tie.Need-returns-5
-unfolding actOf
-returns-5 c = simp (c .before .enum-told2 .given .1, c .leave .ensures)
-
 same-length : tie.Need-same-length
 same-length c = search needs
 
-returns-6 : tie.Need-returns-6
+returns-5 : tie.Need-returns-5
 unfolding actOf
-returns-6 c = simp (c .before .before .before .before .before .request4 .given .1, c .before .before .slow .ensures)
-
-returns-7 : tie.Need-returns-7
-unfolding actOf
-returns-7 c = simp (c .before .before .request5 .given .1, c .bad-slow .ensures)
-
-returns-8 : tie.Need-returns-8
-unfolding actOf
-returns-8 c = simp (c .before .before .request6 .given .1, c .frame .ensures)
+returns-5 c =
+    let did = c .before .before in
+    simp (did .before .before .before .request4 .given .1, did .slow .ensures)
 
 pub act-spec : {M : Type 1} → statement M
 act-spec =
@@ -101,20 +75,11 @@ act-spec =
     fast-requires
     enum-known-request-3
     bad-fast-requires
-    enum-told-2
-    leave-requires
     enum-known-request-4
     slow-requires
-    enum-known-request-5
-    bad-slow-requires
-    enum-known-request-6
-    frame-requires
     returns
     returns-2
     returns-3
     returns-4
-    returns-5
     same-length
-    returns-6
-    returns-7
-    returns-8)
+    returns-5)

@@ -11,8 +11,10 @@ use lib.ListN.{getD, set, replicate}
 use borrow.Author.Tests.{lt-ltb, eq-eqb}
 use Rattle.bits.proofs.Truth.{both, choice, clash, or-left, or-right}
 use Rattle.recogniser.specs.declared.Request.{Request}
-use Rattle.recogniser.specs.declared.Request.the-variants as request
+use Rattle.recogniser.specs.declared.Request.the-variants.{Slow}
+use Rattle.recogniser.specs.declared.SlowRequest.the-variants.{LeaveRunMode}
 use Rattle.registers.specs.declared.Plan.{Plan}
+use Rattle.registers.specs.declared.Pointers.{Pointers}
 use Rattle.registers.specs.declared.Model.{Model}
 use Rattle.registers.specs.Plan.{existsAt}
 use Rattle.registers.specs.Registers.{cntOf, zeros16}
@@ -21,9 +23,9 @@ use Rattle.registers.specs.Sound.{everyFrom, fitsAt, pointersFit, zeroAt, missi
 use Rattle.controller.specs.declared.Acted.{Acted}
 use Rattle.controller.specs.Commands.{actOf}
 use Rattle.controller.specs.Requests.{changesRegisters, changesRunning}
-use Rattle.controller.proofs.Cases.{write-keeps, slow-cases, act-keeps}
+use Rattle.controller.proofs.EffectCases.{write-keeps, act-keeps}
 
--- The model after an request.
+-- The model after a request.
 abbrev pub after : Plan → Model → Request → ℕ → List ℕ → Model
 after plan m e time store = actOf plan m e time store .acted .model
 
@@ -79,44 +81,84 @@ unfolding missingZero
 zeros-missing plan m e = rw e (zeros-zero plan)
 
 -- What holds of the model before a request holds of it after.
-module _ (plan : Plan) (m : Model) (e : Request) (time : ℕ) (store : List ℕ) where
-  pub writes-fit : pointersFit (m .writes) ≡ true → pointersFit (after plan m e time store .writes) ≡ true
-  writes-fit h =
-      act-keeps (λ r w d b n. pointersFit w ≡ true) plan m e time store h h zeros-fit (λ address value _ _. h)
-      (λ feen word. write-keeps (λ f. pointersFit (f .writes) ≡ true) (λ n word f. moved-fits (f .writes) n) 16 0 feen word _ h)
-      (λ n. h) (λ _. zeros-fit) (λ _ _. h)
+module _ (plan : Plan) (m : Model) (q : Request) (time : ℕ) (store : List ℕ) where
+  pub writes-fit : pointersFit (m .pointers .writes) ≡ true → pointersFit (after plan m q time store .pointers .writes) ≡ true
+  writes-fit h = act-keeps (λ r p c b. pointersFit (p .writes) ≡ true) plan m time store q (record {
+    now = h;
+    lv1 = h;
+    fast = λ body. choice (λ (p : Pointers). pointersFit (p .writes) ≡ true) (eqb body 0b0010) (λ _. zeros-fit) (λ _. h);
+    write = λ _ _ _ _. h;
+    push = λ feen word. write-keeps (λ f. pointersFit (f .writes) ≡ true) (λ n word f. moved-fits (f .writes) n) 16 0 feen word _ h;
+    pop = λ _. h;
+    reset = λ _. zeros-fit;
+    run = λ _ _. h;
+  })
 
-  pub reads-fit : pointersFit (m .reads) ≡ true → pointersFit (after plan m e time store .reads) ≡ true
-  reads-fit h =
-      act-keeps (λ r w d b n. pointersFit d ≡ true) plan m e time store h h zeros-fit (λ address value _ _. h) (λ feen word. h)
-      (λ n. moved-fits (m .reads) n h) (λ _. zeros-fit) (λ _ _. h)
+  pub reads-fit : pointersFit (m .pointers .reads) ≡ true → pointersFit (after plan m q time store .pointers .reads) ≡ true
+  reads-fit h = act-keeps (λ r p c b. pointersFit (p .reads) ≡ true) plan m time store q (record {
+    now = h;
+    lv1 = h;
+    fast = λ body. choice (λ (p : Pointers). pointersFit (p .reads) ≡ true) (eqb body 0b0010) (λ _. zeros-fit) (λ _. h);
+    write = λ _ _ _ _. h;
+    push = λ _ _. h;
+    pop = λ n. moved-fits (m .pointers .reads) n h;
+    reset = λ _. zeros-fit;
+    run = λ _ _. h;
+  })
 
-  pub missing-zero : missingZero plan m ≡ true → missingZero plan (after plan m e time store) ≡ true
+  pub missing-zero : missingZero plan m ≡ true → missingZero plan (after plan m q time store) ≡ true
   unfolding missingZero
-  missing-zero h =
-      act-keeps (λ r w d b n. ZeroIn plan r) plan m e time store h h h
-      (λ address value there _. written-zero plan (m .registers) address _ there h)
-      (λ feen word. h) (λ n. h) (λ _. zeros-zero plan) (λ _ _. h)
+  missing-zero h = act-keeps (λ r p c b. ZeroIn plan r) plan m time store q (record {
+    now = h;
+    lv1 = h;
+    fast = λ _. h;
+    write = λ address value there _. written-zero plan (m .registers) address _ there h;
+    push = λ _ _. h;
+    pop = λ _. h;
+    reset = λ _. zeros-zero plan;
+    run = λ _ _. h;
+  })
 
-  pub base-low : m .base ≤ time → after plan m e time store .base ≤ time
-  base-low h =
-      act-keeps (λ r w d b n. b ≤ time) plan m e time store h (le-refl time) h (λ address value _ _. h) (λ feen word. h)
-      (λ n. h) (λ _. le-refl time) (λ _ _. h)
+  pub base-low : m .counters .base ≤ time → after plan m q time store .counters .base ≤ time
+  base-low h = act-keeps (λ r p c b. c .base ≤ time) plan m time store q (record {
+    now = h;
+    lv1 = h;
+    fast = λ body. choice (λ n. n ≤ time) (eqb body 0b0001) (λ _. le-refl time) (λ _. h);
+    write = λ _ _ _ _. h;
+    push = λ _ _. h;
+    pop = λ _. h;
+    reset = λ _. le-refl time;
+    run = λ _ _. h;
+  })
 
-  pub registers-kept : changesRegisters e ≡ false → after plan m e time store .registers ≡ m .registers
-  registers-kept h =
-      act-keeps (λ r w d b n. r ≡ m .registers) plan m e time store refl refl refl (λ address value _ t. clash t h)
-      (λ feen word. refl) (λ n. refl) (λ t. clash t h) (λ _ _. refl)
+  pub registers-kept : changesRegisters q ≡ false → after plan m q time store .registers ≡ m .registers
+  registers-kept h = act-keeps (λ r p c b. r ≡ m .registers) plan m time store q (record {
+    now = refl;
+    lv1 = refl;
+    fast = λ _. refl;
+    write = λ _ _ _ t. clash t h;
+    push = λ _ _. refl;
+    pop = λ _. refl;
+    reset = λ t. clash t h;
+    run = λ _ _. refl;
+  })
 
-  pub cnt-kept : changesRegisters e ≡ false → cntOf plan (after plan m e time store) ≡ cntOf plan m
+  pub cnt-kept : changesRegisters q ≡ false → cntOf plan (after plan m q time store) ≡ cntOf plan m
   cnt-kept h = ap (λ l. getD l (plan .cnt) 0) (registers-kept h)
 
   -- RunMode: ended by LeaveRunMode, started by EnDataTake, else as it was.
-  pub running-kept : changesRunning e ≡ false → after plan m e time store .running ≡ m .running
-  running-kept h =
-      act-keeps (λ r w d b n. n ≡ m .running) plan m e time store refl refl refl (λ address value _ _. refl) (λ feen word. refl)
-      (λ n. refl) (λ _. refl) (λ b t. clash t h)
+  pub running-kept : changesRunning q ≡ false → after plan m q time store .running ≡ m .running
+  running-kept h = act-keeps (λ r p c b. b ≡ m .running) plan m time store q (record {
+    now = refl;
+    lv1 = refl;
+    fast = λ _. refl;
+    write = λ _ _ _ _. refl;
+    push = λ _ _. refl;
+    pop = λ _. refl;
+    reset = λ _. refl;
+    run = λ _ t. clash t h;
+  })
 
-pub begins-stops : (plan : Plan) (m : Model) (time : ℕ) (store : List ℕ) → after plan m request.LeaveRunMode time store .running ≡ false
+pub leave-stops : (plan : Plan) (m : Model) (time : ℕ) (store : List ℕ) → after plan m (Slow LeaveRunMode) time store .running ≡ false
 unfolding actOf
-begins-stops plan m time store = refl
+leave-stops plan m time store = refl
