@@ -2,4 +2,5 @@ pub mod FifoWrite
 pub mod FastCases
 pub mod EffectCases
 pub mod EffectKeeps
+pub mod RecordTime
 pub mod RequestsFit

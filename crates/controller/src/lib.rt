@@ -32,12 +32,19 @@ impl Record {
     {
         self.time * 65536 + self.kind as u64 * 256 + self.flags as u64
     }
+
+    // Whether it is a frame's, after which a taking call stops: kind 24, 25 or 26.
+    pub fn is_frame(self) -> bool
+        ensures { λ r. ⌜ r ≡ isFrameHead (headOf self) ⌝ }
+    {
+        (0x24 <= self.kind) & (self.kind <= 0x26)
+    }
 }
 
 // What one cycle answers: nothing, or a record.
 pub enum Cycle {
     Silent,
-    Recorded { record: Record },
+    Recorded { entry: Record },
 }
 
 pub struct Acted {
@@ -91,7 +98,7 @@ fn answer(model: Model, time: u64, kind: u8, flags: u8, value: u64) -> Acted
     Acted {
         model: model,
         cycle: Cycle::Recorded {
-            record: Record {
+            entry: Record {
                 time: time,
                 kind: kind,
                 flags: flags,
@@ -101,7 +108,7 @@ fn answer(model: Model, time: u64, kind: u8, flags: u8, value: u64) -> Acted
     }
 }
 
-// Whether a record's first word is that of kind 24, 25 or 26, after which a taking call stops.
+// The same of a record of which only the first word is at hand.
 pub fn is_frame_head(head: u64) -> bool
     ensures { λ r. ⌜ r ≡ isFrameHead head ⌝ }
 {

@@ -22,7 +22,7 @@ use Rattle.taking.specs.Run.{stateAfter, wordsAfter}
 use Rattle.taking.specs.Turn.{World, turnOf}
 use Rattle.taking.specs.Take.{Call, takeOf, worldOf}
 use Rattle.taking.specs.Calls.{bitsTaken, wordsStanding, allBits, allWords}
-use Rattle.taking.proofs.Calls.{call-kept}
+use Rattle.taking.proofs.CallLists.{call-kept}
 use Rattle.damage.specs.Commands.{Command, widthOf}
 use Rattle.damage.specs.Streams.{Item, itemSize, streamBits, timed, inverted}
 use Rattle.damage.specs.Table.{damage, hitsFast, itself, insteadOf}

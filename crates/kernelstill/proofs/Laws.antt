@@ -16,7 +16,7 @@ use Rattle.decoder.specs.declared.Opened.{Opened}
 use Rattle.decoder.specs.Opening.{openingNumber}
 use Rattle.decoder.specs.Sound.{soundOf}
 use Rattle.taking.specs.Take.{Call, Left, takeOf, endingNumber}
-use Rattle.taking.proofs.Stays.{take-sound}
+use Rattle.taking.proofs.SoundnessKept.{take-sound}
 use Rattle.text.specs.Block.{Block, block, putOf}
 use Rattle.text.proofs.Puts.{put-fits, put-over}
 use Rattle.hexlines.specs.declared.HexLine.{HexLine}

@@ -8,7 +8,7 @@ use native.Mathlib.Omega.{arith}
 use lib.ListN.{length, set, take}
 use Rattle.bits.proofs.Truth.{clash}
 use Rattle.registers.specs.Plan.{defaultPlan}
-use Rattle.taking.proofs.Stays.{start-sound}
+use Rattle.taking.proofs.SoundnessKept.{start-sound}
 use Rattle.text.specs.Text.{lineFeed}
 use Rattle.hexlines.specs.declared.Seen.{Seen}
 use Rattle.hexlines.specs.Lines.{nothingSeen, saidFrom}

@@ -18,8 +18,8 @@ use Rattle.taking.specs.Run.{Run, runOf, stateAfter}
 use Rattle.taking.specs.Turn.{World, turnOf}
 use Rattle.taking.specs.Take.{Call, Left, refused, clockFits, takenOf, takeOf}
 use Rattle.taking.specs.Calls.{worldLeft}
-use Rattle.taking.proofs.Runs.{run-faithful}
-use Rattle.taking.proofs.Loop.{length-bits}
+use Rattle.taking.proofs.RunFaithful.{run-faithful}
+use Rattle.taking.proofs.LoopInvariant.{length-bits}
 use Rattle.taking.proofs.Refusals.{buffers, range, taken, clock-over}
 use Rattle.printing.specs.Records.{wordsText}
 use Rattle.lister.specs.Listing.{Outcome, outcome, printed, bitsThen, bitsText}

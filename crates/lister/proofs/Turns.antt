@@ -11,7 +11,7 @@ use borrow.Author.Tests.{eqb-false}
 use Rattle.bits.proofs.Truth.{choice}
 use Rattle.decoder.specs.Sound.{soundOf}
 use Rattle.taking.specs.Take.{Call, Left, takeOf}
-use Rattle.taking.proofs.Stays.{take-sound}
+use Rattle.taking.proofs.SoundnessKept.{take-sound}
 use Rattle.text.specs.Block.{block, putAll}
 use Rattle.text.proofs.Puts.{put-low}
 use Rattle.hexlines.specs.Lines.{saidFrom}

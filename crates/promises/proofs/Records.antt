@@ -8,11 +8,11 @@ use Rattle.decoder.specs.declared.Decoder.{Decoder}
 use Rattle.taking.specs.Run.{Run, runOf, stateAfter, wordsAfter}
 use Rattle.taking.specs.Turn.{World, turnOf}
 use Rattle.taking.specs.Take.{Call, offered, worldOf, takenOf}
-use Rattle.taking.proofs.Runs.{run-faithful}
-use Rattle.taking.proofs.Ends.{run-ended}
-use Rattle.taking.proofs.Calls.{call-kept, carried-words, carried-world}
-use Rattle.taking.proofs.Loop.{length-bits}
-use Rattle.taking.proofs.Stays.{start-sound, take-sound}
+use Rattle.taking.proofs.RunFaithful.{run-faithful}
+use Rattle.taking.proofs.RunEndings.{run-ended}
+use Rattle.taking.proofs.CallLists.{call-kept, carried-words, carried-world}
+use Rattle.taking.proofs.LoopInvariant.{length-bits}
+use Rattle.taking.proofs.SoundnessKept.{start-sound, take-sound}
 use Rattle.promises.specs.Records.{Exact, Ends, Cuts, SecondDemand}
 
 exact : (d : Decoder) (c : Call) → Exact d c

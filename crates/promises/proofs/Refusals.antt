@@ -16,7 +16,7 @@ use Rattle.taking.specs.declared.Ending.{Ending}
 use Rattle.taking.specs.declared.Ending.the-variants.{Unsound, WrongBuffers, WrongRange, ClockOver}
 use Rattle.taking.specs.Turn.{turnOf}
 use Rattle.taking.specs.Take.{Call, Left, offered, worldOf, refused, clockFits, takenOf, takeOf, endingNumber}
-use Rattle.taking.proofs.Ends.{run-ended}
+use Rattle.taking.proofs.RunEndings.{run-ended}
 use Rattle.taking.proofs.Refusals.{buffers, range, unsound, wrong-buffers, wrong-range, clock-over, taken}
 use Rattle.promises.specs.Refusals.{firstOf, threeInMask, threeDiffer, takingRows, Opens, Takes, FirstDemand}
 

@@ -1,12 +1,15 @@
 // The taking call. It asks nothing of its caller: it refuses by number.
 ghost use mathlib.Core.Path.{_≡_};
-ghost use Prim.Native.Nat.{_+_, _*_, _-_, _/_, _<_, _≤_, _^_};
-ghost use lib.ListN.{length, set};
 ghost use mathlib.Core.Bool.{true};
+ghost use Prim.Native.Nat.{_+_, _*_, _-_, _/_, _<_, _≤_};
+ghost use lib.ListN.{length, set};
+ghost use Rattle.limits.specs.Limits.{clockLimit, storeLength, inputLimit, listUnit};
+ghost use Rattle.controller.specs.Records.{headOf};
 ghost use Rattle.controller.specs.Requests.{requestFits};
-ghost use Rattle.taking.specs.Perform.{performOf};
-ghost use Rattle.taking.specs.Take.{buffersFit, rangeFits, takenOf, takeOf, endingNumber};
+ghost use Rattle.taking.specs.Perform.{performResult, performOf};
+ghost use Rattle.taking.specs.Take.{call, result, takenWith, buffersFit, rangeFits, takenOf, takeOf, endingNumber};
 use controller::Cycle;
+use controller::Record;
 use decoder::Decoder;
 use recogniser::Recogniser;
 use recogniser::Request;
@@ -41,8 +44,8 @@ impl Ending {
     }
 }
 
-// What a taking call tells beside the state: bits taken, records written, and its ending.
-pub struct Told {
+// What a taking call reports beside the state: bits taken, records written, and its ending.
+pub struct Report {
     pub bits: usize,
     pub records: usize,
     pub ending: Ending,
@@ -50,16 +53,16 @@ pub struct Told {
 
 pub struct Taken {
     pub decoder: Decoder,
-    pub told: Told,
+    pub report: Report,
 }
 
 // A record's two words at the start of the rest of the list.
-fn write_record(rest: &mut [u64], head: u64, value: u64)
-    requires { ⌜ 2 ≤ length (now rest) ⌝ }
-    ensures { λ _. ⌜ now (rest .exit) ≡ set (set (now (rest .entry)) 0 head) 1 value ⌝ }
+fn write_record(rest: &mut [u64], entry: Record)
+    requires { ⌜ (entry .time < clockLimit) × (listUnit ≤ length (now rest)) ⌝ }
+    ensures { λ _. ⌜ now (rest .exit) ≡ set (set (now (rest .entry)) 0 (headOf entry)) 1 (entry .value) ⌝ }
 {
-    rest[0] = head;
-    rest[1] = value;
+    rest[0] = entry.head();
+    rest[1] = entry.value;
 }
 
 // Whether a call's store, tray and first free word are fit, by their lengths.
@@ -88,11 +91,11 @@ fn range_fits(input: &[u8], first: usize, count: usize) -> bool
 impl Taken {
     // A refused call: the state as it came, and nothing taken.
     fn refused(decoder: Decoder, ending: Ending) -> Taken
-        ensures { λ r. ⌜ r ≡ (record { decoder = decoder; told = record { bits = 0; records = 0; ending = ending } }) ⌝ }
+        ensures { λ r. ⌜ r ≡ takenWith decoder 0 0 ending ⌝ }
     {
         Taken {
             decoder: decoder,
-            told: Told {
+            report: Report {
                 bits: 0,
                 records: 0,
                 ending: ending,
@@ -100,8 +103,8 @@ impl Taken {
         }
     }
 
-    // What a call tells where it ends: the state that the loop's locals make up, the bits taken, and the list filled up to a word.
-    fn told(
+    // A call at its end: the state that the loop's locals make up, the bits taken, and the list filled up to a word.
+    fn ended(
         plan: Plan,
         start: u64,
         recogniser: Recogniser,
@@ -111,8 +114,8 @@ impl Taken {
         free: usize,
         ending: Ending,
     ) -> Taken
-        requires { ⌜ (start + taken ≤ 2 ^ 48) × (free ≤ at) ⌝ }
-        ensures { λ r. ⌜ r ≡ (record { decoder = record { plan = plan; next = start + taken; recogniser = recogniser; model = model }; told = record { bits = taken; records = (at - free) / 2; ending = ending } }) ⌝ }
+        requires { ⌜ (start + taken ≤ clockLimit) × (free ≤ at) ⌝ }
+        ensures { λ r. ⌜ r ≡ takenWith (record { plan = plan; next = start + taken; recogniser = recogniser; model = model }) taken ((at - free) / listUnit) ending ⌝ }
     {
         Taken {
             decoder: Decoder {
@@ -121,7 +124,7 @@ impl Taken {
                 recogniser: recogniser,
                 model: model,
             },
-            told: Told {
+            report: Report {
                 bits: taken,
                 records: (at - free) / Decoder::LIST_UNIT,
                 ending: ending,
@@ -148,14 +151,15 @@ fn perform(
     list: &mut [u64],
     at: usize,
 ) -> Performed
-    requires { ⌜ (time < 2 ^ 48) × (length (now store) ≡ 2048) × (requestFits request ≡ true) × (2 ≤ length (now list) - at) ⌝ }
-    ensures { λ r. ⌜ (record { performed = r; store = now (store .exit); list = now (list .exit) }) ≡ performOf plan model request time (now (store .entry)) (now (list .entry)) at ⌝ }
+    requires { ⌜ (time < clockLimit) × (length (now store) ≡ storeLength) × (requestFits request ≡ true) × (listUnit ≤ length (now list) - at) ⌝ }
+    ensures { λ r. ⌜ performResult r (now (store .exit)) (now (list .exit))
+        ≡ performOf plan model request time (now (store .entry)) (now (list .entry)) at ⌝ }
 {
     let acted = controller::act(model, plan, request, time, store);
     let m = acted.model;
     let cnt = m.cnt(plan);
     let cycle = acted.cycle;
-    let Cycle::Record { head, value } = cycle else {
+    let Cycle::Recorded { entry } = cycle else {
         return Performed {
             model: m,
             cnt: cnt,
@@ -163,16 +167,17 @@ fn perform(
             stops: false,
         };
     };
-    write_record(&mut list[at..], head, value);
+    write_record(&mut list[at..], entry);
     Performed {
         model: m,
         cnt: cnt,
         at: at + Decoder::LIST_UNIT,
-        stops: controller::is_frame_head(head),
+        stops: entry.is_frame(),
     }
 }
 
-// A call that is not refused, stretch by stretch. The recogniser, CNT and the counts are locals; arrays are touched only when a frame bit or a request asks for it.
+// A call that is not refused, stretch by stretch. The recogniser, CNT and the counts are locals; arrays are touched only when a frame bit or a request
+// asks for it.
 fn run(
     decoder: Decoder,
     input: &[u8],
@@ -183,9 +188,10 @@ fn run(
     list: &mut [u64],
     free: usize,
 ) -> Taken
-    requires { ⌜ (decoder .next + count ≤ 2 ^ 48) × (length (now store) ≡ 2048) ⌝ }
-    requires { ⌜ (length (now input) ≤ 65536) × (first + count ≤ 8 * length (now input)) × (free ≤ length (now list)) ⌝ }
-    ensures { λ r. ⌜ (record { taken = r; store = now (store .exit); tray = now (tray .exit); list = now (list .exit) }) ≡ takenOf decoder (record { input = now (input .entry); first = first; count = count; store = now (store .entry); tray = now (tray .entry); list = now (list .entry); free = free }) ⌝ }
+    requires { ⌜ (decoder .next + count ≤ clockLimit) × (length (now store) ≡ storeLength) ⌝ }
+    requires { ⌜ (length (now input) ≤ inputLimit) × (first + count ≤ 8 * length (now input)) × (free ≤ length (now list)) ⌝ }
+    ensures { λ r. ⌜ result r (now (store .exit)) (now (tray .exit)) (now (list .exit))
+        ≡ takenOf decoder (call (now (input .entry)) first count (now (store .entry)) (now (tray .entry)) (now (list .entry)) free) ⌝ }
 {
     let plan = decoder.plan;
     let start = decoder.next;
@@ -196,7 +202,7 @@ fn run(
     let mut at = free;
     while taken < count {
         if list.len() - at < Decoder::LIST_UNIT {
-            return Taken::told(
+            return Taken::ended(
                 plan,
                 start,
                 recogniser,
@@ -232,7 +238,7 @@ fn run(
         cnt = done.cnt;
         at = done.at;
         if done.stops {
-            return Taken::told(
+            return Taken::ended(
                 plan,
                 start,
                 recogniser,
@@ -244,7 +250,7 @@ fn run(
             );
         }
     }
-    Taken::told(
+    Taken::ended(
         plan,
         start,
         recogniser,
@@ -268,7 +274,8 @@ pub fn take(
     list: &mut [u64],
     free: usize,
 ) -> Taken
-    ensures { λ r. ⌜ (record { taken = r; store = now (store .exit); tray = now (tray .exit); list = now (list .exit) }) ≡ takeOf decoder (record { input = now (input .entry); first = first; count = count; store = now (store .entry); tray = now (tray .entry); list = now (list .entry); free = free }) ⌝ }
+    ensures { λ r. ⌜ result r (now (store .exit)) (now (tray .exit)) (now (list .exit))
+        ≡ takeOf decoder (call (now (input .entry)) first count (now (store .entry)) (now (tray .entry)) (now (list .entry)) free) ⌝ }
 {
     if !decoder.sound() {
         return Taken::refused(decoder, Ending::Unsound);

@@ -1,12 +1,31 @@
 -- `perform` is a request performed.
 -- Assumes nothing.
+use Prim.Native.Nat.{_<_}
 use native.Mathlib.Omega.{arith}
-use lib.ListN.{length-take, length-drop}
 use borrow.Author.Needs.{needs}
-use Rattle.taking.proofs.Performs.{silently, recorded}
-use Rattle.taking.proofs.Loop.{two-put}
+use lib.ListN.{length-take, length-drop}
+use Rattle.limits.specs.Limits.{clockLimit}
+use Rattle.taking.proofs.PerformCases.{at-time, silently, recorded}
+use Rattle.taking.proofs.LoopInvariant.{two-put}
 use Rattle.taking.proofs.perform.Statement.{statement}
 use Rattle.taking.proofs.perform.Tie as tie
+
+-- The places that the proofs look back to, each by the one after it: the call, after the request's effect, after its CNT.
+abbrev called : tie.After-act → tie.Start
+called a = a .before .before .before .before
+
+abbrev acted : tie.After-cnt → tie.After-act
+acted n = n .before .before .before .before
+
+abbrev counted : tie.After-cycle → tie.After-cnt
+counted k = k .before .before
+
+-- The record's time is the request's.
+time-low : (k : tie.After-cycle) → k .cycle .given .0 .0 .time < clockLimit
+time-low k =
+    let a = acted (counted k) in
+    let s = called a in
+    rw (at-time (s .args .plan) (s .args .model) (s .args .request) (s .args .time) _ _ _ (a .act .ensures) _ (k .cycle .given .1)) (s .pre .0)
 
 act-requires : tie.Need-act-requires
 act-requires c κs = search needs
@@ -24,10 +43,14 @@ same-length : tie.Need-same-length
 same-length c = search needs
 
 returns : tie.Need-returns
-returns c = silently _ _ _ _ _ _ _ _ _ _ (c .before .before .before .before .before .before .act .ensures) (c .before .before .cnt .ensures) (c .enum-told .given .1)
+returns c =
+    let n = c .before .before in
+    silently _ _ _ _ _ _ _ (acted n .act .ensures) _ _ _ (n .cnt .ensures) (c .enum-told .given .1)
 
 mul-write-record : tie.Need-mul-write-record
-mul-write-record c = search needs
+mul-write-record c =
+    let s = called (acted (counted (c .before))) in
+    omega (arith, s .pre .3, s)
 
 sub-write-record : tie.Need-sub-write-record
 sub-write-record c = search needs
@@ -39,15 +62,19 @@ part-write-record-end : tie.Need-part-write-record-end
 part-write-record-end c = search needs
 
 write-record-requires : tie.Need-write-record-requires
-write-record-requires c κs = search needs
+write-record-requires c κs =
+    let k = c .before .before in
+    let s = called (acted (counted k)) in
+    (time-low k, simp (length-take, length-drop) (omega (arith, s .pre .3)))
 
-add-t17 : tie.Need-add-t17
-add-t17 c =
-    let s = c .before .before .before .before .before .before .before .before .before .before .before .before .before .before .before in
+add-t16 : tie.Need-add-t16
+add-t16 c =
+    let w = c .before .before in
+    let s = called (acted (counted (w .before .before .before))) in
     omega (arith, s .pre .3, s)
 
-is-frame-head-requires : tie.Need-is-frame-head-requires
-is-frame-head-requires c κs = search needs
+is-frame-requires : tie.Need-is-frame-requires
+is-frame-requires c κs = search needs
 
 same-length-2 : tie.Need-same-length-2
 same-length-2 c = search needs
@@ -57,9 +84,13 @@ same-length-3 c = search needs
 
 returns-2 : tie.Need-returns-2
 returns-2 c =
-    let s = c .before .before .before .before .before .before .before .before .before .before .before .before .before .before .before .before in
-    recorded _ _ _ _ _ _ _ _ _ _ (c .before .before .before .before .before .before .before .before .before .before .before .before .act .ensures) (c .before .before .before .before .before .before .before .before .cnt .ensures) _ _ _ _ (c .before .before .before .before .before .before .cycle .given .1) (c .is-frame-head .ensures)
-    (rw (c .before .before .before .write-record .ensures) (two-put (s .args .list .now) (s .args .at) _ _ (s .pre .3)))
+    let w = c .before .before .before in
+    let k = w .before .before .before in
+    let n = counted k in
+    let a = acted n in
+    let s = called a in
+    recorded _ _ _ _ _ _ _ (a .act .ensures) _ _ _ (n .cnt .ensures) _ _ _ (k .cycle .given .1) (c .is-frame .ensures)
+    (rw (w .write-record .ensures) (two-put (s .args .list .now) (s .args .at) _ _ (s .pre .3)))
 
 pub perform-spec : {M : Type 1} → statement M
 perform-spec =
@@ -76,8 +107,8 @@ perform-spec =
     part-write-record-start
     part-write-record-end
     write-record-requires
-    add-t17
-    is-frame-head-requires
+    add-t16
+    is-frame-requires
     same-length-2
     same-length-3
     returns-2)

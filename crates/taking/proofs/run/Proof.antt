@@ -4,13 +4,13 @@ use mathlib.Core.Path.{_∙_}
 use Prim.Native.Nat.{_+_, _-_, _≤_}
 use native.Mathlib.Omega.{arith}
 use borrow.Author.Needs.{needs}
-use Rattle.taking.proofs.Loop.{Going, Goes, begun, done, full, quiet, performed, moved, stretched-fits}
+use Rattle.taking.proofs.LoopInvariant.{Invariant, initially, done, full, quiet, performed, moved, stretched-fits}
 use Rattle.taking.proofs.run.Statement.{statement}
 use Rattle.taking.proofs.run.Tie as tie
 
 abbrev Inv-loop : tie.InvT-loop
 Inv-loop input first count store₀ tray₀ list₀ free plan start recogniser₀ model₀ cnt₀ taken₀ at₀ store tray list recogniser model cnt taken at =
-    Going (record { plan = plan; next = start; recogniser = recogniser₀; model = model₀ })
+    Invariant (record { plan = plan; next = start; recogniser = recogniser₀; model = model₀ })
     (record { input = input; first = first; count = count; store = store₀; tray = tray₀; list = list₀; free = free })
     store tray list recogniser model cnt taken at
 
@@ -50,13 +50,13 @@ cnt-requires c κs = search needs
 loop-holds : tie.Need-loop-holds Inv-loop μ-loop
 loop-holds c =
     let s = c .before .before .before .before .before .before .before .before in
-    begun (s .args .decoder) _ _ (omega (arith, s)) (c .cnt .ensures)
+    initially (s .args .decoder) _ _ (omega (arith, s)) (c .cnt .ensures)
 
 sub-if1 : tie.Need-sub-if1 Inv-loop μ-loop
 sub-if1 c = search needs
 
-told-requires : tie.Need-told-requires Inv-loop μ-loop
-told-requires c κs = search needs
+ended-requires : tie.Need-ended-requires Inv-loop μ-loop
+ended-requires c κs = search needs
 
 same-length : tie.Need-same-length Inv-loop μ-loop
 same-length c = c .before .before .before .loop .inv .long
@@ -69,7 +69,7 @@ same-length-3 c = c .before .before .before .loop .inv .same
 
 returns : tie.Need-returns Inv-loop μ-loop
 returns c =
-    rw (c .told .ensures) (full (c .before .before .before .loop .inv) (c .before .before .loop-test .taken) (c .before .if1 .taken))
+    rw (c .ended .ensures) (full (c .before .before .before .loop .inv) (c .before .before .loop-test .taken) (c .before .if1 .taken))
 
 add-advance : tie.Need-add-advance Inv-loop μ-loop
 add-advance c = search needs
@@ -125,8 +125,8 @@ perform-requires c κs =
     let fits = stretched-fits (l .loop .inv) (a .before .before .loop-test .taken) (a .before .if1 .left) (a .advance .result) (a .advance .ensures) in
     (omega (arith, l, began l), (l .loop .inv .long ∙ began l .pre .0 .1), fits, a .before .if1 .left)
 
-told-requires-2 : tie.Need-told-requires-2 Inv-loop μ-loop
-told-requires-2 c κs =
+ended-requires-2 : tie.Need-ended-requires-2 Inv-loop μ-loop
+ended-requires-2 c κs =
     let p = c .before .before .before .before .before .before in
     let a = walked p in
     let l = looped a in
@@ -151,7 +151,7 @@ returns-2 c =
     let l = looped a in
     let g = performed (l .loop .inv) (a .before .before .loop-test .taken) (a .before .if1 .left) (a .advance .result) (a .advance .ensures)
     _ (p .before .before .before .before .before .before .keep .ensures) (p .before .before .before .before .before .tray .given) _ (p .perform .ensures) (c .before .before .before .before .before .before .store .given) in
-    rw (c .told2 .ensures) (g .stopped (c .before .if2 .taken))
+    rw (c .ended2 .ensures) (g .stopped (c .before .if2 .taken))
 
 loop-less-2 : tie.Need-loop-less-2 Inv-loop μ-loop
 loop-less-2 c =
@@ -168,8 +168,8 @@ loop-again-2 c =
     _ (p .before .before .before .before .before .before .keep .ensures) (p .before .before .before .before .before .tray .given) _ (p .perform .ensures) (c .before .before .before .before .before .store .given) in
     g .onwards (c .if2 .left)
 
-told-requires-3 : tie.Need-told-requires-3 Inv-loop μ-loop
-told-requires-3 c κs = search needs
+ended-requires-3 : tie.Need-ended-requires-3 Inv-loop μ-loop
+ended-requires-3 c κs = search needs
 
 same-length-7 : tie.Need-same-length-7 Inv-loop μ-loop
 same-length-7 c = c .before .before .loop .inv .long
@@ -182,7 +182,7 @@ same-length-9 c = c .before .before .loop .inv .same
 
 returns-3 : tie.Need-returns-3 Inv-loop μ-loop
 returns-3 c =
-    rw (c .told3 .ensures) (done (c .before .before .loop .inv) (c .before .loop-test .left))
+    rw (c .ended3 .ensures) (done (c .before .before .loop .inv) (c .before .loop-test .left))
 
 pub run-spec : {M : Type 1} → statement M
 run-spec =
@@ -193,7 +193,7 @@ run-spec =
     cnt-requires
     loop-holds
     sub-if1
-    told-requires
+    ended-requires
     same-length
     same-length-2
     same-length-3
@@ -209,14 +209,14 @@ run-spec =
     add-perform
     sub-perform
     perform-requires
-    told-requires-2
+    ended-requires-2
     same-length-4
     same-length-5
     same-length-6
     returns-2
     loop-less-2
     loop-again-2
-    told-requires-3
+    ended-requires-3
     same-length-7
     same-length-8
     same-length-9

@@ -11,7 +11,8 @@ use Rattle.recogniser.specs.declared.Meaning.{Meaning}
 use Rattle.recogniser.specs.declared.Meaning.the-variants.{Quiet, Trigger, Header}
 use Rattle.recogniser.specs.declared.FrameBit.{FrameBit}
 use Rattle.recogniser.specs.declared.Request.{Request}
-use Rattle.recogniser.specs.declared.Request.the-variants.{Nothing, LeaveRunMode}
+use Rattle.recogniser.specs.declared.Request.the-variants.{Nothing, Slow}
+use Rattle.recogniser.specs.declared.SlowRequest.the-variants.{LeaveRunMode}
 use Rattle.recogniser.specs.declared.Recogniser.{Recogniser}
 use Rattle.recogniser.specs.declared.Transition.{Transition}
 use Rattle.recogniser.specs.Parts.{shifted, idle, transition}
@@ -29,7 +30,7 @@ pub record Keeps (e : Request) : Type 0 where
 -- What a step may do, by the recogniser before it.
 pub data Steps (r : Recogniser) : Transition → Type 0 where
   over : {f : FrameBit} {e : Request} → Steps r (transition idle (record { frame = f; request = e }))
-  begins : {next : Recogniser} {f : FrameBit} → Steps r (transition next (record { frame = f; request = LeaveRunMode }))
+  begins : {next : Recogniser} {f : FrameBit} → Steps r (transition next (record { frame = f; request = Slow LeaveRunMode }))
   goes-on : {next : Recogniser} {f : FrameBit} {e : Request} → Keeps e → (T (insideSlow (next .phase)) → T (insideSlow (r .phase))) → Steps r (transition next (record { frame = f; request = e }))
 
 nothing-keeps : Keeps Nothing

@@ -11,7 +11,8 @@ use lib.ListN.{length, take}
 use borrow.Author.Tests.{leb-true, leb-false, not-false}
 use Rattle.bits.specs.Bits.{bitOf, bitsOf}
 use Rattle.bits.proofs.Truth.{choice}
-use Rattle.recogniser.specs.declared.Request.the-variants.{LeaveRunMode}
+use Rattle.recogniser.specs.declared.Request.the-variants.{Slow}
+use Rattle.recogniser.specs.declared.SlowRequest.the-variants.{LeaveRunMode}
 use Rattle.recogniser.specs.declared.Recogniser.{Recogniser}
 use Rattle.recogniser.specs.declared.Transition.{Transition}
 use Rattle.registers.specs.declared.Plan.{Plan}
@@ -28,10 +29,10 @@ use Rattle.decoder.specs.Sound.{insideSlow, soundOf}
 use Rattle.decoder.proofs.Fits.{start-fits, step-fits}
 use Rattle.decoder.proofs.Soundness.{sound, sound-parts}
 use Rattle.taking.specs.Run.{runOf, stateAfter}
-use Rattle.taking.specs.Turn.{World, transitionOf, turnOf}
-use Rattle.taking.specs.Take.{Call, Left, offered, worldOf, buffersFit, rangeFits, clockFits, takenOf, takeOf}
-use Rattle.taking.proofs.Runs.{run-faithful}
-use Rattle.taking.proofs.Slows.{Steps, over, begins, goes-on, slow-steps}
+use Rattle.taking.specs.Turn.{System, decoderOf, transitionOf, turnOf}
+use Rattle.taking.specs.Take.{Call, CallResult, offered, lent, buffersFit, rangeFits, clockFits, takenOf, takeOf}
+use Rattle.taking.proofs.RunFaithful.{run-faithful}
+use Rattle.taking.proofs.SlowSteps.{Steps, over, begins, goes-on, slow-steps}
 
 -- The start state of a plan that fits.
 opened-sound : (plan : Plan) (cycle : ℕ) → planFits plan ≡ true → cycle ≤ clockLimit → T (soundOf (openedAt plan cycle))
@@ -70,51 +71,51 @@ module _ (plan : Plan) (m : Model) (r : Recogniser) (time : ℕ) (store : List �
 
   stays-fit : {h : Transition} → Steps r h → T (fitOf (h .next) (cntOf plan m)) → T (fitOf (h .next) (cntOf plan (after plan m (h .event .request) time store)))
   stays-fit over t = start-fits _
-  stays-fit begins t = rw (cnt-kept plan m LeaveRunMode time store refl) t
+  stays-fit begins t = rw (cnt-kept plan m (Slow LeaveRunMode) time store refl) t
   stays-fit (goes-on {e = e} k inside) t = rw (cnt-kept plan m e time store (k .registers)) t
 
 -- A cycle keeps a sound state sound.
-pub turn-sound : (w : World) (bit : ℕ) → bit < 2 → T (soundOf (w .decoder)) → w .decoder .next < clockLimit → T (soundOf (turnOf w bit .state .decoder))
+pub turn-sound : (s : System) (bit : ℕ) → bit < 2 → T (soundOf (decoderOf s)) → s .machine .next < clockLimit → T (soundOf (decoderOf (turnOf s bit .state)))
 unfolding turnOf
-turn-sound w bit b t below =
-    let d = w .decoder in
-    let s = sound-parts d t in
-    let h = transitionOf d bit in
-    let k = slow-steps (d .recogniser) bit (cntOf (d .plan) (d .model)) in
-    sound (turnOf w bit .state .decoder) (record {
-      plan = s .plan;
+turn-sound s bit b t below =
+    let m = s .machine in
+    let parts = sound-parts (decoderOf s) t in
+    let q = transitionOf s bit .event .request in
+    let k = slow-steps (s .recogniser) bit (cntOf (m .plan) (m .model)) in
+    sound (decoderOf (turnOf s bit .state)) (record {
+      plan = parts .plan;
       next = omega arith;
-      base = omega (arith, base-low (d .plan) (d .model) (h .event .request) (d .next) (w .store) (s .base));
-      writes = writes-fit (d .plan) (d .model) (h .event .request) (d .next) (w .store) (s .writes);
-      reads = reads-fit (d .plan) (d .model) (h .event .request) (d .next) (w .store) (s .reads);
-      missing = missing-zero (d .plan) (d .model) (h .event .request) (d .next) (w .store) (s .missing);
-      stopped = stays-stopped (d .plan) (d .model) (d .recogniser) (d .next) (w .store) k (s .stopped);
-      fits = stays-fit (d .plan) (d .model) (d .recogniser) (d .next) (w .store) k (step-fits (d .recogniser) bit _ b (s .fits));
+      base = omega (arith, base-low (m .plan) (m .model) q (m .next) (m .store) (parts .base));
+      writes = writes-fit (m .plan) (m .model) q (m .next) (m .store) (parts .writes);
+      reads = reads-fit (m .plan) (m .model) q (m .next) (m .store) (parts .reads);
+      missing = missing-zero (m .plan) (m .model) q (m .next) (m .store) (parts .missing);
+      stopped = stays-stopped (m .plan) (m .model) (s .recogniser) (m .next) (m .store) k (parts .stopped);
+      fits = stays-fit (m .plan) (m .model) (s .recogniser) (m .next) (m .store) k (step-fits (s .recogniser) bit _ b (parts .fits));
     })
 
 -- So do the first bits of a range.
-stays-sound : (input : List ℕ) (n count first : ℕ) (w : World) → T (soundOf (w .decoder)) → w .decoder .next + count ≤ clockLimit
-    → T (soundOf (stateAfter turnOf w (take n (bitsOf input first count)) .decoder))
+bits-sound : (input : List ℕ) (n count first : ℕ) (s : System) → T (soundOf (decoderOf s)) → s .machine .next + count ≤ clockLimit
+    → T (soundOf (decoderOf (stateAfter turnOf s (take n (bitsOf input first count)))))
 unfolding turnOf
-stays-sound input zero count first w t h = t
-stays-sound input (suc n) zero first w t h = t
-stays-sound input (suc n) (suc count) first w t h =
-    stays-sound input n count (first + 1) (turnOf w (bitOf input first) .state)
-    (turn-sound w (bitOf input first) (omega arith) t (omega arith)) (omega arith)
+bits-sound input zero count first s t h = t
+bits-sound input (suc n) zero first s t h = t
+bits-sound input (suc n) (suc count) first s t h =
+    bits-sound input n count (first + 1) (turnOf s (bitOf input first) .state)
+    (turn-sound s (bitOf input first) (omega arith) t (omega arith)) (omega arith)
 
 module _ (d : Decoder) (c : Call) (t : T (soundOf d)) where
   taken-sound : d .next + c .count ≤ clockLimit → T (soundOf (takenOf d c .taken .decoder))
   unfolding takenOf
   taken-sound h =
       let room = length (c .list) - c .free in
-      rw (run-faithful turnOf (offered c) (worldOf d c) room .state)
-      (stays-sound (c .input) (runOf turnOf (offered c) (worldOf d c) room .bits) (c .count) (c .first) (worldOf d c) t h)
+      rw (run-faithful turnOf (offered c) (lent d c) room .state)
+      (bits-sound (c .input) (runOf turnOf (offered c) (lent d c) room .bits) (c .count) (c .first) (lent d c) t h)
 
   -- So does a taking call, also where it is refused.
   pub take-sound : T (soundOf (takeOf d c .taken .decoder))
   unfolding takeOf
   take-sound =
-      let P : Left → Type 0 = λ l. T (soundOf (l .taken .decoder)) in
+      let P : CallResult → Type 0 = λ l. T (soundOf (l .taken .decoder)) in
       choice P (not (soundOf d)) (λ _. t)
       (λ _. choice P (not (buffersFit (length (c .store)) (length (c .tray)) (length (c .list)) (c .free))) (λ _. t)
       (λ _. choice P (not (rangeFits (length (c .input)) (c .first) (c .count))) (λ _. t)

@@ -8,8 +8,9 @@ use native.Mathlib.Omega.{arith}
 use lib.Dec.{ltb, T, ltb→lt, nltb→le}
 use lib.ListN.{length}
 use Rattle.controller.specs.declared.Cycle.{Cycle}
-use Rattle.controller.specs.declared.Cycle.the-variants.{Nothing, Record}
-use Rattle.controller.specs.Records.{isFrameHead}
+use Rattle.controller.specs.declared.Cycle.the-variants.{Silent, Recorded}
+use Rattle.controller.specs.declared.Record.{Record}
+use Rattle.controller.specs.Records.{headOf, isFrameHead}
 use Rattle.taking.specs.declared.Ending.{Ending}
 use Rattle.taking.specs.declared.Ending.the-variants.{Done, Frame, ListFull}
 use Rattle.taking.specs.Run.{Turned, Run, ended, oneBit, oneRecord, afterCycle, runOf}
@@ -67,33 +68,39 @@ module _ {W : Type 0} (turn : W → ℕ → Turned W) where
   }
 
   -- one record ahead
-  recorded : (bits : List ℕ) (room head value : ℕ) (r : Run W) → 2 ≤ room → Ended bits (room - 2) r → Ended bits room (oneRecord head value r)
-  recorded bits room head value r h f = record {
+  recorded : (bits : List ℕ) (room : ℕ) (x : Record) (r : Run W) → 2 ≤ room → Ended bits (room - 2) r → Ended bits room (oneRecord x r)
+  recorded bits room x r h f = record {
     done = f .done;
     full = λ e. let g = f .full e in (g .0, omega arith);
     framed = λ e.
         let l = f .framed e in
-        record { before = head ∷ value ∷ l .before; head = l .head; value = l .value; parts = ap (λ (t : List ℕ). head ∷ value ∷ t) (l .parts); frame = l .frame };
+        record {
+          before = headOf x ∷ x .value ∷ l .before;
+          head = l .head;
+          value = l .value;
+          parts = ap (λ (t : List ℕ). headOf x ∷ x .value ∷ t) (l .parts);
+          frame = l .frame;
+        };
     fits = f .fits;
   }
 
   -- a frame's record
-  stops : (bits : List ℕ) (room head value : ℕ) (w : W) → isFrameHead head ≡ true → Ended bits room (oneRecord head value (ended w Frame))
-  stops bits room head value w f = record {
+  stops : (bits : List ℕ) (room : ℕ) (x : Record) (w : W) → isFrameHead (headOf x) ≡ true → Ended bits room (oneRecord x (ended w Frame))
+  stops bits room x w f = record {
     done = λ e. done-frame (sym e);
     full = frame-full;
-    framed = λ _. record { before = []; head = head; value = value; parts = refl; frame = f };
+    framed = λ _. record { before = []; head = headOf x; value = x .value; parts = refl; frame = f };
     fits = refl;
   }
 
   module _ (bits : List ℕ) (room : ℕ) (enough : 2 ≤ room) (rest : W → ℕ → Run W) (each : (v : W) (left : ℕ) → Ended bits left (rest v left)) where
-    framing : (w : W) (head value : ℕ) (b : Bool) → isFrameHead head ≡ b → Ended bits room (oneRecord head value (cond b (ended w Frame) (rest w (room - 2))))
-    framing w head value true e = stops bits room head value w e
-    framing w head value false e = recorded bits room head value (rest w (room - 2)) enough (each w (room - 2))
+    framing : (w : W) (x : Record) (b : Bool) → isFrameHead (headOf x) ≡ b → Ended bits room (oneRecord x (cond b (ended w Frame) (rest w (room - 2))))
+    framing w x true e = stops bits room x w e
+    framing w x false e = recorded bits room x (rest w (room - 2)) enough (each w (room - 2))
 
     cycled : (w : W) (c : Cycle) → Ended bits room (afterCycle rest w c room)
-    cycled w Nothing = each w room
-    cycled w (Record head value) = framing w head value (isFrameHead head) refl
+    cycled w Silent = each w room
+    cycled w (Recorded x) = framing w x (isFrameHead (headOf x)) refl
 
   tested : (w : W) (bit : ℕ) (bits : List ℕ) (room : ℕ) → ((v : W) (left : ℕ) → Ended bits left (runOf turn bits v left)) → (b : Bool)
       → (T b → room < 2) → (T (not b) → 2 ≤ room)

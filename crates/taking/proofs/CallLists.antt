@@ -13,10 +13,10 @@ use Rattle.decoder.specs.Sound.{soundOf}
 use Rattle.taking.specs.declared.Ending.{Ending}
 use Rattle.taking.specs.declared.Ending.the-variants.{Unsound, WrongBuffers, WrongRange, ClockOver}
 use Rattle.taking.specs.Run.{Run, runOf, stateAfter, wordsAfter}
-use Rattle.taking.specs.Turn.{World, turnOf}
-use Rattle.taking.specs.Take.{Call, Left, offered, worldOf, refused, buffersFit, rangeFits, clockFits, takenOf, takeOf}
-use Rattle.taking.specs.Calls.{Request, bitsTaken, callOf, leftOf, worldLeft, carriedBits, carriedWords, carriedWorld}
-use Rattle.taking.proofs.Runs.{run-faithful, state-append, words-append}
+use Rattle.taking.specs.Turn.{System, decoderOf, turnOf}
+use Rattle.taking.specs.Take.{Call, CallResult, offered, lent, refused, buffersFit, rangeFits, clockFits, takenOf, takeOf}
+use Rattle.taking.specs.Calls.{Part, bitsTaken, callOf, resultOf, systemAfter, carriedBits, carriedWords, carriedSystem}
+use Rattle.taking.proofs.RunFaithful.{run-faithful, state-append, words-append}
 
 -- the words of a run stand in the list where it was lent
 module _ (words list : List ℕ) (free : ℕ) (whole : length words / 2 * 2 ≡ length words) where
@@ -35,30 +35,30 @@ standing [] list free whole fits = refl
 standing (x ∷ xs) list free whole fits = standing-some (x ∷ xs) list free whole (omega arith) fits
 
 -- what holds of an answer to a call: it took a first part of the bits offered, and its buffers are those of that part
-pub record Kept (d : Decoder) (c : Call) (l : Left) : Type 0 where
-  pub taken : l .taken .told .bits ≤ length (offered c)
-  pub world : worldLeft l ≡ stateAfter turnOf (worldOf d c) (take (l .taken .told .bits) (offered c))
-  pub words : take (listUnit * l .taken .told .records) (drop (c .free) (l .list)) ≡ wordsAfter turnOf (worldOf d c) (take (l .taken .told .bits) (offered c))
+pub record Kept (d : Decoder) (c : Call) (l : CallResult) : Type 0 where
+  pub taken : l .taken .report .bits ≤ length (offered c)
+  pub system : systemAfter l ≡ stateAfter turnOf (lent d c) (take (l .taken .report .bits) (offered c))
+  pub words : take (listUnit * l .taken .report .records) (drop (c .free) (l .list)) ≡ wordsAfter turnOf (lent d c) (take (l .taken .report .bits) (offered c))
 
 module _ (d : Decoder) (c : Call) where
   away : (e : Ending) → Kept d c (refused d c e)
-  away e = record { taken = omega arith; world = refl; words = refl }
+  away e = record { taken = omega arith; system = refl; words = refl }
 
-  run : Run World
-  run = runOf turnOf (offered c) (worldOf d c) (length (c .list) - c .free)
+  run : Run System
+  run = runOf turnOf (offered c) (lent d c) (length (c .list) - c .free)
 
   through : Kept d c (takenOf d c)
   unfolding takenOf run
   through =
-      let f = run-faithful turnOf (offered c) (worldOf d c) (length (c .list) - c .free) in
+      let f = run-faithful turnOf (offered c) (lent d c) (length (c .list) - c .free) in
       let z : 0 + run .bits ≡ run .bits = omega arith in
       record {
         taken = let h = f .taken in omega arith;
-        world = rw z (ap (λ (w : World). w) (f .state));
+        system = rw z (ap (λ (s : System). s) (f .state));
         words = rw z (standing (run .words) (c .list) (c .free) (f .whole) (f .fits) ∙ f .words);
       }
 
-  either : (b : Bool) (e : Ending) (l : Left) → Kept d c l → Kept d c (cond b (refused d c e) l)
+  either : (b : Bool) (e : Ending) (l : CallResult) → Kept d c l → Kept d c (cond b (refused d c e) l)
   either true e l k = away e
   either false e l k = k
 
@@ -71,20 +71,20 @@ module _ (d : Decoder) (c : Call) where
       (either (not (clockFits (d .next) (c .count))) ClockOver _ through)))
 
 -- a list of calls, store and tray carried over
-pub carried-world : (w : World) (qs : List Request) → carriedWorld w qs ≡ stateAfter turnOf w (carriedBits w qs)
-unfolding carriedWorld carriedBits
-carried-world w [] = refl
-carried-world w (q ∷ qs) =
-    let k = call-kept (w .decoder) (callOf w q) in
-    let v : World = worldLeft (leftOf w q) in
-    carried-world v qs ∙ ap (λ u. stateAfter turnOf u (carriedBits v qs)) (k .world)
-    ∙ sym (state-append turnOf w (bitsTaken (w .decoder) (callOf w q)) (carriedBits v qs))
+pub carried-system : (s : System) (ps : List Part) → carriedSystem s ps ≡ stateAfter turnOf s (carriedBits s ps)
+unfolding carriedSystem carriedBits
+carried-system s [] = refl
+carried-system s (p ∷ ps) =
+    let k = call-kept (decoderOf s) (callOf s p) in
+    let t : System = systemAfter (resultOf s p) in
+    carried-system t ps ∙ ap (λ u. stateAfter turnOf u (carriedBits t ps)) (k .system)
+    ∙ sym (state-append turnOf s (bitsTaken (decoderOf s) (callOf s p)) (carriedBits t ps))
 
-pub carried-words : (w : World) (qs : List Request) → carriedWords w qs ≡ wordsAfter turnOf w (carriedBits w qs)
+pub carried-words : (s : System) (ps : List Part) → carriedWords s ps ≡ wordsAfter turnOf s (carriedBits s ps)
 unfolding carriedWords carriedBits
-carried-words w [] = refl
-carried-words w (q ∷ qs) =
-    let k = call-kept (w .decoder) (callOf w q) in
-    let v : World = worldLeft (leftOf w q) in
-    ap₂ _++_ (k .words) (carried-words v qs ∙ ap (λ u. wordsAfter turnOf u (carriedBits v qs)) (k .world))
-    ∙ sym (words-append turnOf w (bitsTaken (w .decoder) (callOf w q)) (carriedBits v qs))
+carried-words s [] = refl
+carried-words s (p ∷ ps) =
+    let k = call-kept (decoderOf s) (callOf s p) in
+    let t : System = systemAfter (resultOf s p) in
+    ap₂ _++_ (k .words) (carried-words t ps ∙ ap (λ u. wordsAfter turnOf u (carriedBits t ps)) (k .system))
+    ∙ sym (words-append turnOf s (bitsTaken (decoderOf s) (callOf s p)) (carriedBits t ps))

@@ -8,8 +8,9 @@ use native.Mathlib.Omega.{arith}
 use lib.Dec.{ltb, T, nltb→le}
 use lib.ListN.{length, take}
 use Rattle.controller.specs.declared.Cycle.{Cycle}
-use Rattle.controller.specs.declared.Cycle.the-variants.{Nothing, Record}
-use Rattle.controller.specs.Records.{wordsOf, isFrameHead}
+use Rattle.controller.specs.declared.Cycle.the-variants.{Silent, Recorded}
+use Rattle.controller.specs.declared.Record.{Record}
+use Rattle.controller.specs.Records.{headOf, wordsOf, isFrameHead}
 use Rattle.taking.specs.declared.Ending.{Ending}
 use Rattle.taking.specs.declared.Ending.the-variants.{Done, Frame, ListFull}
 use Rattle.taking.specs.Run.{Turned, Run, ended, oneBit, oneRecord, afterCycle, runOf, stateAfter, wordsAfter}
@@ -44,24 +45,24 @@ module _ {W : Type 0} (turn : W → ℕ → Turned W) where
     Step c =
         turn w bit .cycle ≡ c → Faithful turn w (bit ∷ bits) room (oneBit (afterCycle rest (turn w bit .state) c room))
 
-    recorded : (head value : ℕ) → turn w bit .cycle ≡ Record head value → (r : Run W) → Faithful turn (turn w bit .state) bits (room - 2) r
-        → Faithful turn w (bit ∷ bits) room (oneBit (oneRecord head value r))
-    recorded head value e r f = record {
+    recorded : (x : Record) → turn w bit .cycle ≡ Recorded x → (r : Run W) → Faithful turn (turn w bit .state) bits (room - 2) r
+        → Faithful turn w (bit ∷ bits) room (oneBit (oneRecord x r))
+    recorded x e r f = record {
       state = f .state;
-      words = rw e (ap (λ l. head ∷ value ∷ l) (f .words));
+      words = rw e (ap (λ l. headOf x ∷ x .value ∷ l) (f .words));
       taken = let h = f .taken in omega arith;
       fits = let h = f .fits in omega arith;
       whole = let h = f .whole in omega arith;
     }
 
-    framed : (head value : ℕ) → turn w bit .cycle ≡ Record head value → (b : Bool)
-        → Faithful turn w (bit ∷ bits) room (oneBit (oneRecord head value (cond b (ended (turn w bit .state) Frame) (rest (turn w bit .state) (room - 2)))))
-    framed head value e true = recorded head value e _ (stopped (turn w bit .state) bits (room - 2) Frame)
-    framed head value e false = recorded head value e _ (faithful (turn w bit .state) (room - 2))
+    framed : (x : Record) → turn w bit .cycle ≡ Recorded x → (b : Bool)
+        → Faithful turn w (bit ∷ bits) room (oneBit (oneRecord x (cond b (ended (turn w bit .state) Frame) (rest (turn w bit .state) (room - 2)))))
+    framed x e true = recorded x e _ (stopped (turn w bit .state) bits (room - 2) Frame)
+    framed x e false = recorded x e _ (faithful (turn w bit .state) (room - 2))
 
     stepped : (c : Cycle) → Step c
     unfolding Step
-    stepped Nothing e =
+    stepped Silent e =
         let f = faithful (turn w bit .state) room in
         record {
           state = f .state;
@@ -70,7 +71,7 @@ module _ {W : Type 0} (turn : W → ℕ → Turned W) where
           fits = f .fits;
           whole = f .whole;
         }
-    stepped (Record head value) e = framed head value e (isFrameHead head)
+    stepped (Recorded x) e = framed x e (isFrameHead (headOf x))
 
   tested : (w : W) (bit : ℕ) (bits : List ℕ) (room : ℕ) → ((v : W) (left : ℕ) → Faithful turn v bits left (runOf turn bits v left)) → (b : Bool)
       → (T (not b) → 2 ≤ room)

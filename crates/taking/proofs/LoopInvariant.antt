@@ -21,42 +21,36 @@ use Rattle.registers.specs.declared.Plan.{Plan}
 use Rattle.registers.specs.declared.Model.{Model}
 use Rattle.registers.specs.Registers.{cntOf}
 use Rattle.controller.specs.declared.Cycle.{Cycle}
-use Rattle.controller.specs.declared.Cycle.the-variants.{Nothing, Record}
-use Rattle.controller.specs.Records.{isFrameHead}
+use Rattle.controller.specs.declared.Cycle.the-variants.{Silent, Recorded}
+use Rattle.controller.specs.declared.Record.{Record}
+use Rattle.controller.specs.Records.{headOf, isFrameHead}
 use Rattle.controller.specs.Commands.{Effect, actOf}
 use Rattle.controller.specs.Requests.{requestFits}
 use Rattle.controller.proofs.RequestsFit.{step-request-fits}
 use Rattle.decoder.specs.declared.Decoder.{Decoder}
 use Rattle.taking.specs.declared.Ending.{Ending}
 use Rattle.taking.specs.declared.Ending.the-variants.{Done, Frame, ListFull}
-use Rattle.taking.specs.Perform.{Performing, written, performOf}
+use Rattle.taking.specs.Perform.{PerformResult, recordedAt, performOf}
 use Rattle.taking.specs.Run.{Run, ended, oneBit, oneRecord, afterCycle, runOf}
-use Rattle.taking.specs.Turn.{World, turnOf}
-use Rattle.taking.specs.Take.{Call, Left, finished, takenOf}
-use Rattle.taking.proofs.Stretched.{landed, bitsAhead, run-stretch}
+use Rattle.taking.specs.Turn.{System, decoderOf, turnOf}
+use Rattle.taking.specs.Take.{Call, CallResult, result, takenWith, finished, takenOf}
+use Rattle.taking.proofs.RunStretch.{landed, bitsAhead, run-stretch}
 
--- The world that the loop's locals make up, and the bits that are left.
-abbrev pub worldAt : Decoder → List ℕ → List ℕ → Recogniser → Model → ℕ → World
-worldAt d store tray r m taken = record {
-  decoder = record { plan = d .plan; next = d .next + taken; recogniser = r; model = m };
-  store = store;
-  tray = tray;
-}
+-- The system that the loop's locals make up, and the bits that are left.
+abbrev pub systemAt : Decoder → List ℕ → List ℕ → Recogniser → Model → ℕ → System
+systemAt d store tray r m taken =
+    record { recogniser = r; machine = record { plan = d .plan; next = d .next + taken; model = m; store = store; tray = tray } }
 
 abbrev pub left : Call → ℕ → List ℕ
 left c taken = bitsOf (c .input) (c .first + taken) (c .count - taken)
 
 -- The answer at an end of the loop.
-abbrev pub answered : Call → World → ℕ → ℕ → Ending → List ℕ → Left
-answered c w taken at ending list = record {
-  taken = record { decoder = w .decoder; told = record { bits = taken; records = (at - c .free) / 2; ending = ending } };
-  store = w .store;
-  tray = w .tray;
-  list = list;
-}
+abbrev pub answered : Call → System → ℕ → ℕ → Ending → List ℕ → CallResult
+answered c s taken at ending list =
+    result (takenWith (decoderOf s) taken ((at - c .free) / 2) ending) (s .machine .store) (s .machine .tray) list
 
 -- The run that is left, finished onto what is taken and written so far, is the whole call.
-pub record Going (d : Decoder) (c : Call) (store tray list : List ℕ) (r : Recogniser) (m : Model) (cnt taken at : ℕ) : Type 0 where
+pub record Invariant (d : Decoder) (c : Call) (store tray list : List ℕ) (r : Recogniser) (m : Model) (cnt taken at : ℕ) : Type 0 where
   pub low : taken ≤ c .count
   pub from : c .free ≤ at
   pub fits : at ≤ length list
@@ -64,12 +58,12 @@ pub record Going (d : Decoder) (c : Call) (store tray list : List ℕ) (r : Reco
   pub long : length store ≡ length (c .store)
   pub wide : length tray ≡ length (c .tray)
   pub cnt-is : cnt ≡ cntOf (d .plan) m
-  pub rest : finished taken ((at - c .free) / 2) list at (runOf turnOf (left c taken) (worldAt d store tray r m taken) (length list - at)) ≡ takenOf d c
+  pub rest : finished taken ((at - c .free) / 2) list at (runOf turnOf (left c taken) (systemAt d store tray r m taken) (length list - at)) ≡ takenOf d c
 
-pub begun : (d : Decoder) (c : Call) (cnt : ℕ) → c .free ≤ length (c .list) → cnt ≡ cntOf (d .plan) (d .model)
-    → Going d c (c .store) (c .tray) (c .list) (d .recogniser) (d .model) cnt 0 (c .free)
+pub initially : (d : Decoder) (c : Call) (cnt : ℕ) → c .free ≤ length (c .list) → cnt ≡ cntOf (d .plan) (d .model)
+    → Invariant d c (c .store) (c .tray) (c .list) (d .recogniser) (d .model) cnt 0 (c .free)
 unfolding takenOf
-begun d c cnt h e =
+initially d c cnt h e =
     let a : c .first + 0 ≡ c .first = omega arith in
     let b : d .next + 0 ≡ d .next = omega arith in
     let s : c .count - 0 ≡ c .count = omega arith in
@@ -77,7 +71,7 @@ begun d c cnt h e =
     record { low = omega arith; from = omega arith; fits = h; same = refl; long = refl; wide = refl; cnt-is = e; rest = rw (a, b, s, z) }
 
 -- an end of the run
-ending : (c : Call) (w : World) (e : Ending) (taken at : ℕ) (list : List ℕ)
+ending : (c : Call) (w : System) (e : Ending) (taken at : ℕ) (list : List ℕ)
     → answered c w taken at e list ≡ finished taken ((at - c .free) / 2) list at (ended w e)
 ending c w e taken at list = simp add-zero
 
@@ -119,43 +113,40 @@ two-put l at x v h =
     rw (left, ← right, ← front) (take-append-drop at (set (set l at x) (at + 1) v))
 
 -- no room for a record: no bit is taken
-no-room : (w : World) (bit : ℕ) (bits : List ℕ) (room : ℕ) → room < 2 → runOf turnOf (bit ∷ bits) w room ≡ ended w ListFull
+no-room : (w : System) (bit : ℕ) (bits : List ℕ) (room : ℕ) → room < 2 → runOf turnOf (bit ∷ bits) w room ≡ ended w ListFull
 no-room w bit bits room h =
     ap (λ b. cond b (ended w ListFull) (oneBit (afterCycle (runOf turnOf bits) (turnOf w bit .state) (turnOf w bit .cycle) room))) (lt-ltb room 2 h)
 
 -- a run with a record ahead of it, finished
-wrote-one : (taken at free x v : ℕ) (list : List ℕ) (r : Run World) → free ≤ at
-    → finished taken ((at - free) / 2) list at (oneRecord x v r) ≡ finished taken ((at + 2 - free) / 2) (set (set list at x) (at + 1) v) (at + 2) r
-wrote-one taken at free x v list r h =
+wrote-one : (taken at free : ℕ) (x : Record) (list : List ℕ) (r : Run System) → free ≤ at
+    → finished taken ((at - free) / 2) list at (oneRecord x r)
+    ≡ finished taken ((at + 2 - free) / 2) (set (set list at (headOf x)) (at + 1) (x .value)) (at + 2) r
+wrote-one taken at free x list r h =
     let n : (at - free) / 2 + suc (suc (length (r .words))) / 2 ≡ (at + 2 - free) / 2 + length (r .words) / 2 = omega arith in
     let a : suc at ≡ at + 1 = omega arith in
     let b : suc (suc at) ≡ at + 2 = omega arith in
-    λ i. record {
-      taken = record { decoder = r .state .decoder; told = record { bits = taken + r .bits; records = n i; ending = r .ending } };
-      store = r .state .store;
-      tray = r .state .tray;
-      list = sets (set (set list at x) (a i) v) (b i) (r .words);
-    }
+    λ i. result (takenWith (decoderOf (r .state)) (taken + r .bits) (n i) (r .ending)) (r .state .machine .store) (r .state .machine .tray)
+    (sets (set (set list at (headOf x)) (a i) (x .value)) (b i) (r .words))
 
 -- Once a request is performed, the call goes on, or it stops at a frame's record.
-pub record Goes (d : Decoder) (c : Call) (tray : List ℕ) (r : Recogniser) (taken : ℕ) (p : Performing) : Type 0 where
+pub record AfterRequest (d : Decoder) (c : Call) (tray : List ℕ) (r : Recogniser) (taken : ℕ) (p : PerformResult) : Type 0 where
   pub from : c .free ≤ p .performed .at
-  pub onwards : p .performed .stops ≡ false → Going d c (p .store) tray (p .list) r (p .performed .model) (p .performed .cnt) taken (p .performed .at)
-  pub stopped : p .performed .stops ≡ true → answered c (worldAt d (p .store) tray r (p .performed .model) taken) taken (p .performed .at) Frame (p .list) ≡ takenOf d c
+  pub onwards : p .performed .stops ≡ false → Invariant d c (p .store) tray (p .list) r (p .performed .model) (p .performed .cnt) taken (p .performed .at)
+  pub stopped : p .performed .stops ≡ true → answered c (systemAt d (p .store) tray r (p .performed .model) taken) taken (p .performed .at) Frame (p .list) ≡ takenOf d c
 
 -- a record leaves the store
-same-store : (plan : Plan) (m : Model) (y : Cycle) (store list : List ℕ) (at : ℕ) → length (written plan m y store list at .store) ≡ length store
-same-store plan m Nothing store list at = refl
-same-store plan m (Record x v) store list at = refl
+same-store : (plan : Plan) (m : Model) (y : Cycle) (store list : List ℕ) (at : ℕ) → length (recordedAt plan m y store list at .store) ≡ length store
+same-store plan m Silent store list at = refl
+same-store plan m (Recorded x) store list at = refl
 
 passes-fit : {cnt : ℕ} {r : Recogniser} {bits : List ℕ} {s : Stretch} → Passes cnt r bits s → requestFits (s .event .request) ≡ true
 passes-fit (ends r) = refl
 passes-fit {cnt} (last r bit bits) = step-request-fits r bit cnt
 passes-fit (more r bit bits s noEvent p) = passes-fit p
 
-module _ {d : Decoder} {c : Call} {store tray list : List ℕ} {r : Recogniser} {m : Model} {cnt taken at : ℕ} (g : Going d c store tray list r m cnt taken at) where
-  abbrev here : World
-  here = worldAt d store tray r m taken
+module _ {d : Decoder} {c : Call} {store tray list : List ℕ} {r : Recogniser} {m : Model} {cnt taken at : ℕ} (g : Invariant d c store tray list r m cnt taken at) where
+  abbrev here : System
+  here = systemAt d store tray r m taken
 
   pub done : c .count ≤ taken → answered c here taken at Done list ≡ takenOf d c
   done h =
@@ -211,8 +202,8 @@ module _ {d : Decoder} {c : Call} {store tray list : List ℕ} {r : Recogniser} 
 
       module _ (tray₁ : List ℕ) (put : tray₁ ≡ trayOf tray (s .event .frame)) (kept-tray : length tray₁ ≡ length tray) where
         module _ (f : Effect) (did : f ≡ actOf (d .plan) m (s .event .request) (d .next + on - 1) store) (kept : length (f .store) ≡ length store) where
-          abbrev there : World
-          there = worldAt d (f .store) tray₁ (s .next) (f .acted .model) on
+          abbrev there : System
+          there = systemAt d (f .store) tray₁ (s .next) (f .acted .model) on
 
           lands : landed here s ≡ record { state = there; cycle = f .acted .cycle }
           lands =
@@ -223,14 +214,14 @@ module _ {d : Decoder} {c : Call} {store tray list : List ℕ} {r : Recogniser} 
           onward =
               let e : (n : ℕ) → on + n ≡ taken + (s .taken + n) = λ n. omega arith in
               let k : cntOf (d .plan) m ≡ cnt = sym (g .cnt-is) in
-              let run : Run World = afterCycle (runOf turnOf (left c on)) there (f .acted .cycle) (length list - at) in
+              let run : Run System = afterCycle (runOf turnOf (left c on)) there (f .acted .cycle) (length list - at) in
               let to : runOf turnOf (left c taken) here (length list - at) ≡ bitsAhead (s .taken) run =
               run-stretch cnt (length list - at) room passes here refl k
               ∙ (λ i. bitsAhead (s .taken) (afterCycle (runOf turnOf (after i)) (lands i .state) (lands i .cycle) (length list - at))) in
               rw (e (run .bits)) (ap (finished taken ((at - c .free) / 2) list at) (sym to) ∙ g .rest)
 
-          goes : (y : Cycle) → f .acted .cycle ≡ y → Goes d c tray₁ (s .next) on (written (d .plan) (f .acted .model) y (f .store) list at)
-          goes Nothing e = record {
+          goes : (y : Cycle) → f .acted .cycle ≡ y → AfterRequest d c tray₁ (s .next) on (recordedAt (d .plan) (f .acted .model) y (f .store) list at)
+          goes Silent e = record {
             from = g .from;
             onwards = λ _. record {
               low = moved .1;
@@ -244,13 +235,13 @@ module _ {d : Decoder} {c : Call} {store tray list : List ℕ} {r : Recogniser} 
             };
             stopped = λ t. clash t refl;
           }
-          goes (Record x v) e =
-              let list₁ : List ℕ = set (set list at x) (at + 1) v in
+          goes (Recorded x) e =
+              let list₁ : List ℕ = set (set list at (headOf x)) (at + 1) (x .value) in
               let same-list : length list₁ ≡ length list = simp length-set in
               let low : c .free ≤ at + 2 = omega (arith, g .from) in
-              let next : Bool → Run World = λ b. cond b (ended there Frame) (runOf turnOf (left c on) there (length list - at - 2)) in
-              let recorded : finished on ((at + 2 - c .free) / 2) list₁ (at + 2) (next (isFrameHead x)) ≡ takenOf d c =
-              sym (wrote-one on at (c .free) x v list (next (isFrameHead x)) (g .from)) ∙ (rw e at onward) in
+              let next : Bool → Run System = λ b. cond b (ended there Frame) (runOf turnOf (left c on) there (length list - at - 2)) in
+              let recorded : finished on ((at + 2 - c .free) / 2) list₁ (at + 2) (next (isFrameHead (headOf x))) ≡ takenOf d c =
+              sym (wrote-one on at (c .free) x list (next (isFrameHead (headOf x))) (g .from)) ∙ (rw e at onward) in
               record {
                 from = low;
                 onwards = λ h.
@@ -269,15 +260,15 @@ module _ {d : Decoder} {c : Call} {store tray list : List ℕ} {r : Recogniser} 
               }
 
         -- a stretch that asks nothing of the controller
-        pub quiet : s .event .request ≡ request.Nothing → Going d c store tray₁ list (s .next) m cnt on at
+        pub quiet : s .event .request ≡ request.Nothing → Invariant d c store tray₁ list (s .next) m cnt on at
         unfolding actOf
-        quiet e = rw (g .cnt-is) (goes (record { acted = record { model = m; cycle = Nothing }; store = store }) (rw e) refl Nothing refl .onwards refl)
+        quiet e = rw (g .cnt-is) (goes (record { acted = record { model = m; cycle = Silent }; store = store }) (rw e) refl Silent refl .onwards refl)
 
         -- a stretch whose request is performed
-        pub performed : (p : Performing) → p ≡ performOf (d .plan) m (s .event .request) (d .next + on - 1) store list at → length (p .store) ≡ length store
-            → Goes d c tray₁ (s .next) on p
+        pub performed : (p : PerformResult) → p ≡ performOf (d .plan) m (s .event .request) (d .next + on - 1) store list at → length (p .store) ≡ length store
+            → AfterRequest d c tray₁ (s .next) on p
         unfolding performOf
         performed p e kept =
             let f : Effect = actOf (d .plan) m (s .event .request) (d .next + on - 1) store in
-            let k : length (f .store) ≡ length store = sym (ap (λ (q : Performing). length (q .store)) e ∙ same-store (d .plan) (f .acted .model) (f .acted .cycle) (f .store) list at) ∙ kept in
+            let k : length (f .store) ≡ length store = sym (ap (λ (q : PerformResult). length (q .store)) e ∙ same-store (d .plan) (f .acted .model) (f .acted .cycle) (f .store) list at) ∙ kept in
             rw e (goes f refl k (f .acted .cycle) refl)
