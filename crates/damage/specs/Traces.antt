@@ -10,23 +10,23 @@ use Rattle.recogniser.specs.declared.Request.the-variants.{Nothing}
 use Rattle.recogniser.specs.declared.Recogniser.{Recogniser}
 use Rattle.recogniser.specs.Step.{stepOf}
 use Rattle.damage.specs.Commands.{Command, widthOf}
-use Rattle.damage.specs.Streams.{Item, itemSize}
-use Rattle.damage.specs.Table.{Instead, nothing, at, itself, insteadOf}
+use Rattle.damage.specs.CleanStreams.{Item, itemSize}
+use Rattle.damage.specs.Table.{Replacement, nothing, at, itself, replacementOf}
 
 -- The requests of a recogniser over some bits, and where it stands after them. CNT is 0: no Slow command is about.
 unfoldable pub requestsOf : Recogniser → List ℕ → List Request
 requestsOf r [] = []
 requestsOf r (bit ∷ bits) = stepOf r bit 0 .event .request ∷ requestsOf (stepOf r bit 0 .next) bits
 
-unfoldable pub standsAfter : Recogniser → List ℕ → Recogniser
-standsAfter r [] = r
-standsAfter r (bit ∷ bits) = standsAfter (stepOf r bit 0 .next) bits
+unfoldable pub recogniserAfter : Recogniser → List ℕ → Recogniser
+recogniserAfter r [] = r
+recogniserAfter r (bit ∷ bits) = recogniserAfter (stepOf r bit 0 .next) bits
 
 abbrev pub quiet : ℕ → List Request
 quiet n = replicate n Nothing
 
 -- Over the bits of a command: nothing, or one request at one of them.
-abbrev pub spread : ℕ → Instead → List Request
+abbrev pub spread : ℕ → Replacement → List Request
 spread width nothing = quiet width
 spread width (at p e) = quiet (p - 1) ++ (e ∷ quiet (width - p))
 
@@ -42,7 +42,7 @@ cleanTrace (i ∷ is) trailing = itemTrace i ++ cleanTrace is trailing
 
 -- An item whose bit k is inverted.
 abbrev pub damagedItem : Item → ℕ → List Request
-damagedItem i k = quiet (i .ahead) ++ spread (widthOf (i .command)) (insteadOf i k)
+damagedItem i k = quiet (i .ahead) ++ spread (widthOf (i .command)) (replacementOf i k)
 
 abbrev pub damagedTrace : List Item → ℕ → ℕ → List Request
 damagedTrace [] trailing k = quiet trailing

@@ -12,7 +12,7 @@ use Rattle.decoder.specs.Opening.{openOf}
 use Rattle.decoder.specs.Sound.{soundOf}
 use Rattle.taking.specs.Turn.{turnOf}
 use Rattle.taking.specs.Take.{takenOf, takeOf}
-use Rattle.streams.specs.Edges.{LongestFrame, LastCycle}
+use Rattle.worked_examples.specs.Edges.{LongestFrame, LastCycle}
 
 pub last-cycle : LastCycle
 unfolding stepOf fitOf trayOf planFits everyFrom pointersFit missingZero writeOf actOf openOf soundOf turnOf takenOf takeOf

@@ -23,7 +23,7 @@ use Rattle.decoder.specs.Opening.{openedAt, openOf, opened}
 use Rattle.taking.specs.declared.Ending.the-variants.{Done, Frame, ClockOver}
 use Rattle.taking.specs.Take.{Call, takeOf, endingNumber}
 use Rattle.taking.specs.Calls.{wordsStanding}
-use Rattle.streams.specs.Marked.{running}
+use Rattle.worked_examples.specs.Marked.{running}
 
 -- The recogniser at the start of a WrFrontEnd's Field 5, and with so many of its bits received.
 abbrev pub inField : ℕ → Recogniser

@@ -17,12 +17,12 @@ use Rattle.recogniser.specs.declared.Phase.the-variants.{Hunt}
 use Rattle.recogniser.specs.Parts.{idle, startOf}
 use Rattle.recogniser.specs.Step.{stepOf}
 use Rattle.damage.specs.Commands.{Command, lv1, bcr, ecr, cal, sync, codeOf, widthOf, isFastCommand}
-use Rattle.damage.specs.Streams.{Item, zeros, zerosBetween, itemBits, itemSize, streamBits, spaced, timed, inverted}
-use Rattle.damage.specs.Table.{Instead, damage, hitsFast, itself, insteadOf}
-use Rattle.damage.specs.Traces.{requestsOf, standsAfter, quiet, spread, itemTrace, cleanTrace, damagedItem, damagedTrace}
+use Rattle.damage.specs.CleanStreams.{Item, zeros, zerosBetween, itemBits, itemSize, streamBits, spaced, timed, inverted}
+use Rattle.damage.specs.Table.{Replacement, damage, hitsFast, itself, replacementOf}
+use Rattle.damage.specs.Traces.{requestsOf, recogniserAfter, quiet, spread, itemTrace, cleanTrace, damagedItem, damagedTrace}
 use Rattle.damage.proofs.Computed.{below, below-at, each-at}
-use Rattle.damage.proofs.Trace.{Shows, chain, onward}
-use Rattle.damage.proofs.Resume.{shownBy, shouldShow, Resumes, Settles, empty-resumes, idling, trailing, late, clean-item, resumed-run}
+use Rattle.damage.proofs.TraceLaws.{Shows, chain, onward}
+use Rattle.damage.proofs.Recovery.{shownBy, shouldShow, Resumes, Settles, empty-resumes, idling, trailing, late, clean-item, resumed-run}
 
 -- where the inverted bit lies
 pub inverted-left : (k : ℕ) (xs ys : List ℕ) → k < length xs → inverted k (xs ++ ys) ≡ inverted k xs ++ ys
@@ -63,11 +63,11 @@ abbrev hitTrace : Command → ℕ → List Request
 hitTrace c k = spread (widthOf c) (damage c (suc k))
 
 hit-shows : (c : Command) → below (widthOf c) (λ k. requestsOf idle (hit c k)) ≡ below (widthOf c) (hitTrace c)
-unfolding stepOf requestsOf standsAfter
+unfolding stepOf requestsOf recogniserAfter
 hit-shows = each-at (λ c. below (widthOf c) (λ k. requestsOf idle (hit c k))) (λ c. below (widthOf c) (hitTrace c)) refl
 
-hit-resumes : (c : Command) → below (widthOf c) (λ k. shownBy c (standsAfter idle (hit c k))) ≡ below (widthOf c) (λ k. shouldShow c)
-unfolding stepOf requestsOf standsAfter
+hit-resumes : (c : Command) → below (widthOf c) (λ k. shownBy c (recogniserAfter idle (hit c k))) ≡ below (widthOf c) (λ k. shouldShow c)
+unfolding stepOf requestsOf recogniserAfter
 hit-resumes lv1 = refl
 hit-resumes bcr = refl
 hit-resumes ecr = refl
@@ -76,25 +76,25 @@ hit-resumes sync = refl
 
 pub in-command : (a : ℕ) (c : Command) (k : ℕ) → k < widthOf c → Safely c idle (zeros a ++ hit c k) (quiet a ++ hitTrace c k)
 in-command a c k h = record {
-  end = standsAfter idle (hit c k);
+  end = recogniserAfter idle (hit c k);
   shows = chain (idling a) (record { seen = below-at (widthOf c) (λ k. requestsOf idle (hit c k)) (hitTrace c) (hit-shows c) k h; left = refl });
-  resumes = below-at (widthOf c) (λ k. shownBy c (standsAfter idle (hit c k))) (λ k. shouldShow c) (hit-resumes c) k h;
+  resumes = below-at (widthOf c) (λ k. shownBy c (recogniserAfter idle (hit c k))) (λ k. shouldShow c) (hit-resumes c) k h;
 }
 
 -- what stands in a command's place for a zero so far ahead of it
-abbrev pub zeroDamage : Command → ℕ → Instead
+abbrev pub zeroDamage : Command → ℕ → Replacement
 zeroDamage c distance = cond (hitsFast c distance) (damage c 0) (itself c)
 
 -- by where the inverted bit lies
-instead-test : (i : Item) (k : ℕ) (b : Bool)
+replacement-test : (i : Item) (k : ℕ) (b : Bool)
     → cond (cond b (hitsFast (i .command) (i .ahead - k)) true) (damage (i .command) (cond b 0 (suc (k - i .ahead)))) (itself (i .command))
     ≡ cond b (zeroDamage (i .command) (i .ahead - k)) (damage (i .command) (suc (k - i .ahead)))
-instead-test i k true = refl
-instead-test i k false = refl
+replacement-test i k true = refl
+replacement-test i k false = refl
 
-pub instead-by : (i : Item) (k : ℕ)
-    → insteadOf i k ≡ cond (ltb k (i .ahead)) (zeroDamage (i .command) (i .ahead - k)) (damage (i .command) (suc (k - i .ahead)))
-instead-by i k = instead-test i k (ltb k (i .ahead))
+pub replacement-by : (i : Item) (k : ℕ)
+    → replacementOf i k ≡ cond (ltb k (i .ahead)) (zeroDamage (i .command) (i .ahead - k)) (damage (i .command) (suc (k - i .ahead)))
+replacement-by i k = replacement-test i k (ltb k (i .ahead))
 
 -- a zero ahead of a command: the window after a one, and then z zeros more, computed for fewer than five
 abbrev one : Recogniser
@@ -107,16 +107,16 @@ abbrev nearTrace : Command → ℕ → List Request
 nearTrace c z = quiet z ++ spread (widthOf c) (zeroDamage c (suc z))
 
 near-shows : (c : Command) → below 5 (λ z. requestsOf one (near c z)) ≡ below 5 (nearTrace c)
-unfolding stepOf requestsOf standsAfter
+unfolding stepOf requestsOf recogniserAfter
 near-shows = each-at (λ c. below 5 (λ z. requestsOf one (near c z))) (λ c. below 5 (nearTrace c)) refl
 
-near-resumes : (c : Command) → below 5 (λ z. shownBy c (standsAfter one (near c z))) ≡ below 5 (λ z. shouldShow c)
-unfolding stepOf requestsOf standsAfter
-near-resumes = each-at (λ c. below 5 (λ z. shownBy c (standsAfter one (near c z)))) (λ c. below 5 (λ z. shouldShow c)) refl
+near-resumes : (c : Command) → below 5 (λ z. shownBy c (recogniserAfter one (near c z))) ≡ below 5 (λ z. shouldShow c)
+unfolding stepOf requestsOf recogniserAfter
+near-resumes = each-at (λ c. below 5 (λ z. shownBy c (recogniserAfter one (near c z)))) (λ c. below 5 (λ z. shouldShow c)) refl
 
 -- zeros after that one: nothing is seen, and five of them empty the window
 one-settles : Settles one
-unfolding stepOf requestsOf standsAfter
+unfolding stepOf requestsOf recogniserAfter
 one-settles = record { few = refl; emptied = refl }
 
 -- three zeros or more ahead hit no Fast
@@ -135,9 +135,9 @@ behind-one c z =
     (λ h.
     let g = ltb→lt z 5 h in
     record {
-      end = standsAfter one (near c z);
+      end = recogniserAfter one (near c z);
       shows = record { seen = below-at 5 (λ z. requestsOf one (near c z)) (nearTrace c) (near-shows c) z g; left = refl };
-      resumes = below-at 5 (λ z. shownBy c (standsAfter one (near c z))) (λ z. shouldShow c) (near-resumes c) z g;
+      resumes = below-at 5 (λ z. shownBy c (recogniserAfter one (near c z))) (λ z. shouldShow c) (near-resumes c) z g;
     })
     (λ h.
     let g = nltb→le z 5 h in
@@ -148,7 +148,7 @@ behind-one c z =
     })
 
 one-bit : Shows idle (1 ∷ []) (Nothing ∷ []) one
-unfolding stepOf requestsOf standsAfter
+unfolding stepOf requestsOf recogniserAfter
 one-bit = record { seen = refl; left = refl }
 
 -- an inverted bit among the zeros of an item, and anywhere in it
@@ -161,7 +161,7 @@ in-zeros a k c h =
 
 pub in-item : (i : Item) (k : ℕ) → k < itemSize i → Safely (i .command) idle (inverted k (itemBits i)) (damagedItem i k)
 in-item i k h =
-    rw (instead-by i k)
+    rw (replacement-by i k)
     (cond-case (λ x. Safely (i .command) idle (inverted k (itemBits i)) (quiet (i .ahead) ++ spread (widthOf (i .command)) x)) (ltb k (i .ahead)) {x = zeroDamage (i .command) (i .ahead - k)} {y = damage (i .command) (suc (k - i .ahead))}
     (λ b.
     let g : k < length (zeros (i .ahead)) = rw length-replicate (ltb→lt k (i .ahead) b) in

@@ -14,10 +14,10 @@ use Rattle.recogniser.specs.declared.Recogniser.{Recogniser}
 use Rattle.recogniser.specs.Parts.{idle}
 use Rattle.recogniser.specs.Step.{stepOf}
 use Rattle.damage.specs.Commands.{Command, codeOf}
-use Rattle.damage.specs.Streams.{Item, zeros, zerosBetween, itemBits, streamBits, spaced}
-use Rattle.damage.specs.Traces.{requestsOf, standsAfter, quiet, commandTrace, itemTrace, cleanTrace}
+use Rattle.damage.specs.CleanStreams.{Item, zeros, zerosBetween, itemBits, streamBits, spaced}
+use Rattle.damage.specs.Traces.{requestsOf, recogniserAfter, quiet, commandTrace, itemTrace, cleanTrace}
 use Rattle.damage.proofs.Computed.{below, below-at, each, each-at}
-use Rattle.damage.proofs.Trace.{Shows, chain, onward}
+use Rattle.damage.proofs.TraceLaws.{Shows, chain, onward}
 
 -- What a recogniser shows over a few zeros, over five, and over each command behind a few more zeros than the timing table asks after c.
 pub record Shown : Type 0 where
@@ -32,9 +32,9 @@ behind c d y = zeros (zerosBetween c d + y) ++ codeOf d
 abbrev pub shownBy : Command → Recogniser → Shown
 shownBy c r = record {
   few = below 6 (λ z. requestsOf r (zeros z));
-  emptied = standsAfter r (zeros 5);
+  emptied = recogniserAfter r (zeros 5);
   next = each (λ d. below 5 (λ y. requestsOf r (behind c d y)));
-  left = each (λ d. below 5 (λ y. standsAfter r (behind c d y)));
+  left = each (λ d. below 5 (λ y. recogniserAfter r (behind c d y)));
 }
 
 -- What it should show: nothing over zeros, an empty window after five, each command as itself, and an empty window after it.
@@ -51,12 +51,12 @@ abbrev pub Resumes : Command → Recogniser → Type 0
 Resumes c r = shownBy c r ≡ shouldShow c
 
 pub empty-resumes : (c : Command) → Resumes c idle
-unfolding stepOf requestsOf standsAfter
+unfolding stepOf requestsOf recogniserAfter
 empty-resumes = each-at (λ c. shownBy c idle) shouldShow refl
 
 -- zeros, from an empty window and from one that resumes
 pub idling : (n : ℕ) → Shows idle (zeros n) (quiet n) idle
-unfolding stepOf requestsOf standsAfter
+unfolding stepOf requestsOf recogniserAfter
 idling zero = record { seen = refl; left = refl }
 idling (suc n) = record { seen = ap (λ (l : List Request). Nothing ∷ l) (idling n .seen); left = idling n .left }
 
@@ -66,16 +66,16 @@ five-more a z h = let e : 5 + (z - 5) ≡ z = omega arith in sym (replicate-appe
 -- From r zeros show nothing, and five of them empty the window.
 pub record Settles (r : Recogniser) : Type 0 where
   pub few : below 6 (λ z. requestsOf r (zeros z)) ≡ below 6 quiet
-  pub emptied : standsAfter r (zeros 5) ≡ idle
+  pub emptied : recogniserAfter r (zeros 5) ≡ idle
 
 pub resumes-settles : (c : Command) (r : Recogniser) → Resumes c r → Settles r
 resumes-settles c r resumes = record { few = ap (λ (s : Shown). s .few) resumes; emptied = ap (λ (s : Shown). s .emptied) resumes }
 
 clean-command : (d : Command) → Shows idle (codeOf d) (commandTrace d) idle
-unfolding stepOf requestsOf standsAfter
+unfolding stepOf requestsOf recogniserAfter
 clean-command d = record {
   seen = each-at (λ d. requestsOf idle (codeOf d)) commandTrace refl d;
-  left = each-at (λ d. standsAfter idle (codeOf d)) (λ d. idle) refl d;
+  left = each-at (λ d. recogniserAfter idle (codeOf d)) (λ d. idle) refl d;
 }
 
 -- a command behind any number of zeros, from an empty window
@@ -110,8 +110,8 @@ module _ (c : Command) (r : Recogniser) (resumes : Resumes c r) (d : Command) wh
   soon y h = record {
     seen = below-at 5 (λ y. requestsOf r (behind c d y)) (λ y. quiet (zerosBetween c d + y) ++ commandTrace d)
         (each-at (λ d. below 5 (λ y. requestsOf r (behind c d y))) (λ d. below 5 (λ y. quiet (zerosBetween c d + y) ++ commandTrace d)) (ap (λ (s : Shown). s .next) resumes) d) y h;
-    left = below-at 5 (λ y. standsAfter r (behind c d y)) (λ y. idle)
-        (each-at (λ d. below 5 (λ y. standsAfter r (behind c d y))) (λ d. below 5 (λ y. idle)) (ap (λ (s : Shown). s .left) resumes) d) y h;
+    left = below-at 5 (λ y. recogniserAfter r (behind c d y)) (λ y. idle)
+        (each-at (λ d. below 5 (λ y. recogniserAfter r (behind c d y))) (λ d. below 5 (λ y. idle)) (ap (λ (s : Shown). s .left) resumes) d) y h;
   }
 
   pub resumed : (z : ℕ) → zerosBetween c d ≤ z → Shows r (zeros z ++ codeOf d) (quiet z ++ commandTrace d) idle

@@ -7,17 +7,17 @@ use lib.ListN.{length}
 use Rattle.recogniser.specs.declared.Request.{Request}
 use Rattle.recogniser.specs.declared.Recogniser.{Recogniser}
 use Rattle.recogniser.specs.Step.{stepOf}
-use Rattle.damage.specs.Traces.{requestsOf, standsAfter}
+use Rattle.damage.specs.Traces.{requestsOf, recogniserAfter}
 
-pub requests-append : (r : Recogniser) (xs ys : List ℕ) → requestsOf r (xs ++ ys) ≡ requestsOf r xs ++ requestsOf (standsAfter r xs) ys
-unfolding requestsOf standsAfter
+pub requests-append : (r : Recogniser) (xs ys : List ℕ) → requestsOf r (xs ++ ys) ≡ requestsOf r xs ++ requestsOf (recogniserAfter r xs) ys
+unfolding requestsOf recogniserAfter
 requests-append r [] ys = refl
 requests-append r (x ∷ xs) ys = ap (λ (l : List Request). stepOf r x 0 .event .request ∷ l) (requests-append (stepOf r x 0 .next) xs ys)
 
-pub stands-append : (r : Recogniser) (xs ys : List ℕ) → standsAfter r (xs ++ ys) ≡ standsAfter (standsAfter r xs) ys
-unfolding standsAfter
-stands-append r [] ys = refl
-stands-append r (x ∷ xs) ys = stands-append (stepOf r x 0 .next) xs ys
+pub after-append : (r : Recogniser) (xs ys : List ℕ) → recogniserAfter r (xs ++ ys) ≡ recogniserAfter (recogniserAfter r xs) ys
+unfolding recogniserAfter
+after-append r [] ys = refl
+after-append r (x ∷ xs) ys = after-append (stepOf r x 0 .next) xs ys
 
 pub length-requests : (r : Recogniser) (xs : List ℕ) → length (requestsOf r xs) ≡ length xs
 unfolding requestsOf
@@ -27,12 +27,12 @@ length-requests r (x ∷ xs) = ap suc (length-requests (stepOf r x 0 .next) xs)
 -- From r the bits ask for the requests and lead to v.
 pub record Shows (r : Recogniser) (bits : List ℕ) (requests : List Request) (v : Recogniser) : Type 0 where
   pub seen : requestsOf r bits ≡ requests
-  pub left : standsAfter r bits ≡ v
+  pub left : recogniserAfter r bits ≡ v
 
 pub chain : {r s t : Recogniser} {xs ys : List ℕ} {es fs : List Request} → Shows r xs es s → Shows s ys fs t → Shows r (xs ++ ys) (es ++ fs) t
 chain {r} {s} {t} {xs} {ys} {es} {fs} a b = record {
   seen = requests-append r xs ys ∙ ap₂ _++_ (a .seen) (ap (λ (q : Recogniser). requestsOf q ys) (a .left) ∙ b .seen);
-  left = stands-append r xs ys ∙ ap (λ (q : Recogniser). standsAfter q ys) (a .left) ∙ b .left;
+  left = after-append r xs ys ∙ ap (λ (q : Recogniser). recogniserAfter q ys) (a .left) ∙ b .left;
 }
 
 -- The same where only the requests of the second part are known.

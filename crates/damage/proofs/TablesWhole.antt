@@ -4,7 +4,7 @@ use mathlib.Core.Path.{_≡_, refl}
 use mathlib.Core.List.{[], _∷_}
 use Prim.Native.Nat.{suc}
 use Rattle.damage.specs.Commands.{Command, bcr, ecr, cal, sync, widthOf}
-use Rattle.damage.specs.Streams.{zerosBetween, table13, distances}
+use Rattle.damage.specs.CleanStreams.{zerosBetween, table13, distances}
 use Rattle.damage.specs.Table.{table, rowsFor}
 use Rattle.damage.proofs.Computed.{below, each, each-at}
 

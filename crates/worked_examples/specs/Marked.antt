@@ -15,7 +15,7 @@ use Rattle.taking.specs.declared.Ending.{Ending}
 use Rattle.taking.specs.Entries.{entryWords}
 use Rattle.taking.specs.Take.{Call, takeOf}
 use Rattle.taking.specs.Calls.{wordsStanding}
-use Rattle.streams.specs.Table.{Row, table}
+use Rattle.worked_examples.specs.Table.{Row, table}
 
 -- Bits packed into bytes, highest bit first, the last byte filled up with zeros.
 abbrev pub packed : ℕ → List ℕ → List ℕ
