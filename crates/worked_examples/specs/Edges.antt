@@ -14,16 +14,16 @@ use Rattle.recogniser.specs.Fields.{lengthOf}
 use Rattle.recogniser.specs.Step.{stepOf}
 use Rattle.frames.specs.Tray.{partOf}
 use Rattle.registers.specs.Plan.{defaultPlan}
-use Rattle.controller.specs.Parts.{withRunning}
+use Rattle.registers.specs.Parts.{withRunning}
 use Rattle.controller.specs.Records.{frameBitsOf}
 use Rattle.decoder.specs.declared.Decoder.{Decoder}
 use Rattle.limits.specs.Limits.{clockLimit, storeLength, trayLength}
 use Rattle.decoder.specs.declared.Opening.the-variants.{Accepted}
 use Rattle.decoder.specs.Opening.{openedAt, openOf, opened}
 use Rattle.taking.specs.declared.Ending.the-variants.{Done, Frame, ClockOver}
-use Rattle.taking.specs.Take.{Call, takeOf, endingNumber}
+use Rattle.taking.specs.Take.{Call, call, takeOf, endingNumber}
 use Rattle.taking.specs.Calls.{wordsStanding}
-use Rattle.worked_examples.specs.Marked.{running}
+use Rattle.worked_examples.specs.MarkedStreams.{running}
 
 -- The recogniser at the start of a WrFrontEnd's Field 5, and with so many of its bits received.
 abbrev pub inField : ℕ → Recogniser
@@ -56,22 +56,14 @@ receiving count =
     record { plan = d .plan; next = d .next; recogniser = inField count; model = withRunning false (d .model) }
 
 abbrev pub oneBit : Call
-oneBit = record {
-  input = 0 ∷ [];
-  first = 0;
-  count = 1;
-  store = replicate storeLength 0;
-  tray = replicate trayLength 0;
-  list = replicate 2 0;
-  free = 0;
-}
+oneBit = call (0 ∷ []) 0 1 (replicate storeLength 0) (replicate trayLength 0) (replicate 2 0) 0
 
 -- "CNT FFFF gives a frame of 8,247 bits, value 00381FFF, 1,031 bytes", in parts: its cycles, the bits stored over them from Field 5's start, the call
 -- that takes the last cycle, the bits that its record tells, and their bytes.
 pub record LongestFrame : Type 0 where
   pub cycles : lengthOf 4 0xFFFF ≡ 65976
   pub stored : storedBits 65976 0xFFFF (inField 0) ≡ 8247
-  pub ends : takeOf (receiving 65975) oneBit .taken .told ≡ record { bits = 1; records = 1; ending = Frame }
+  pub ends : takeOf (receiving 65975) oneBit .taken .report ≡ record { bits = 1; records = 1; ending = Frame }
   pub words : wordsStanding (receiving 65975) oneBit ≡ 0x2401 ∷ 0x00381FFF ∷ []
   pub bits : frameBitsOf 0x24 0x00381FFF ≡ 8247
   pub bytes : length (partOf (replicate trayLength 0) 8247) ≡ 1031
@@ -81,18 +73,10 @@ abbrev pub atLast : Decoder
 atLast = openedAt defaultPlan (clockLimit - 1)
 
 abbrev pub someBits : ℕ → Call
-someBits count = record {
-  input = 255 ∷ [];
-  first = 0;
-  count = count;
-  store = replicate storeLength 0;
-  tray = replicate trayLength 0;
-  list = replicate 2 0;
-  free = 0;
-}
+someBits count = call (255 ∷ []) 0 count (replicate storeLength 0) (replicate trayLength 0) (replicate 2 0) 0
 
 pub record LastCycle : Type 0 where
   pub opens : openOf defaultPlan (clockLimit - 1) ≡ opened atLast Accepted
-  pub one : takeOf atLast (someBits 1) .taken .told ≡ record { bits = 1; records = 0; ending = Done }
-  pub two : takeOf atLast (someBits 2) .taken .told ≡ record { bits = 0; records = 0; ending = ClockOver }
-  pub number : endingNumber (takeOf atLast (someBits 2) .taken .told .ending) ≡ 6
+  pub one : takeOf atLast (someBits 1) .taken .report ≡ record { bits = 1; records = 0; ending = Done }
+  pub two : takeOf atLast (someBits 2) .taken .report ≡ record { bits = 0; records = 0; ending = ClockOver }
+  pub number : endingNumber (takeOf atLast (someBits 2) .taken .report .ending) ≡ 6

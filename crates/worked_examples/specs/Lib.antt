@@ -1,3 +1,3 @@
-pub mod Table
-pub mod Marked
+pub mod StreamTable
+pub mod MarkedStreams
 pub mod Edges

@@ -11,7 +11,7 @@ use Rattle.decoder.specs.Fit.{fitOf}
 use Rattle.decoder.specs.Sound.{soundOf}
 use Rattle.taking.specs.Turn.{turnOf}
 use Rattle.taking.specs.Take.{takenOf, takeOf}
-use Rattle.worked_examples.specs.Marked.{MarkedStreams}
+use Rattle.worked_examples.specs.MarkedStreams.{MarkedStreams}
 
 pub marked : MarkedStreams
 unfolding stepOf fitOf trayOf planFits everyFrom pointersFit missingZero writeOf actOf soundOf turnOf takenOf takeOf

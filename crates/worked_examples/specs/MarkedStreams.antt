@@ -7,15 +7,15 @@ use Prim.Native.Nat.{ℕ, zero, suc}
 use lib.ListN.{length, replicate, set, take, drop}
 use Rattle.bits.specs.Bits.{numberOf}
 use Rattle.registers.specs.Plan.{defaultPlan}
-use Rattle.controller.specs.Parts.{withRunning, withRegisters}
+use Rattle.registers.specs.Parts.{withRunning, withRegisters}
+use Rattle.controller.specs.Records.{recordWords}
 use Rattle.decoder.specs.declared.Decoder.{Decoder}
 use Rattle.limits.specs.Limits.{storeLength, trayLength}
 use Rattle.decoder.specs.Opening.{openedAt}
 use Rattle.taking.specs.declared.Ending.{Ending}
-use Rattle.taking.specs.Entries.{entryWords}
-use Rattle.taking.specs.Take.{Call, takeOf}
+use Rattle.taking.specs.Take.{Call, call, takeOf}
 use Rattle.taking.specs.Calls.{wordsStanding}
-use Rattle.worked_examples.specs.Table.{Row, table}
+use Rattle.worked_examples.specs.StreamTable.{Row, table}
 
 -- Bits packed into bytes, highest bit first, the last byte filled up with zeros.
 abbrev pub packed : ℕ → List ℕ → List ℕ
@@ -35,15 +35,7 @@ running cnt =
 
 -- All the bits in one call, with empty buffers and room to spare.
 abbrev pub callFor : List ℕ → Call
-callFor bits = record {
-  input = packed 3 bits;
-  first = 0;
-  count = length bits;
-  store = replicate storeLength 0;
-  tray = replicate trayLength 0;
-  list = replicate 8 0;
-  free = 0;
-}
+callFor bits = call (packed 3 bits) 0 (length bits) (replicate storeLength 0) (replicate trayLength 0) (replicate 8 0) 0
 
 -- What a call shows: its ending, the bits taken, the words that stand in its list.
 pub record Shown : Type 0 where
@@ -53,11 +45,11 @@ pub record Shown : Type 0 where
 
 abbrev pub shown : Row → Shown
 shown r =
-    let told = takeOf (running (r .cnt)) (callFor (r .bits)) .taken .told in
-    record { ending = told .ending; bits = told .bits; words = wordsStanding (running (r .cnt)) (callFor (r .bits)) }
+    let report = takeOf (running (r .cnt)) (callFor (r .bits)) .taken .report in
+    record { ending = report .ending; bits = report .bits; words = wordsStanding (running (r .cnt)) (callFor (r .bits)) }
 
 abbrev pub asMarked : Row → Shown
-asMarked r = record { ending = r .ending; bits = length (r .bits); words = entryWords (r .records) }
+asMarked r = record { ending = r .ending; bits = length (r .bits); words = recordWords (r .records) }
 
 -- Every row, together.
 abbrev pub MarkedStreams : Type 0
