@@ -5,7 +5,7 @@ use mathlib.Core.Path.{_≡_, refl}
 use Prim.Native.Char.{code}
 use Prim.Native.Nat.{ℕ}
 use lib.ListN.{replicate}
-use Rattle.text.specs.Text.{ascii}
+use Rattle.output.specs.Text.{ascii}
 use Rattle.hexlines.specs.Line.{Hex, hexOf, refused}
 use Rattle.hexlines.specs.Lines.{linesFrom, linesOf, hexesOf, fresh, withCharacter, answerOf, saidBy, saidFrom}
 

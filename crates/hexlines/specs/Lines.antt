@@ -5,7 +5,7 @@ use mathlib.Core.List.{List, [], _∷_, _++_}
 use Prim.Native.Nat.{ℕ, _+_, _*_, _/_, _%_}
 use lib.Dec.{ltb, eqb}
 use lib.ListN.{length, getD, set, take, drop, replicate}
-use Rattle.text.specs.Text.{lineFeed}
+use Rattle.output.specs.Text.{lineFeed}
 use Rattle.hexlines.specs.declared.HexLine.{HexLine}
 use Rattle.hexlines.specs.declared.HexLine.the-variants.{Bytes, WrongCharacter, WrongLength}
 use Rattle.hexlines.specs.declared.Seen.{Seen}

@@ -73,7 +73,7 @@ fn line_end(block: &[u8], at: usize) -> usize
 {
     let mut end = at;
     while end < block.len() {
-        if block[end] == text::LINE_FEED {
+        if block[end] == output::LINE_FEED {
             return end;
         }
         end += 1;
@@ -178,7 +178,7 @@ pub fn read_line(line: &[u8], bytes: &mut [u8]) -> HexLine
     match answer {
         HexLine::Bytes(n) => {
             let held = seen.bytes;
-            text::put_bytes(bytes, 0, &held[..n]);
+            output::put_bytes(bytes, 0, &held[..n]);
             HexLine::Bytes(n)
         }
         HexLine::WrongCharacter => HexLine::WrongCharacter,

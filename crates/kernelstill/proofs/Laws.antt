@@ -17,12 +17,12 @@ use Rattle.decoder.specs.Opening.{openingNumber}
 use Rattle.decoder.specs.Sound.{soundOf}
 use Rattle.taking.specs.Take.{Call, Left, takeOf, endingNumber}
 use Rattle.taking.proofs.SoundnessKept.{take-sound}
-use Rattle.text.specs.Block.{Block, block, putOf}
-use Rattle.text.proofs.Puts.{put-fits, put-over}
+use Rattle.output.specs.Block.{Block, block, putOf}
+use Rattle.output.proofs.Puts.{put-fits, put-over}
 use Rattle.hexlines.specs.declared.HexLine.{HexLine}
 use Rattle.hexlines.specs.Line.{Read, hexNumber, readAs, readOf}
-use Rattle.listing.specs.Digits.{charactersOf}
-use Rattle.listing.specs.Records.{numbersLine, recordLine}
+use Rattle.layout.specs.Digits.{charactersOf}
+use Rattle.layout.specs.Records.{numbersLine, recordLine}
 use Rattle.image.specs.Image.{imageLength, imageOf, stateOf, imageFits}
 use Rattle.image.proofs.Images.{fits-length, written-fits}
 use Rattle.kernelstill.specs.Open.{OpenLeft, openedInto}

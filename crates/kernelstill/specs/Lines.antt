@@ -7,7 +7,7 @@ use lib.Dec.{ltb, leb}
 use lib.ListN.{length}
 use lib.Seq.{sets}
 use Rattle.hexlines.specs.Line.{hexOf}
-use Rattle.listing.specs.Records.{recordLine}
+use Rattle.layout.specs.Records.{recordLine}
 
 -- A refusal number, 0 for none, and the buffer's later contents.
 pub record LineLeft : Type 0 where

@@ -201,7 +201,7 @@ pub extern "C" fn kernelstill_hex_line(line: &[u8], bytes: &mut [u8]) -> u64
 pub extern "C" fn kernelstill_record_line(line: &mut [u8], head: u64, value: u64) -> u64
     ensures { λ r. ⌜ (record { number = r; bytes = now (line .exit) }) ≡ recordLeftOf head value (now (line .entry)) ⌝ }
 {
-    let end = listing::record_line(line, 0, head, value);
+    let end = layout::record_line(line, 0, head, value);
     if end == 0 {
         return WRONG_BUFFERS;
     }

@@ -1,45 +1,25 @@
--- The lines of the listing, as bytes (document 01, "Streams with their records": the station program).
+-- The text of records: "a line a record", and a frame's after it (document 01, "Streams with their records": the station program).
 -- Assumes nothing.
+use mathlib.Core.Bool.{Bool, cond, _&&_}
 use mathlib.Core.List.{List, [], _∷_, _++_}
-use Prim.Native.Char.{code}
-use Prim.Native.Nat.{ℕ, _+_, _/_, _%_}
-use Rattle.text.specs.Text.{ascii, lineFeed}
-use Rattle.listing.specs.Digits.{charactersOf}
+use Prim.Native.Nat.{ℕ}
+use lib.Dec.{eqb}
+use Rattle.frames.specs.Tray.{partOf}
+use Rattle.controller.specs.Records.{kindOf, isFrameHead, frameBitsOf}
+use Rattle.layout.specs.Records.{recordLine, frameLine}
 
--- What stands after a number: a space while more follow, else the line feed.
-abbrev pub markAfter : List ℕ → ℕ
-markAfter [] = lineFeed
-markAfter (n ∷ ns) = code " "
+-- "after a frame of at least one bit, ">" and its bytes"; a program may leave the frames out.
+abbrev pub frameText : Bool → List ℕ → ℕ → ℕ → List ℕ
+frameText frames tray head value =
+    let bits = frameBitsOf (kindOf head) value in
+    cond (frames && isFrameHead head) (cond (eqb bits 0) [] (frameLine (partOf tray bits))) []
 
--- Numbers, each in so many digits, "parted by spaces" and ended by a line feed.
-unfoldable pub numbersLine : List ℕ → List ℕ → List ℕ
-numbersLine [] widths = []
-numbersLine (n ∷ ns) [] = []
-numbersLine (n ∷ ns) (width ∷ widths) = charactersOf n width ++ (markAfter ns ∷ numbersLine ns widths)
+-- "a line a record"
+unfoldable pub recordText : Bool → List ℕ → ℕ → ℕ → List ℕ
+recordText frames tray head value = recordLine head value ++ frameText frames tray head value
 
--- A line: its lead, and its numbers.
-abbrev pub lineOf : List ℕ → List ℕ → List ℕ → List ℕ
-lineOf lead numbers widths = lead ++ numbersLine numbers widths
-
--- How many bytes numbers of these widths take, each with its mark.
-abbrev pub numbersSize : List ℕ → ℕ
-numbersSize [] = 0
-numbersSize (width ∷ widths) = width + 1 + numbersSize widths
-
--- A record's line from its two words: "time (12 digits), kind (2), flags (2), value (8), parted by spaces".
-abbrev pub recordLine : ℕ → ℕ → List ℕ
-recordLine head value =
-    lineOf [] (head / 65536 ∷ head / 256 % 256 ∷ head % 256 ∷ value ∷ []) (12 ∷ 2 ∷ 2 ∷ 8 ∷ [])
-
--- A refused line prints "!", "the number in two digits, a space, the line's number from 1 in eight".
-abbrev pub refusedLine : ℕ → ℕ → List ℕ
-refusedLine number line = lineOf (ascii "!") (number ∷ line ∷ []) (2 ∷ 8 ∷ [])
-
--- The digits of bytes, two each.
-unfoldable pub byteDigits : List ℕ → List ℕ
-byteDigits [] = []
-byteDigits (b ∷ bs) = charactersOf b 2 ++ byteDigits bs
-
--- A frame's line: ">" and "its bytes, two digits each, unspaced".
-abbrev pub frameLine : List ℕ → List ℕ
-frameLine bytes = ascii ">" ++ (byteDigits bytes ++ ascii "\n")
+-- The records of a taking call, from their words. A frame's record is the last, so that the tray still holds the frame.
+unfoldable pub wordsText : Bool → List ℕ → List ℕ → List ℕ
+wordsText frames tray [] = []
+wordsText frames tray (head ∷ []) = []
+wordsText frames tray (head ∷ value ∷ words) = recordText frames tray head value ++ wordsText frames tray words

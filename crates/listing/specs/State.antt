@@ -1,34 +1,37 @@
--- The lines by which a program shows the model's state (ours: document 01 has none): a word, and numbers as in the listing.
+-- The controller as the commands left it, as text (ours: document 01 has none).
 -- Assumes nothing.
-use mathlib.Core.Bool.{Bool, cond}
-use mathlib.Core.List.{List, [], _∷_}
-use Prim.Native.Nat.{ℕ}
-use Rattle.text.specs.Text.{ascii}
-use Rattle.listing.specs.Records.{lineOf}
+use mathlib.Core.Bool.{cond}
+use mathlib.Core.List.{List, [], _++_}
+use Prim.Native.Nat.{ℕ, zero, suc, _+_, _/_, _%_}
+use lib.Dec.{eqb}
+use lib.ListN.{length, getD}
+use Rattle.registers.specs.declared.Plan.{Plan}
+use Rattle.registers.specs.declared.Model.{Model}
+use Rattle.registers.specs.Plan.{existsAt}
+use Rattle.registers.specs.Registers.{readOf}
+use Rattle.decoder.specs.declared.Decoder.{Decoder}
+use Rattle.layout.specs.State.{registerLine, l1idLine, baseLine, runmodeLine, pointersLine, wordLine}
 
--- A register: its address and what it holds.
-abbrev pub registerLine : ℕ → ℕ → List ℕ
-registerLine address value =
-    lineOf (ascii "register ") (address ∷ value ∷ []) (1 ∷ 4 ∷ [])
+-- The texts of so many numbers from i on.
+unfoldable pub textsFrom : ℕ → ℕ → (ℕ → List ℕ) → List ℕ
+textsFrom zero i text = []
+textsFrom (suc n) i text = text i ++ textsFrom n (i + 1) text
 
--- The trigger number.
-abbrev pub l1idLine : ℕ → List ℕ
-l1idLine l1id = lineOf (ascii "l1id ") (l1id ∷ []) (2 ∷ [])
+-- A register that exists, as it reads: CSR with the warnings in it.
+abbrev pub registerText : Plan → Model → ℕ → List ℕ
+registerText plan m i = cond (existsAt plan i) (registerLine i (readOf plan m i)) []
 
--- The cycle from which the bunch number counts.
-abbrev pub baseLine : ℕ → List ℕ
-baseLine base = lineOf (ascii "base ") (base ∷ []) (12 ∷ [])
+abbrev pub pointersText : List ℕ → List ℕ → ℕ → List ℕ
+pointersText writes reads i = pointersLine i (getD writes i 0) (getD reads i 0)
 
--- RunMode, 1 for on.
-abbrev pub runmodeLine : Bool → List ℕ
-runmodeLine on = lineOf (ascii "runmode ") (cond on 1 0 ∷ []) (1 ∷ [])
+-- A FIFO word that is not 0; FIFO n's words begin at word 128 × n.
+abbrev pub wordText : List ℕ → ℕ → List ℕ
+wordText store i = cond (eqb (getD store i 0) 0) [] (wordLine (i / 128) (i % 128) (getD store i 0))
 
--- A FIFO's number, and its write and read pointers.
-abbrev pub pointersLine : ℕ → ℕ → ℕ → List ℕ
-pointersLine fifo write read =
-    lineOf (ascii "pointers ") (fifo ∷ write ∷ read ∷ []) (1 ∷ 2 ∷ 2 ∷ [])
-
--- A word of a FIFO: the FIFO's number, the place in it, and the word.
-abbrev pub wordLine : ℕ → ℕ → ℕ → List ℕ
-wordLine fifo place word =
-    lineOf (ascii "word ") (fifo ∷ place ∷ word ∷ []) (1 ∷ 2 ∷ 8 ∷ [])
+unfoldable pub stateText : Decoder → List ℕ → List ℕ
+stateText d store =
+    textsFrom 16 0 (registerText (d .plan) (d .model))
+    ++ (l1idLine (d .model .l1id)
+    ++ (baseLine (d .model .base)
+    ++ (runmodeLine (d .model .running)
+    ++ (textsFrom 16 0 (pointersText (d .model .writes) (d .model .reads)) ++ textsFrom (length store) 0 (wordText store)))))

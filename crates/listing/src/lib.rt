@@ -1,218 +1,100 @@
-// The bytes of the listing's lines and of the model's state. No public call asks anything of its caller.
+// What the programs print of a taking call's records, and of the controller as the commands left it.
 ghost use mathlib.Core.Path.{_≡_};
-ghost use mathlib.Core.Bool.{cond};
-ghost use mathlib.Core.List.{[], _∷_, _++_};
-ghost use Prim.Native.Nat.{_+_, _≤_, _<_};
-ghost use lib.Dec.{leb};
+ghost use Prim.Native.Nat.{_+_, _≤_};
 ghost use lib.ListN.{length};
-ghost use lib.Seq.{sets};
-ghost use Rattle.text.specs.Block.{block, putAll, putOf};
-ghost use Rattle.listing.specs.Digits.{characterOf, charactersOf};
-ghost use Rattle.listing.specs.Records.{numbersLine, lineOf, numbersSize, recordLine, refusedLine, byteDigits, frameLine};
-ghost use Rattle.listing.specs.State.{registerLine, l1idLine, baseLine, runmodeLine, pointersLine, wordLine};
+ghost use Rattle.output.specs.Block.{block, putAll};
+ghost use Rattle.listing.specs.Records.{recordText, wordsText};
+ghost use Rattle.listing.specs.State.{textsFrom, registerText, pointersText, wordText, stateText};
+use decoder::Decoder;
+use registers::Model;
+use registers::Plan;
 
-const SPACE: u8 = b' ';
-
-fn character(digit: u8) -> u8
-    requires { ⌜ digit < 16 ⌝ }
-    ensures { λ r. ⌜ r ≡ characterOf digit ⌝ }
+// A record's line; and the frame's, after a frame of at least one bit, if frames are printed.
+fn put_record(out: &mut [u8], at: usize, head: u64, value: u64, tray: &[u8], frames: bool) -> usize
+    requires { ⌜ at + length (recordText frames (now tray) head value) ≤ length (now out) ⌝ }
+    ensures { λ r. ⌜ block (now (out .exit)) r ≡ putAll (now (out .entry)) at (recordText frames (now (tray .entry)) head value) ⌝ }
 {
-    if digit < 10 {
-        return b'0' + digit;
+    let place = layout::record_line(out, at, head, value);
+    if !(frames & controller::is_frame_head(head)) {
+        return place;
     }
-    b'A' + (digit - 10)
-}
-
-fn wide(byte: u8) -> u64
-    ensures { λ r. ⌜ r ≡ byte ⌝ }
-{
-    byte as u64
-}
-
-// A number's digits at a place of a buffer, as many as the width says; the last is written first.
-fn put_digits(out: &mut [u8], at: usize, number: u64, width: usize)
-    requires { ⌜ at + width ≤ length (now out) ⌝ }
-    ensures { λ _. ⌜ now (out .exit) ≡ sets (now (out .entry)) at (charactersOf number width) ⌝ }
-{
-    let mut left = width;
-    let mut rest = number;
-    while 0 < left {
-        left -= 1;
-        out[at + left] = character((rest % 16) as u8);
-        rest = rest / 16;
+    let bits = controller::frame_bits(head, value);
+    if bits == 0 {
+        return place;
     }
+    layout::frame_line(out, place, frames::frame_part(tray, bits))
 }
 
-// What stands after a number of a line: the line feed after the last, a space after the others.
-fn mark(last: bool) -> u8
-    ensures { λ r. ⌜ r ≡ cond last 10 32 ⌝ }
-{
-    if last { text::LINE_FEED } else { SPACE }
-}
-
-// A number in so many digits, and its mark, at a place of a buffer; the answer is the place after them.
-fn put_number(out: &mut [u8], at: usize, number: u64, width: usize, mark: u8) -> usize
-    requires { ⌜ at + width < length (now out) ⌝ }
-    ensures { λ r. ⌜ block (now (out .exit)) r ≡ putAll (now (out .entry)) at (charactersOf number width ++ (mark ∷ [])) ⌝ }
-{
-    put_digits(out, at, number, width);
-    out[at + width] = mark;
-    at + width + 1
-}
-
-// The numbers of a line at a place of a buffer, each in its width; the answer is the place after them.
-fn put_numbers(out: &mut [u8], at: usize, numbers: &[u64], widths: &[usize]) -> usize
-    requires { ⌜ (length (now numbers) ≡ length (now widths)) × (at + length (numbersLine (now numbers) (now widths)) ≤ length (now out)) ⌝ }
-    ensures { λ r. ⌜ block (now (out .exit)) r ≡ putAll (now (out .entry)) at (numbersLine (now (numbers .entry)) (now (widths .entry))) ⌝ }
+// The lines of the records of a taking call.
+pub fn put_records(out: &mut [u8], at: usize, words: &[u64], tray: &[u8], frames: bool) -> usize
+    requires { ⌜ at + length (wordsText frames (now tray) (now words)) ≤ length (now out) ⌝ }
+    ensures { λ r. ⌜ block (now (out .exit)) r ≡ putAll (now (out .entry)) at (wordsText frames (now (tray .entry)) (now (words .entry))) ⌝ }
 {
     let mut place = at;
     let mut i: usize = 0;
-    while i < numbers.len() {
-        let next = i + 1;
-        let end = mark(next == numbers.len());
-        place = put_number(out, place, numbers[i], widths[i], end);
-        i = next;
-    }
-    place
-}
-
-// The digits of bytes, two each, at a place of a buffer; the answer is the place after them.
-fn put_byte_digits(out: &mut [u8], at: usize, bytes: &[u8]) -> usize
-    requires { ⌜ at + length (byteDigits (now bytes)) ≤ length (now out) ⌝ }
-    ensures { λ r. ⌜ block (now (out .exit)) r ≡ putAll (now (out .entry)) at (byteDigits (now (bytes .entry))) ⌝ }
-{
-    let mut place = at;
-    let mut i: usize = 0;
-    while i < bytes.len() {
-        put_digits(out, place, wide(bytes[i]), 2);
-        place += 2;
+    while i < words.len() / 2 {
+        place = put_record(out, place, words[2 * i], words[2 * i + 1], tray, frames);
         i += 1;
     }
     place
 }
 
-// Whether a text of so many bytes fits a block of a length from a place on; no sum here can wrap.
-fn fits(room: usize, at: usize, size: usize) -> bool
-    ensures { λ r. ⌜ r ≡ leb (at + size) room ⌝ }
+// The registers that exist, as they read.
+fn put_registers(out: &mut [u8], at: usize, plan: Plan, model: Model) -> usize
+    requires { ⌜ at + length (textsFrom 16 0 (registerText plan model)) ≤ length (now out) ⌝ }
+    ensures { λ r. ⌜ block (now (out .exit)) r ≡ putAll (now (out .entry)) at (textsFrom 16 0 (registerText plan model)) ⌝ }
 {
-    if room < at {
-        return false;
+    let mut place = at;
+    for i in 0..16 {
+        if !plan.exists_at(i) {
+            continue;
+        }
+        place = layout::register_line(out, place, i as usize, model.read(plan, i));
     }
-    size <= room - at
+    place
 }
 
-// A line of a lead and numbers, of a size that is known, put into a block.
-fn put_line(
-    out: &mut [u8],
-    at: usize,
-    size: usize,
-    lead: &[u8],
-    numbers: &[u64],
-    widths: &[usize],
-) -> usize
-    requires { ⌜ (length (now numbers) ≡ length (now widths)) × (size ≡ length (now lead) + numbersSize (now widths)) ⌝ }
-    ensures { λ r. ⌜ block (now (out .exit)) r ≡ putOf (now (out .entry)) at (lineOf (now (lead .entry)) (now (numbers .entry)) (now (widths .entry))) ⌝ }
+// The FIFOs' pointers.
+fn put_pointers(out: &mut [u8], at: usize, model: Model) -> usize
+    requires { ⌜ at + length (textsFrom 16 0 (pointersText (model .writes) (model .reads))) ≤ length (now out) ⌝ }
+    ensures { λ r. ⌜ block (now (out .exit)) r ≡ putAll (now (out .entry)) at (textsFrom 16 0 (pointersText (model .writes) (model .reads))) ⌝ }
 {
-    if !fits(out.len(), at, size) {
-        return at;
+    let writes = model.writes;
+    let reads = model.reads;
+    let mut place = at;
+    for i in 0..16 {
+        place = layout::pointers_line(out, place, i, writes[i], reads[i]);
     }
-    let place = text::put_bytes(out, at, lead);
-    put_numbers(out, place, numbers, widths)
+    place
 }
 
-// Each line below is put into a block of output at a place, and the answer is the place after it. Where the whole line does not fit, nothing is
-// put, and the answer is the place that was given.
-
-// A record's line from its two words. 28 bytes.
-pub fn record_line(out: &mut [u8], at: usize, head: u64, value: u64) -> usize
-    ensures { λ r. ⌜ block (now (out .exit)) r ≡ putOf (now (out .entry)) at (recordLine head value) ⌝ }
+// The FIFO words that are not 0.
+fn put_words(out: &mut [u8], at: usize, store: &[u32]) -> usize
+    requires { ⌜ at + length (textsFrom (length (now store)) 0 (wordText (now store))) ≤ length (now out) ⌝ }
+    ensures { λ r. ⌜ block (now (out .exit)) r ≡ putAll (now (out .entry)) at (textsFrom (length (now (store .entry))) 0 (wordText (now (store .entry)))) ⌝ }
 {
-    let numbers = [head / 65536, head / 256 % 256, head % 256, value];
-    let widths = [12, 2, 2, 8];
-    put_line(out, at, 28, b"", &numbers, &widths)
-}
-
-// A frame's line: ">", the digits of its bytes, two each, and a line feed. Two bytes more than the digits.
-pub fn frame_line(out: &mut [u8], at: usize, bytes: &[u8]) -> usize
-    ensures { λ r. ⌜ block (now (out .exit)) r ≡ putOf (now (out .entry)) at (frameLine (now (bytes .entry))) ⌝ }
-{
-    if out.len() < at {
-        return at;
+    let mut place = at;
+    for i in 0..store.len() {
+        let word = store[i];
+        if word == 0 {
+            continue;
+        }
+        place = layout::word_line(out, place, i / 128, i % 128, word);
     }
-    if (out.len() - at) / 2 <= bytes.len() {
-        return at;
-    }
-    out[at] = b'>';
-    let end = put_byte_digits(out, at + 1, bytes);
-    out[end] = text::LINE_FEED;
-    end + 1
+    place
 }
 
-// What a refused line prints: the refusal's number, and the line's number from 1. 13 bytes.
-pub fn refused_line(out: &mut [u8], at: usize, number: u8, line: u64) -> usize
-    ensures { λ r. ⌜ block (now (out .exit)) r ≡ putOf (now (out .entry)) at (refusedLine number line) ⌝ }
+// The controller as the commands left it.
+pub fn put_state(out: &mut [u8], decoder: Decoder, store: &[u32]) -> usize
+    requires { ⌜ (length (now store) ≡ 2048) × (length (now out) ≡ 65536) ⌝ }
+    ensures { λ r. ⌜ block (now (out .exit)) r ≡ putAll (now (out .entry)) 0 (stateText decoder (now (store .entry))) ⌝ }
 {
-    let numbers = [number as u64, line];
-    let widths = [2, 8];
-    put_line(out, at, 13, b"!", &numbers, &widths)
-}
-
-// A register of the model's state: its address, and what it holds. 16 bytes.
-pub fn register_line(out: &mut [u8], at: usize, address: usize, value: u16) -> usize
-    ensures { λ r. ⌜ block (now (out .exit)) r ≡ putOf (now (out .entry)) at (registerLine address value) ⌝ }
-{
-    let numbers = [address as u64, value as u64];
-    let widths = [1, 4];
-    put_line(out, at, 16, b"register ", &numbers, &widths)
-}
-
-// The trigger number. 8 bytes.
-pub fn l1id_line(out: &mut [u8], at: usize, l1id: u8) -> usize
-    ensures { λ r. ⌜ block (now (out .exit)) r ≡ putOf (now (out .entry)) at (l1idLine l1id) ⌝ }
-{
-    let numbers = [l1id as u64];
-    let widths = [2];
-    put_line(out, at, 8, b"l1id ", &numbers, &widths)
-}
-
-// The cycle from which the bunch number counts. 18 bytes.
-pub fn base_line(out: &mut [u8], at: usize, base: u64) -> usize
-    ensures { λ r. ⌜ block (now (out .exit)) r ≡ putOf (now (out .entry)) at (baseLine base) ⌝ }
-{
-    let numbers = [base];
-    let widths = [12];
-    put_line(out, at, 18, b"base ", &numbers, &widths)
-}
-
-fn bit(on: bool) -> u64
-    ensures { λ r. ⌜ r ≡ cond on 1 0 ⌝ }
-{
-    if on { 1 } else { 0 }
-}
-
-// RunMode, 1 for on. 10 bytes.
-pub fn runmode_line(out: &mut [u8], at: usize, on: bool) -> usize
-    ensures { λ r. ⌜ block (now (out .exit)) r ≡ putOf (now (out .entry)) at (runmodeLine on) ⌝ }
-{
-    let numbers = [bit(on)];
-    let widths = [1];
-    put_line(out, at, 10, b"runmode ", &numbers, &widths)
-}
-
-// A FIFO's write and read pointers. 17 bytes.
-pub fn pointers_line(out: &mut [u8], at: usize, fifo: usize, write: u8, read: u8) -> usize
-    ensures { λ r. ⌜ block (now (out .exit)) r ≡ putOf (now (out .entry)) at (pointersLine fifo write read) ⌝ }
-{
-    let numbers = [fifo as u64, write as u64, read as u64];
-    let widths = [1, 2, 2];
-    put_line(out, at, 17, b"pointers ", &numbers, &widths)
-}
-
-// A word of a FIFO, and its place there. 19 bytes.
-pub fn word_line(out: &mut [u8], at: usize, fifo: usize, place: usize, word: u32) -> usize
-    ensures { λ r. ⌜ block (now (out .exit)) r ≡ putOf (now (out .entry)) at (wordLine fifo place word) ⌝ }
-{
-    let numbers = [fifo as u64, place as u64, word as u64];
-    let widths = [1, 2, 8];
-    put_line(out, at, 19, b"word ", &numbers, &widths)
+    let plan = decoder.plan;
+    let model = decoder.model;
+    let registers = put_registers(out, 0, plan, model);
+    let l1id = layout::l1id_line(out, registers, model.l1id);
+    let base = layout::base_line(out, l1id, model.base);
+    let runmode = layout::runmode_line(out, base, model.running);
+    let pointers = put_pointers(out, runmode, model);
+    put_words(out, pointers, store)
 }

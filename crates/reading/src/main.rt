@@ -1,10 +1,10 @@
 // The program `reading`: hexadecimal lines in; a line a record out.
-use lister::Prints;
+use program::Prints;
 
 fn main() {
     let mut store = [0u32; 2048];
     let mut tray = [0u8; 8192];
-    lister::run(
+    program::run(
         Prints {
             frames: false,
             state: false,

@@ -7,7 +7,7 @@ use native.Mathlib.Nat.{zero-add, le-trans}
 use lib.ListN.{length, take}
 use lib.Seq.{sets}
 use borrow.Author.Needs.{needs}
-use Rattle.text.specs.Block.{Block}
+use Rattle.output.specs.Block.{Block}
 use Rattle.hexlines.specs.declared.HexLine.{HexLine}
 use Rattle.hexlines.specs.declared.Seen.{Seen}
 use Rattle.hexlines.specs.Line.{hexCount, readAs, readOf}
