@@ -10,7 +10,7 @@ use Rattle.decoder.specs.declared.Opened.{Opened}
 use Rattle.decoder.specs.Opening.{openOf}
 use Rattle.taking.proofs.SoundnessKept.{start-sound}
 use Rattle.image.specs.Image.{imageLength, imageOf, stateOf}
-use Rattle.kernelstill.specs.Open.{planOf, openedInto, openLeftOf}
+use Rattle.kernelstill.specs.Open.{planOf, openedInto, openResultOf}
 use Rattle.kernelstill.specs.Take.{Holds}
 use Rattle.kernelstill.proofs.Laws.{filled, no-room, no-room-refused, holds}
 use Rattle.kernelstill.proofs.kernelstill_open.Statement.{statement}
@@ -24,8 +24,8 @@ state n = n .before .start .ensures ∙ ap (λ (p : Plan). openOf p (n .before .
 
 asked : (n : tie.After-number)
     → openedInto (n .before .start .result) (n .before .before .before .before .args .image .now)
-    ≡ openLeftOf (n .before .before .before .before .args .mask) (n .before .before .before .before .args .csr) (n .before .before .before .before .args .feen) (n .before .before .before .before .args .cnt) (n .before .before .before .before .args .cycle) (n .before .before .before .before .args .image .now)
-unfolding openLeftOf
+    ≡ openResultOf (n .before .before .before .before .args .mask) (n .before .before .before .before .args .csr) (n .before .before .before .before .args .feen) (n .before .before .before .before .args .cnt) (n .before .before .before .before .args .cycle) (n .before .before .before .before .args .image .now)
+unfolding openResultOf
 asked n = ap (λ (o : Opened). openedInto o (n .before .before .before .before .args .image .now)) (state n)
 
 -- what was written holds the start state
@@ -47,13 +47,13 @@ number-requires : tie.Need-number-requires
 number-requires c κs = search needs
 
 returns : tie.Need-returns
-unfolding openLeftOf
+unfolding openResultOf
 returns c =
     let n = c .before .before in
     (no-room (n .before .start .result) (n .before .before .before .before .args .image .now) _ (n .number .ensures) (c .before .if1 .taken) (c .if2 .taken) ∙ asked n, λ long. absurd (c .before .if1 .taken long))
 
 returns-2 : tie.Need-returns-2
-unfolding openLeftOf
+unfolding openResultOf
 returns-2 c =
     let n = c .before .before in
     (no-room-refused (n .before .start .result) (n .before .before .before .before .args .image .now) _ (n .number .ensures) (c .before .if1 .taken) (c .if2 .left) ∙ asked n, λ long. absurd (c .before .if1 .taken long))
@@ -65,7 +65,7 @@ same-length : tie.Need-same-length
 same-length c = search needs
 
 returns-3 : tie.Need-returns-3
-unfolding openLeftOf
+unfolding openResultOf
 returns-3 c =
     let i = c .before .before .before .before .before in
     let n = i .before in

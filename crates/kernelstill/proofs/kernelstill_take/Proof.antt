@@ -6,7 +6,7 @@ use native.Mathlib.Omega.{arith}
 use borrow.Author.Needs.{needs}
 use borrow.Author.Tests.{not-true, not-false}
 use Rattle.decoder.specs.declared.Decoder.{Decoder}
-use Rattle.taking.specs.Take.{Call, Left, takeOf}
+use Rattle.taking.specs.Take.{Call, CallResult, takeOf}
 use Rattle.kernelstill.specs.Take.{soundImage}
 use Rattle.kernelstill.proofs.Laws.{sound-length, unsound, no-result, refused, accepted, moved-on}
 use Rattle.kernelstill.proofs.kernelstill_take.Statement.{statement}
@@ -97,7 +97,7 @@ returns-4 c =
     let e = t .take .ensures ∙ ap (λ (d : Decoder). takeOf d call) (t .before .before .before .before .read .ensures) in
     let w = c .before .before .write in (
       accepted (a .image .now) (a .result .now) call (sound (i .before)) (i .if2 .left) (t .before .before .before .before .read .result) (t .before .before .before .before .read .ensures) _ (t .take .ensures) _ (n .number .ensures) (c .before .before .before .before .before .before .before .before .before .if3 .left) _ _ (w .ensures .0) (c .before .before .before .before .before .before .before .write-result .ensures),
-      λ z. moved-on (a .image .now) call (sound (i .before)) _ (ap (λ (l : Left). l .taken .decoder) e) (w .last .1 .0) (w .kept .1 .0) (w .ensures .0) (w .ensures .1),
+      λ z. moved-on (a .image .now) call (sound (i .before)) _ (ap (λ (l : CallResult). l .taken .decoder) e) (w .last .1 .0) (w .kept .1 .0) (w .ensures .0) (w .ensures .1),
     )
 
 pub kernelstill-take-spec : {M : Type 1} → statement M
