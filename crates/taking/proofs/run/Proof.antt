@@ -17,39 +17,56 @@ Inv-loop input first count store₀ tray₀ list₀ free plan start recogniser�
 abbrev μ-loop : tie.MeasureT-loop
 μ-loop input first count store₀ tray₀ list₀ free plan start recogniser₀ model₀ cnt₀ taken₀ at₀ store tray list recogniser model cnt taken at = count - taken
 
--- The places of the loop's body that the proofs look back to, each by the one after it: the call's start, a turn's start, after a stretch, after its
--- request.
-abbrev Began : Type 0
-Began = tie.Start Inv-loop μ-loop
+-- The places that the proofs look back to, each by the one after it: the call, a turn's start, after a stretch, after its frame bit, after its request.
+abbrev Called : Type 0
+Called = tie.Start Inv-loop μ-loop
 
-abbrev Looped : Type 0
-Looped = tie.At-loop Inv-loop μ-loop
+abbrev Turn : Type 0
+Turn = tie.At-loop Inv-loop μ-loop
 
 abbrev Walked : Type 0
 Walked = tie.After-advance Inv-loop μ-loop
 
-abbrev Did : Type 0
-Did = tie.After-perform Inv-loop μ-loop
+abbrev Kept : Type 0
+Kept = tie.After-tray Inv-loop μ-loop
 
-abbrev began : Looped → Began
-began l = l .before .before .before .before .before .before .before .before .before
+abbrev Performed : Type 0
+Performed = tie.After-store Inv-loop μ-loop
 
-abbrev looped : Walked → Looped
-looped a = a .before .before .before
+abbrev counted : tie.After-cnt Inv-loop μ-loop → Called
+counted n =
+    let k = n .before .before .before .before in
+    k .before .before .before .before
 
-abbrev walked : Did → Walked
-walked p = p .before .before .before .before .before .before .before .before .before .before .before
+abbrev called : Turn → Called
+called l = counted (l .before)
+
+abbrev turn : Walked → Turn
+turn a = a .before .before .before
+
+abbrev walked : Kept → Walked
+walked k =
+    let e = k .before .before .before .before in
+    e .before .before
+
+abbrev kept : Performed → Kept
+kept p =
+    let m = p .before .before .before .before in
+    m .before .before
+
+abbrev stored : tie.After-m Inv-loop μ-loop → Performed
+stored m = m .before .before .before .before
 
 -- A stretch moves on, and stays within the call.
-moves : (a : Walked) → (1 ≤ a .advance .result .taken) × (looped a .loop .taken + a .advance .result .taken ≤ began (looped a) .args .count)
-moves a = moved (looped a .loop .inv) (a .before .before .loop-test .taken) (a .before .if1 .left) (a .advance .result) (a .advance .ensures)
+moves : (a : Walked) → (1 ≤ a .advance .result .taken) × (turn a .loop .taken + a .advance .result .taken ≤ called (turn a) .args .count)
+moves a = moved (turn a .loop .inv) (a .before .before .loop-test .taken) (a .before .if1 .left) (a .advance .result) (a .advance .ensures)
 
 cnt-requires : tie.Need-cnt-requires Inv-loop μ-loop
 cnt-requires c κs = search needs
 
 loop-holds : tie.Need-loop-holds Inv-loop μ-loop
 loop-holds c =
-    let s = c .before .before .before .before .before .before .before .before in
+    let s = counted c in
     initially (s .args .decoder) _ _ (omega (arith, s)) (c .cnt .ensures)
 
 sub-if1 : tie.Need-sub-if1 Inv-loop μ-loop
@@ -84,7 +101,7 @@ add-taken : tie.Need-add-taken Inv-loop μ-loop
 add-taken c =
     let a = c .before .before in
     let m = moves a in
-    omega (arith, looped a, began (looped a))
+    omega (arith, turn a, called (turn a))
 
 keep-requires : tie.Need-keep-requires Inv-loop μ-loop
 keep-requires c κs = search needs
@@ -94,78 +111,85 @@ enum-told c = search needs
 
 loop-less : tie.Need-loop-less Inv-loop μ-loop
 loop-less c =
-    let a = c .before .before .before .before .before .before .before .before .before in
+    let a = walked (c .before .before .before) in
     let m = moves a in
-    omega (arith, looped a, began (looped a))
+    omega (arith, turn a, called (turn a))
 
 loop-again : tie.Need-loop-again Inv-loop μ-loop
 loop-again c =
-    let a = c .before .before .before .before .before .before .before .before .before in
-    let l = looped a in
-    quiet (l .loop .inv) (a .before .before .loop-test .taken) (a .before .if1 .left) (a .advance .result) (a .advance .ensures)
-    _ (c .before .before .before .before .keep .ensures) (c .before .before .before .tray .given) (c .enum-told .given .1)
+    let k = c .before .before .before in
+    let a = walked k in
+    quiet (turn a .loop .inv) (a .before .before .loop-test .taken) (a .before .if1 .left) (a .advance .result) (a .advance .ensures)
+    _ (k .before .keep .ensures) (k .tray .given) (c .enum-told .given .1)
 
 add-perform : tie.Need-add-perform Inv-loop μ-loop
 add-perform c =
-    let a = c .before .before .before .before .before .before .before .before in
+    let a = walked (c .before .before) in
     let m = moves a in
-    omega (arith, looped a, began (looped a))
+    omega (arith, turn a, called (turn a))
 
 sub-perform : tie.Need-sub-perform Inv-loop μ-loop
 sub-perform c =
-    let a = c .before .before .before .before .before .before .before .before in
+    let a = walked (c .before .before) in
     let m = moves a in
-    omega (arith, looped a, began (looped a))
+    omega (arith, turn a, called (turn a))
 
 perform-requires : tie.Need-perform-requires Inv-loop μ-loop
 perform-requires c κs =
-    let a = c .before .before .before .before .before .before .before .before .before .before in
-    let l = looped a in
+    let a = walked (c .before .before .before .before) in
+    let l = turn a in
     let m = moves a in
     let fits = stretched-fits (l .loop .inv) (a .before .before .loop-test .taken) (a .before .if1 .left) (a .advance .result) (a .advance .ensures) in
-    (omega (arith, l, began l), (l .loop .inv .long ∙ began l .pre .0 .1), fits, a .before .if1 .left)
+    (omega (arith, l, called l), (l .loop .inv .long ∙ called l .pre .0 .1), fits, a .before .if1 .left)
 
 ended-requires-2 : tie.Need-ended-requires-2 Inv-loop μ-loop
 ended-requires-2 c κs =
-    let p = c .before .before .before .before .before .before in
-    let a = walked p in
-    let l = looped a in
-    let g = performed (l .loop .inv) (a .before .before .loop-test .taken) (a .before .if1 .left) (a .advance .result) (a .advance .ensures)
-    _ (p .before .before .before .before .before .before .keep .ensures) (p .before .before .before .before .before .tray .given) _ (p .perform .ensures) (c .before .before .before .before .before .store .given) in
+    let p = stored (c .before) in
+    let k = kept p in
+    let a = walked k in
+    let l = turn a in
     let m = moves a in
-    (omega (arith, l, began l), g .from)
+    let g = performed (l .loop .inv) (a .before .before .loop-test .taken) (a .before .if1 .left) (a .advance .result) (a .advance .ensures)
+    _ (k .before .keep .ensures) (k .tray .given) _ (p .before .perform .ensures) (p .store .given) in
+    (omega (arith, l, called l), g .from)
 
 same-length-4 : tie.Need-same-length-4 Inv-loop μ-loop
-same-length-4 c = c .before .before .before .before .before .before .store .given ∙ looped (walked (c .before .before .before .before .before .before .before)) .loop .inv .long
+same-length-4 c =
+    let p = stored (c .before .before) in
+    p .store .given ∙ turn (walked (kept p)) .loop .inv .long
 
 same-length-5 : tie.Need-same-length-5 Inv-loop μ-loop
-same-length-5 c = c .before .before .before .before .before .before .before .before .before .before .before .before .tray .given ∙ looped (walked (c .before .before .before .before .before .before .before)) .loop .inv .wide
+same-length-5 c =
+    let k = kept (stored (c .before .before)) in
+    k .tray .given ∙ turn (walked k) .loop .inv .wide
 
 same-length-6 : tie.Need-same-length-6 Inv-loop μ-loop
-same-length-6 c = c .before .before .before .before .list .given ∙ looped (walked (c .before .before .before .before .before .before .before)) .loop .inv .same
+same-length-6 c =
+    let w = c .before .before .before .before in
+    w .list .given ∙ turn (walked (kept (w .before .before))) .loop .inv .same
 
 returns-2 : tie.Need-returns-2 Inv-loop μ-loop
 returns-2 c =
-    let p = c .before .before .before .before .before .before .before in
-    let a = walked p in
-    let l = looped a in
-    let g = performed (l .loop .inv) (a .before .before .loop-test .taken) (a .before .if1 .left) (a .advance .result) (a .advance .ensures)
-    _ (p .before .before .before .before .before .before .keep .ensures) (p .before .before .before .before .before .tray .given) _ (p .perform .ensures) (c .before .before .before .before .before .before .store .given) in
+    let p = stored (c .before .before) in
+    let k = kept p in
+    let a = walked k in
+    let g = performed (turn a .loop .inv) (a .before .before .loop-test .taken) (a .before .if1 .left) (a .advance .result) (a .advance .ensures)
+    _ (k .before .keep .ensures) (k .tray .given) _ (p .before .perform .ensures) (p .store .given) in
     rw (c .ended2 .ensures) (g .stopped (c .before .if2 .taken))
 
 loop-less-2 : tie.Need-loop-less-2 Inv-loop μ-loop
 loop-less-2 c =
-    let a = walked (c .before .before .before .before .before .before) in
+    let a = walked (kept (stored (c .before))) in
     let m = moves a in
-    omega (arith, looped a, began (looped a))
+    omega (arith, turn a, called (turn a))
 
 loop-again-2 : tie.Need-loop-again-2 Inv-loop μ-loop
 loop-again-2 c =
-    let p = c .before .before .before .before .before .before in
-    let a = walked p in
-    let l = looped a in
-    let g = performed (l .loop .inv) (a .before .before .loop-test .taken) (a .before .if1 .left) (a .advance .result) (a .advance .ensures)
-    _ (p .before .before .before .before .before .before .keep .ensures) (p .before .before .before .before .before .tray .given) _ (p .perform .ensures) (c .before .before .before .before .before .store .given) in
+    let p = stored (c .before) in
+    let k = kept p in
+    let a = walked k in
+    let g = performed (turn a .loop .inv) (a .before .before .loop-test .taken) (a .before .if1 .left) (a .advance .result) (a .advance .ensures)
+    _ (k .before .keep .ensures) (k .tray .given) _ (p .before .perform .ensures) (p .store .given) in
     g .onwards (c .if2 .left)
 
 ended-requires-3 : tie.Need-ended-requires-3 Inv-loop μ-loop
