@@ -1,20 +1,34 @@
-//! Random streams of commands, for tests and cases.
+//! Random streams of commands.
 
-use crate::compose::Stream;
-use crate::plan::Plan;
-use crate::random::Random;
-use crate::recogniser::{BCR, CAL, ECR, SYNC};
-use crate::slow;
+use crate::code::{self, BCR, CAL, ECR, SYNC};
+use crate::{Random, Stream};
+
+/// Where the three registers are that a reader looks into.
+#[derive(Clone, Copy, Debug, PartialEq, Eq)]
+pub struct Addresses {
+    pub csr: u8,
+    pub feen: u8,
+    pub cnt: u8,
+}
+
+impl Addresses {
+    /// Those of document 01's default plan.
+    pub const DEFAULT: Addresses = Addresses {
+        csr: 0,
+        feen: 2,
+        cnt: 5,
+    };
+}
 
 /// Whole commands by the default plan.
 pub fn commands(random: &mut Random, count: usize) -> Stream {
-    commands_by(Plan::DEFAULT, random, count)
+    commands_at(Addresses::DEFAULT, random, count)
 }
 
 /// Whole commands with random zeros between them. It follows CNT as the
-/// commands write it by the plan, so that variable fields end where the next
-/// command begins. Most CNT are small, to keep frames short.
-pub fn commands_by(plan: Plan, random: &mut Random, count: usize) -> Stream {
+/// commands write it at its address, so that variable fields end where the
+/// next command begins. Most CNT are small, to keep frames short.
+pub fn commands_at(at: Addresses, random: &mut Random, count: usize) -> Stream {
     let mut stream = Stream::new().en_data_take();
     let mut cnt = 0;
     for _ in 0..count {
@@ -24,7 +38,7 @@ pub fn commands_by(plan: Plan, random: &mut Random, count: usize) -> Stream {
             8..=12 => stream.fast([BCR, ECR, CAL, SYNC][random.below(4) as usize]),
             13 => stream.fast(bad_body(random)),
             14..=16 => stream.en_data_take(),
-            _ => slow_command(stream, plan, random, &mut cnt),
+            _ => slow_command(stream, at, random, &mut cnt),
         };
     }
     stream
@@ -43,12 +57,12 @@ fn gap(random: &mut Random) -> usize {
     }
 }
 
-fn slow_command(stream: Stream, plan: Plan, random: &mut Random, cnt: &mut u16) -> Stream {
+fn slow_command(stream: Stream, at: Addresses, random: &mut Random, cnt: &mut u16) -> Stream {
     let nibble = random.below(16) as u8;
     match random.below(20) {
         0..=2 => {
             let value = small(random);
-            if nibble == plan.cnt {
+            if nibble == at.cnt {
                 *cnt = value;
             }
             stream.wr_register(nibble, value)
@@ -56,16 +70,16 @@ fn slow_command(stream: Stream, plan: Plan, random: &mut Random, cnt: &mut u16) 
         3 | 4 => stream.rd_register(nibble),
         5..=7 => stream.wr_fifo(random.word() as u32),
         8 | 9 => stream.rd_fifo(nibble),
-        10 => stream.wr_register(plan.feen, random.word() as u16),
-        11 => stream.wr_register(plan.csr, random.word() as u16),
+        10 => stream.wr_register(at.feen, random.word() as u16),
+        11 => stream.wr_register(at.csr, random.word() as u16),
         12..=14 => {
             *cnt = small(random);
-            stream.wr_register(plan.cnt, *cnt)
+            stream.wr_register(at.cnt, *cnt)
         }
-        15 => front_end(stream, slow::WR_FRONT_END, random, *cnt),
-        16 => front_end(stream, slow::RD_FRONT_END, random, *cnt),
+        15 => front_end(stream, code::WR_FRONT_END, random, *cnt),
+        16 => front_end(stream, code::RD_FRONT_END, random, *cnt),
         17 => {
-            let frame = bits(random, slow::receiver_bits(*cnt));
+            let frame = bits(random, code::receiver_bits(*cnt));
             stream.wr_receiver(&frame)
         }
         18 => stream.reset_fe(nibble),
@@ -80,7 +94,7 @@ fn slow_command(stream: Stream, plan: Plan, random: &mut Random, cnt: &mut u16) 
 
 /// A front-end frame, with an unsteady group now and then.
 fn front_end(stream: Stream, field3: u8, random: &mut Random, cnt: u16) -> Stream {
-    let frame = bits(random, slow::data_bits(cnt) + slow::control_bits(cnt));
+    let frame = bits(random, code::front_end_bits(cnt));
     let mut stream = stream.front_end(field3, &frame);
     if !frame.is_empty() && random.one_in(3) {
         let last = stream.bits.len() - 1 - random.below(frame.len() as u64 * 8) as usize;

@@ -1,40 +1,39 @@
 //! Generated streams, the same ones each time.
 
-use super::Case;
-use crate::compose::Stream;
-use crate::generate;
-use crate::random::Random;
+use crate::{generate, Case, Random, Stream};
 
-/// What is done to a stream: nothing, flips at one in so many, or random
-/// bytes instead of commands.
+/// How a stream is made.
 #[derive(Clone, Copy)]
-enum Make {
+enum Recipe {
+    /// Whole commands.
     Clean,
+    /// The same with one bit in so many inverted.
     Flips(u64),
-    Bytes,
+    /// Random bits.
+    Noise,
 }
 
-const MAKES: [Make; 8] = [
-    Make::Clean,
-    Make::Flips(10_000),
-    Make::Flips(1_000),
-    Make::Flips(300),
-    Make::Flips(100),
-    Make::Flips(30),
-    Make::Flips(10),
-    Make::Bytes,
+const RECIPES: [Recipe; 8] = [
+    Recipe::Clean,
+    Recipe::Flips(10_000),
+    Recipe::Flips(1_000),
+    Recipe::Flips(300),
+    Recipe::Flips(100),
+    Recipe::Flips(30),
+    Recipe::Flips(10),
+    Recipe::Noise,
 ];
 
 /// The first `count` generated cases; each depends on its number only.
 pub fn generated(count: u64) -> Vec<Case> {
-    (0..count).map(one).collect()
+    (0..count).map(case).collect()
 }
 
-fn one(number: u64) -> Case {
+fn case(number: u64) -> Case {
     let mut random = Random::new(0x5EED_0000 + number);
-    let make = MAKES[(number % MAKES.len() as u64) as usize];
-    let mut stream = match make {
-        Make::Bytes => {
+    let recipe = RECIPES[(number % RECIPES.len() as u64) as usize];
+    let mut stream = match recipe {
+        Recipe::Noise => {
             let begun = if random.bit() {
                 Stream::new().en_data_take()
             } else {
@@ -42,9 +41,9 @@ fn one(number: u64) -> Case {
             };
             begun.raw(&generate::bits(&mut random, 16_000))
         }
-        Make::Clean | Make::Flips(_) => generate::commands(&mut random, 400),
+        Recipe::Clean | Recipe::Flips(_) => generate::commands(&mut random, 400),
     };
-    if let Make::Flips(rate) = make {
+    if let Recipe::Flips(rate) = recipe {
         generate::flip_some(&mut stream, &mut random, rate);
     }
     let input = random_lines(&stream.bytes(), &mut random);

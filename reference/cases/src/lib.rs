@@ -1,17 +1,22 @@
-//! Cases for comparison with another reader: names and input lines.
+//! Inputs for readers of the command line: streams of bits put together,
+//! random ones, and lists of cases for the programs. The commands' numbers
+//! are written here from the papers once more: this package depends on
+//! nothing but the standard library and knows no reader, so that a wrong
+//! number of a reader shows.
 
-mod capture;
-mod commands;
-mod controller;
-mod frames;
+#![forbid(unsafe_code)]
+
+pub mod code;
+mod fixed;
+pub mod generate;
 mod generated;
-mod lines;
-mod paper;
+pub mod random;
+pub mod stream;
 
+pub use fixed::{fixed, RECEIVED};
 pub use generated::generated;
-pub use paper::RECEIVED;
-
-use crate::compose::Stream;
+pub use random::Random;
+pub use stream::Stream;
 
 /// One input of the programs.
 #[derive(Clone, Debug)]
@@ -19,7 +24,8 @@ pub struct Case {
     /// Serves as a path: folders by subject, then a file's name.
     pub name: String,
     pub input: Vec<u8>,
-    /// Whether its files are kept for a reviewer to read.
+    /// Whether it has golden files: its input and what the programs print,
+    /// for a reviewer to read.
     pub golden: bool,
 }
 
@@ -43,36 +49,7 @@ impl Case {
     }
 }
 
-/// All cases but the generated ones.
-pub fn kept() -> Vec<Case> {
-    let mut cases = paper::cases();
-    cases.extend(lines::cases());
-    cases.extend(frames::cases());
-    cases.extend(commands::cases());
-    cases.extend(controller::cases());
-    cases.extend(capture::cases());
-    cases
-}
-
-/// The cases whose files are kept: short ones, in text.
+/// The cases that have golden files: short ones, in text.
 pub fn golden() -> Vec<Case> {
-    kept().into_iter().filter(|case| case.golden).collect()
-}
-
-/// A stream ahead of which RunMode is on or off.
-fn in_run_mode(run_mode: bool) -> Stream {
-    if run_mode {
-        Stream::new().en_data_take()
-    } else {
-        Stream::new()
-    }
-}
-
-/// What a name says of RunMode.
-fn run_mode_name(run_mode: bool) -> &'static str {
-    if run_mode {
-        "run"
-    } else {
-        "idle"
-    }
+    fixed().into_iter().filter(|case| case.golden).collect()
 }

@@ -1,4 +1,4 @@
-//! Small deterministic random numbers (SplitMix64), for tests and cases.
+//! Small deterministic random numbers (SplitMix64).
 
 #[derive(Clone, Debug)]
 pub struct Random(u64);

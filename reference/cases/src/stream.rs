@@ -1,7 +1,6 @@
-//! Bit streams put together by hand, for tests and cases.
+//! Streams of bits put together, command by command.
 
-use crate::recogniser::{BCR, CAL, ECR, SYNC};
-use crate::slow;
+use crate::code;
 
 /// Bits in the order in which they arrive.
 #[derive(Clone, Debug, Default, PartialEq, Eq)]
@@ -40,51 +39,51 @@ impl Stream {
     }
 
     pub fn lv1(self) -> Stream {
-        self.pattern("11101")
+        self.pattern(code::LV1)
     }
 
     pub fn fast(self, body: u8) -> Stream {
-        self.pattern("10110").number(u32::from(body), 4)
+        self.pattern(code::HEADER).number(u32::from(body), 4)
     }
 
     pub fn bcr(self) -> Stream {
-        self.fast(BCR)
+        self.fast(code::BCR)
     }
 
     pub fn ecr(self) -> Stream {
-        self.fast(ECR)
+        self.fast(code::ECR)
     }
 
     pub fn cal(self) -> Stream {
-        self.fast(CAL)
+        self.fast(code::CAL)
     }
 
     pub fn sync(self) -> Stream {
-        self.fast(SYNC)
+        self.fast(code::SYNC)
     }
 
     /// A Slow command without its Field 5.
     pub fn slow(self, field3: u8, field4: u8) -> Stream {
-        self.pattern("10110 1011")
+        self.fast(code::SLOW)
             .number(u32::from(field3), 4)
             .number(u32::from(field4), 4)
     }
 
     pub fn wr_register(self, address: u8, value: u16) -> Stream {
-        self.slow(slow::WR_REGISTER, address)
+        self.slow(code::WR_REGISTER, address)
             .number(u32::from(value), 16)
     }
 
     pub fn rd_register(self, address: u8) -> Stream {
-        self.slow(slow::RD_REGISTER, address).zeros(16)
+        self.slow(code::RD_REGISTER, address).zeros(16)
     }
 
     pub fn wr_fifo(self, word: u32) -> Stream {
-        self.slow(slow::WR_FIFO, 0).number(word, 27)
+        self.slow(code::WR_FIFO, 0).number(word, 27)
     }
 
     pub fn rd_fifo(self, fifo: u8) -> Stream {
-        self.slow(slow::RD_FIFO, fifo).zeros(27)
+        self.slow(code::RD_FIFO, fifo).zeros(27)
     }
 
     /// A front-end frame, each bit for eight cycles.
@@ -97,19 +96,19 @@ impl Stream {
     }
 
     pub fn wr_receiver(self, frame: &[bool]) -> Stream {
-        self.slow(slow::WR_RECEIVER, 0).raw(frame)
+        self.slow(code::WR_RECEIVER, 0).raw(frame)
     }
 
     pub fn en_data_take(self) -> Stream {
-        self.slow(slow::EN_DATA_TAKE, 0)
+        self.slow(code::EN_DATA_TAKE, 0)
     }
 
     pub fn reset_mcc(self) -> Stream {
-        self.slow(slow::GLOBAL_RESET_MCC, 0)
+        self.slow(code::GLOBAL_RESET_MCC, 0)
     }
 
     pub fn reset_fe(self, sync_width: u8) -> Stream {
-        self.slow(slow::GLOBAL_RESET_FE, 0)
+        self.slow(code::GLOBAL_RESET_FE, 0)
             .number(u32::from(sync_width), 4)
     }
 

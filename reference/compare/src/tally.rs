@@ -1,6 +1,6 @@
 //! The count of what passed, and the faults.
 
-use super::fault::Fault;
+use crate::programs::fault::Fault;
 use std::fmt;
 
 /// One comparison, passed when it has no fault.
@@ -16,8 +16,8 @@ pub struct Tally {
     failed: Vec<String>,
 }
 
-/// Faults that are told one by one; the rest are only counted.
-const TOLD: usize = 40;
+/// Faults that are printed one by one; the rest are only counted.
+const PRINTED: usize = 40;
 
 impl Tally {
     pub fn add(&mut self, checks: Vec<Check>) {
@@ -41,11 +41,11 @@ impl Tally {
 
 impl fmt::Display for Tally {
     fn fmt(&self, f: &mut fmt::Formatter) -> fmt::Result {
-        for fault in self.failed.iter().take(TOLD) {
+        for fault in self.failed.iter().take(PRINTED) {
             writeln!(f, "FAILED {fault}")?;
         }
-        if self.failed.len() > TOLD {
-            writeln!(f, "and {} more", self.failed.len() - TOLD)?;
+        if self.failed.len() > PRINTED {
+            writeln!(f, "and {} more", self.failed.len() - PRINTED)?;
         }
         write!(f, "{} passed, {} failed", self.passed, self.failed.len())
     }

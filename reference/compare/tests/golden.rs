@@ -1,10 +1,10 @@
-//! The kept files: writing them, and seeing every change of them.
+//! The golden files: writing them, and seeing every change of them.
 
-use reference::cases::{golden, Case};
-use reference::compare::fault::Fault;
-use reference::compare::kept::check;
-use reference::compare::scratch::Scratch;
-use reference::golden::{strays, write};
+use cases::{golden, Case};
+use compare::golden::check::check;
+use compare::golden::{strays, write};
+use compare::programs::fault::Fault;
+use compare::programs::scratch::Scratch;
 use std::fs;
 use std::path::{Path, PathBuf};
 
@@ -25,8 +25,8 @@ fn failed(folder: &Path, cases: &[Case]) -> Vec<(String, Fault)> {
 }
 
 #[test]
-fn every_change_of_a_kept_file_shows() {
-    let folder = folder("kept");
+fn every_change_of_a_golden_file_shows() {
+    let folder = folder("golden");
     let cases: Vec<Case> = golden().into_iter().take(3).collect();
     for case in &cases {
         write(&folder, case).unwrap();
@@ -39,7 +39,7 @@ fn every_change_of_a_kept_file_shows() {
     fs::write(&listing, &kept[1..]).unwrap();
     let faults = failed(&folder, &cases);
     assert_eq!(faults.len(), 1);
-    assert_eq!(faults[0].0, "kept file paper/listing.station");
+    assert_eq!(faults[0].0, "golden file paper/listing.station");
     assert!(matches!(faults[0].1, Fault::Differs(_)));
 
     fs::remove_file(&listing).unwrap();

@@ -1,28 +1,26 @@
 //! The images of states, and the cases of the interface, without a driver.
 
-mod common;
-
-use common::Reader;
-use reference::compare::tally::Tally;
-use reference::generate::{bits, commands_by, flip_some};
-use reference::interface::call::{Call, Open, Take};
-use reference::interface::difference::{difference, reply_bytes};
-use reference::interface::image::{first_is_free, image, state, uses};
-use reference::interface::layout::{self, at, largest, IMAGE_WORDS, LAYOUT, RECOGNISER};
-use reference::interface::states::{random_cycle, random_state, PLANS};
-use reference::interface::wanted::{wanted, Wanted};
-use reference::interface::{base, checker, dirty};
-use reference::limits::{input_fits, CLOCK_LIMIT, RECORD_WORDS, STORE_WORDS, TRAY_BYTES};
-use reference::listing::push_record;
-use reference::random::Random;
-use reference::recogniser::{self, Recogniser};
-use reference::record::{flag, kind};
-use reference::{hex_line, open, slow, sound, Plan, Record, State};
+use cases::generate::{bits, commands_at, flip_some};
+use cases::Random;
+use compare::interface::call::{Call, Open, Take};
+use compare::interface::difference::{difference, reply_bytes};
+use compare::interface::expected::{expected, Expected};
+use compare::interface::image::{first_is_unspecified, image, state, uses};
+use compare::interface::layout::{self, at, largest, IMAGE_WORDS, LAYOUT, RECOGNISER};
+use compare::interface::states::{random_cycle, random_state, PLANS};
+use compare::interface::streams::addresses;
+use compare::interface::{checker, fit, prefilled};
+use compare::tally::Tally;
+use reader::limits::{input_fits, CLOCK_LIMIT, RECORD_WORDS, STORE_WORDS, TRAY_BYTES};
+use reader::listing::push_record;
+use reader::record::{flag, kind};
+use reader::{hex_line, open, recogniser, slow, sound, take};
+use reader::{Ending, Plan, Recogniser, Record, State};
 use std::collections::BTreeMap;
 use std::path::Path;
 
-/// The C header, which lies beside this reader's folder.
-const HEADER: &str = concat!(env!("CARGO_MANIFEST_DIR"), "/../include/kernelstill.h");
+/// The C header of the repository.
+const HEADER: &str = concat!(env!("CARGO_MANIFEST_DIR"), "/../../include/kernelstill.h");
 
 /// The numbers that the header defines, by name without its first part.
 fn in_header() -> BTreeMap<String, u64> {
@@ -55,7 +53,7 @@ fn number(text: &str) -> Option<u64> {
     }
 }
 
-/// The same numbers as this reader has them.
+/// The same numbers as the reader and this package have them.
 fn in_reader() -> BTreeMap<String, u64> {
     let places = [
         "LAYOUT", "MASK", "CSR", "FEEN", "CNT", "NEXT", "PHASE", "SHIFT", "COMMAND", "ADDRESS",
@@ -186,19 +184,40 @@ fn the_lengths_of_inputs_and_lines_are_the_readers() {
 fn states_of_a_stream(random: &mut Random) -> Vec<State> {
     let plan = PLANS[random.below(PLANS.len() as u64) as usize];
     let cycle = random_cycle(random).min(1 << 40);
-    let mut stream = commands_by(plan, random, 12);
+    let mut stream = commands_at(addresses(plan), random, 12);
     let tail = bits(random, 50);
     stream = stream.raw(&tail);
     flip_some(&mut stream, random, 60);
 
     let bytes = stream.bytes();
-    let mut reader = Reader::new(open(plan, cycle).1);
-    let mut states = vec![reader.state.clone()];
+    let mut states = vec![open(plan, cycle).1];
+    let (mut store, mut tray) = (vec![0; STORE_WORDS], vec![0; TRAY_BYTES]);
     for bit in 0..stream.bits.len() as u64 {
-        reader.read_part(&bytes, bit, 1, 1);
-        states.push(reader.state.clone());
+        let state = states[states.len() - 1].clone();
+        states.push(take_bit(state, &bytes, bit, &mut store, &mut tray));
     }
     states
+}
+
+/// Takes one bit, and checks how the call ended.
+fn take_bit(state: State, bytes: &[u8], bit: u64, store: &mut [u32], tray: &mut [u8]) -> State {
+    let mut list = [0; RECORD_WORDS];
+    let answer = take(state, bytes, bit, 1, store, tray, &mut list, 0);
+    assert_eq!(answer.bits_taken, 1);
+    let is_frame = match answer.records_written {
+        0 => {
+            assert_eq!(list, [0; RECORD_WORDS]);
+            false
+        }
+        _ => Record::from_words(list).frame_bits().is_some(),
+    };
+    let ending = if is_frame {
+        Ending::Frame
+    } else {
+        Ending::Done
+    };
+    assert_eq!(answer.ending, ending);
+    answer.state
 }
 
 #[test]
@@ -246,7 +265,7 @@ fn words_that_the_phase_does_not_use_are_zero_and_not_looked_at() {
 
 #[test]
 fn each_word_beyond_its_width_is_malformed() {
-    for (_, made) in base::states() {
+    for (_, made) in fit::states() {
         let words = image(&made);
         for place in 0..IMAGE_WORDS {
             let mut beyond = words;
@@ -266,7 +285,7 @@ fn each_word_beyond_its_width_is_malformed() {
 
 #[test]
 fn the_first_bit_is_without_a_meaning_inside_a_wr_receiver_only() {
-    for (name, made) in base::states() {
+    for (name, made) in fit::states() {
         let inside = matches!(
             made.recogniser,
             Recogniser::Field5 {
@@ -274,23 +293,23 @@ fn the_first_bit_is_without_a_meaning_inside_a_wr_receiver_only() {
                 ..
             }
         );
-        assert_eq!(first_is_free(&image(&made)), inside, "{name}");
+        assert_eq!(first_is_unspecified(&image(&made)), inside, "{name}");
     }
 }
 
 #[test]
 fn the_calls_that_the_cases_change_are_fit() {
     let mut random = Random::new(74);
-    for (name, made) in base::states() {
-        let take = base::call(&image(&made), &mut random);
-        assert_eq!(wanted(&Call::Take(take)).answer, 0, "{name}");
+    for (name, made) in fit::states() {
+        let take = fit::call(&image(&made), &mut random);
+        assert_eq!(expected(&Call::Take(take)).answer, 0, "{name}");
     }
 }
 
 #[test]
 fn an_image_of_which_no_bit_is_taken_stays_word_for_word() {
     let mut random = Random::new(75);
-    for (name, made) in base::states() {
+    for (name, made) in fit::states() {
         let words = image(&made);
         let mut filled = words;
         for place in RECOGNISER.filter(|&place| !uses(&words, place)) {
@@ -298,26 +317,26 @@ fn an_image_of_which_no_bit_is_taken_stays_word_for_word() {
         }
         let no_count = Take {
             count: 0,
-            ..base::call(&filled, &mut random)
+            ..fit::call(&filled, &mut random)
         };
         let no_room = Take {
             list: Vec::new(),
             free: 0,
-            ..base::call(&filled, &mut random)
+            ..fit::call(&filled, &mut random)
         };
         for (take, ending) in [(no_count, layout::DONE), (no_room, layout::LIST_FULL)] {
-            let wanted = wanted(&Call::Take(take));
-            let after = taken(&wanted);
+            let expected = expected(&Call::Take(take));
+            let after = taken(&expected);
             assert_eq!(after.image, filled, "{name}");
             assert_eq!(after.result, [0, 0, ending], "{name}");
-            assert_eq!(wanted.free, [], "{name}");
+            assert_eq!(expected.unspecified, [], "{name}");
         }
     }
 }
 
-/// A taking call as it is wanted afterwards.
-fn taken(wanted: &Wanted) -> &Take {
-    match &wanted.after {
+/// A taking call as it is expected to be afterwards.
+fn taken(expected: &Expected) -> &Take {
+    match &expected.after {
         Call::Take(take) => take,
         other => panic!("not a taking call: {other:?}"),
     }
@@ -344,11 +363,11 @@ fn sent_back(call: &Call) -> Vec<(&'static str, Vec<u8>)> {
     }
 }
 
-/// The reply of a driver that has done as wanted.
-fn right_reply(wanted: &Wanted) -> Vec<u8> {
-    let buffers = sent_back(&wanted.after);
+/// The reply of a driver that does as expected.
+fn right_reply(expected: &Expected) -> Vec<u8> {
+    let buffers = sent_back(&expected.after);
     let bytes = buffers.into_iter().flat_map(|(_, bytes)| bytes);
-    wanted
+    expected
         .answer
         .to_le_bytes()
         .into_iter()
@@ -365,9 +384,9 @@ fn one_of_each(random: &mut Random) -> Vec<Call> {
             feen: 2,
             cnt: 5,
             cycle: 12,
-            image: dirty::words(random, IMAGE_WORDS),
+            image: prefilled::words(random, IMAGE_WORDS),
         }),
-        Call::Take(base::call(&base::hunting(), random)),
+        Call::Take(fit::call(&fit::hunting(), random)),
         Call::FrameBits {
             head: 0x2600,
             value: 24,
@@ -378,10 +397,10 @@ fn one_of_each(random: &mut Random) -> Vec<Call> {
         },
         Call::HexLine {
             line: b"0123456789".to_vec(),
-            bytes: dirty::bytes(random, 40),
+            bytes: prefilled::bytes(random, 40),
         },
         Call::RecordLine {
-            line: dirty::bytes(random, 30),
+            line: prefilled::bytes(random, 30),
             head: random.word(),
             value: random.word(),
         },
@@ -392,14 +411,14 @@ fn one_of_each(random: &mut Random) -> Vec<Call> {
 fn a_wrong_answer_is_a_difference() {
     let mut random = Random::new(76);
     for call in one_of_each(&mut random) {
-        let wanted = wanted(&call);
-        let right = right_reply(&wanted);
-        assert_eq!(right.len(), reply_bytes(&wanted));
-        assert_eq!(difference(&wanted, &right), None);
+        let expected = expected(&call);
+        let right = right_reply(&expected);
+        assert_eq!(right.len(), reply_bytes(&expected));
+        assert_eq!(difference(&expected, &right), None);
         for place in 0..8 {
             let mut wrong = right.clone();
             wrong[place] ^= 1;
-            let found = difference(&wanted, &wrong).expect("a difference");
+            let found = difference(&expected, &wrong).expect("a difference");
             assert!(found.starts_with("the answer differs"), "{found}");
         }
     }
@@ -409,16 +428,16 @@ fn a_wrong_answer_is_a_difference() {
 fn a_byte_off_in_any_buffer_is_a_difference() {
     let mut random = Random::new(77);
     for call in one_of_each(&mut random) {
-        let wanted = wanted(&call);
-        let right = right_reply(&wanted);
+        let expected = expected(&call);
+        let right = right_reply(&expected);
         let mut start = 8;
-        for (name, bytes) in sent_back(&wanted.after) {
+        for (name, bytes) in sent_back(&expected.after) {
             let last = bytes.len() - 1;
             let somewhere = random.below(bytes.len() as u64) as usize;
             for place in [0, somewhere, last] {
                 let mut wrong = right.clone();
                 wrong[start + place] ^= 1 << random.below(8);
-                let found = difference(&wanted, &wrong).expect("a difference");
+                let found = difference(&expected, &wrong).expect("a difference");
                 assert!(found.starts_with(&format!("{name} ")), "{found}");
             }
             start += bytes.len();
@@ -430,30 +449,30 @@ fn a_byte_off_in_any_buffer_is_a_difference() {
 #[test]
 fn a_refused_call_that_changes_a_byte_is_a_difference() {
     let mut random = Random::new(78);
-    let mut take = base::call(&base::hunting(), &mut random);
+    let mut take = fit::call(&fit::hunting(), &mut random);
     take.first = u64::MAX;
-    let wanted = wanted(&Call::Take(take));
-    assert_eq!(wanted.answer, layout::WRONG_RANGE);
-    let mut reply = right_reply(&wanted);
-    assert_eq!(difference(&wanted, &reply), None);
+    let expected = expected(&Call::Take(take));
+    assert_eq!(expected.answer, layout::WRONG_RANGE);
+    let mut reply = right_reply(&expected);
+    assert_eq!(difference(&expected, &reply), None);
     *reply.last_mut().expect("a result") ^= 1;
-    let found = difference(&wanted, &reply).expect("a difference");
+    let found = difference(&expected, &reply).expect("a difference");
     assert!(found.starts_with("result element 2 "), "{found}");
 }
 
 #[test]
-fn a_free_word_may_be_any_of_its_width_and_no_other() {
+fn an_unspecified_word_may_be_any_of_its_width_and_no_other() {
     let mut random = Random::new(79);
-    let inside = |(_, made): &(String, State)| first_is_free(&image(made));
-    let (_, made) = base::states().into_iter().find(inside).expect("WrReceiver");
-    let mut take = base::call(&image(&made), &mut random);
+    let inside = |(_, made): &(String, State)| first_is_unspecified(&image(made));
+    let (_, made) = fit::states().into_iter().find(inside).expect("WrReceiver");
+    let mut take = fit::call(&image(&made), &mut random);
     take.count = 1;
-    let wanted = wanted(&Call::Take(take));
-    assert_eq!(wanted.free, [at::FIRST]);
+    let expected = expected(&Call::Take(take));
+    assert_eq!(expected.unspecified, [at::FIRST]);
     let with = |place: usize, word: u64| {
-        let mut reply = right_reply(&wanted);
+        let mut reply = right_reply(&expected);
         reply[8 + 8 * place..][..8].copy_from_slice(&word.to_le_bytes());
-        difference(&wanted, &reply)
+        difference(&expected, &reply)
     };
     assert_eq!(with(at::FIRST, 0), None);
     assert_eq!(with(at::FIRST, 1), None);
@@ -461,7 +480,7 @@ fn a_free_word_may_be_any_of_its_width_and_no_other() {
         let found = with(at::FIRST, beyond).expect("a difference");
         assert!(found.starts_with("image word 12 (first) "), "{found}");
     }
-    // The next word is not free, though unused.
+    // The next word is specified, though unused.
     let found = with(at::UNSTEADY, 1).expect("a difference");
     assert!(found.starts_with("image word 13 (unsteady) "), "{found}");
 }
@@ -513,6 +532,6 @@ fn a_driver_that_does_not_do_its_part_is_reported() {
     reported(
         "cat",
         Some(other),
-        "call: the answer differs: wanted 4, got 3",
+        "call: the answer differs: expected 4, got 3",
     );
 }

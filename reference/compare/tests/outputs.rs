@@ -1,42 +1,15 @@
-//! The cases for comparison: names, repeatability, and how the outputs of
-//! the three programs hang together.
+//! What the separate reader's programs print for the cases.
 
-use reference::cases::{generated, golden, kept, Case};
-use reference::printed::Program;
-use reference::{model, reading, station};
+use cases::{fixed, generated, golden};
+use compare::printed::printed;
+use reader::{model, reading, station, Program};
 use std::collections::HashSet;
 
-fn all() -> Vec<Case> {
-    let mut cases = kept();
-    cases.extend(generated(40));
-    cases
-}
-
 #[test]
-fn names_serve_as_file_names() {
-    let mut names = HashSet::new();
-    for case in all() {
-        let mut parts = case.name.split('/');
-        assert!(parts.all(|part| {
-            let fit = |c: u8| c.is_ascii_alphanumeric() || c == b'-';
-            !part.is_empty() && part.bytes().all(fit)
-        }));
-        // Also where upper and lower case are the same.
-        assert!(names.insert(case.name.to_lowercase()), "{}", case.name);
-    }
-}
-
-#[test]
-fn generated_cases_repeat() {
-    let inputs = |count| generated(count).into_iter().map(|case| case.input);
-    assert!(inputs(20).eq(inputs(40).take(20)));
-}
-
-#[test]
-fn the_three_outputs_hang_together() {
+fn the_three_outputs_agree() {
     let text = |bytes: Vec<u8>| String::from_utf8(bytes).unwrap();
     let mut refused = HashSet::new();
-    for case in all() {
+    for case in [fixed(), generated(40)].concat() {
         let (mut one, mut two, mut three) = (Vec::new(), Vec::new(), Vec::new());
         station(&case.input[..], &mut one).unwrap();
         reading(&case.input[..], &mut two).unwrap();
@@ -58,7 +31,7 @@ fn the_three_outputs_hang_together() {
 /// the byte ahead of them instead of after them leave their records alone.
 #[test]
 fn marked_cases() {
-    let wanted = [
+    let expected = [
         (1, "000000000017 01 05 00000017\n"),
         (2, "000000000017 01 07 00000017\n"),
         (4, ""),
@@ -71,38 +44,15 @@ fn marked_cases() {
         (13, "000000000027 2F 00 0000000B\n"),
         (14, "000000000027 24 01 00000000\n"),
     ];
-    for (number, lines) in wanted {
+    for (number, lines) in expected {
         let start = format!("marked/{number:02}-");
         let fits = |name: &str| name.starts_with(&start) && name.ends_with("-whole");
-        let case = kept().into_iter().find(|case| fits(&case.name)).unwrap();
+        let case = fixed().into_iter().find(|case| fits(&case.name)).unwrap();
         let mut out = Vec::new();
         station(&case.input[..], &mut out).unwrap();
-        let wanted = format!("000000000010 28 01 00000000\n{lines}");
-        assert_eq!(String::from_utf8(out).unwrap(), wanted, "{start}");
+        let expected = format!("000000000010 28 01 00000000\n{lines}");
+        assert_eq!(String::from_utf8(out).unwrap(), expected, "{start}");
     }
-}
-
-#[test]
-fn cases_cover_what_they_should() {
-    let names: Vec<String> = kept().into_iter().map(|case| case.name).collect();
-    let count = |start: &str| names.iter().filter(|name| name.starts_with(start)).count();
-    assert_eq!(count("marked/"), 28);
-    for (table, rows) in [(4, 10), (5, 14), (6, 14), (7, 14), (8, 14), (9, 14)] {
-        // In and out of RunMode.
-        assert_eq!(count(&format!("tables/1-{table}/")), 2 * rows);
-    }
-    for name in ["0", "1", "7", "8", "9", "8247"] {
-        for kind in ["wr", "rd"] {
-            assert!(names.contains(&format!("frames/{kind}-{name}")));
-        }
-    }
-    assert!(names.contains(&"frames/receiver-65528".to_string()));
-    let lines = |case: &Case| case.input.iter().filter(|&&byte| byte == b'\n').count();
-    let long = generated(400)
-        .iter()
-        .filter(|case| lines(case) > 300)
-        .count();
-    assert!(long >= 40, "{long}");
 }
 
 /// Golden files are few kilobytes of text, and have each number of a line.
@@ -111,7 +61,7 @@ fn golden_files_are_short() {
     let mut refused = Vec::new();
     for case in golden() {
         for program in Program::ALL {
-            let printed = String::from_utf8(program.prints(&case.input)).unwrap();
+            let printed = String::from_utf8(printed(program, &case.input)).unwrap();
             assert!(printed.len() < 3_000, "{}", case.name);
             refused.extend(
                 printed

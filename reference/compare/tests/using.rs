@@ -1,25 +1,26 @@
 //! The page for the person at the bench, docs/USING.md, and its example:
 //! every line of output that it shows is real.
 
-use reference::cases::kept;
-use reference::printed::Program;
+use cases::fixed;
+use compare::printed::printed;
+use reader::Program;
 use std::collections::HashSet;
 use std::fs;
 use std::path::Path;
 
 fn read(path: &str) -> String {
-    let folder = Path::new(env!("CARGO_MANIFEST_DIR")).join("..");
+    let folder = Path::new(env!("CARGO_MANIFEST_DIR")).join("../..");
     fs::read_to_string(folder.join(path)).expect(path)
 }
 
 fn prints(program: Program, input: &str) -> String {
-    String::from_utf8(program.prints(input.as_bytes())).unwrap()
+    String::from_utf8(printed(program, input.as_bytes())).unwrap()
 }
 
 #[test]
 fn the_example_is_the_case_and_its_listing() {
     let capture = read("examples/capture.hex");
-    let case = kept()
+    let case = fixed()
         .into_iter()
         .find(|case| case.name == "capture/capture");
     assert_eq!(capture.as_bytes(), case.unwrap().input);

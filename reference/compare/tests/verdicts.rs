@@ -1,54 +1,55 @@
 //! The comparison's own logic.
 
-use reference::compare::difference::difference;
-use reference::compare::fault::{judge, Fault};
-use reference::compare::pool;
-use reference::compare::running::Ended;
-use reference::compare::tally::{Check, Tally};
+use compare::programs::difference::difference;
+use compare::programs::fault::{judge, Fault};
+use compare::programs::pool;
+use compare::programs::running::Ended;
+use compare::tally::{Check, Tally};
 use std::time::Duration;
 
 #[test]
 fn differences() {
-    let told = |wanted: &str, got: &str| {
-        difference(wanted.as_bytes(), got.as_bytes()).map(|difference| difference.to_string())
+    let message = |expected: &str, got: &str| {
+        difference(expected.as_bytes(), got.as_bytes()).map(|difference| difference.to_string())
     };
-    assert_eq!(told("", ""), None);
-    assert_eq!(told("a\nb\n", "a\nb\n"), None);
-    for (wanted, got, text) in [
-        ("a\n", "", "byte 1, line 1: wanted \"a\\n\", got the end"),
-        ("", "a\n", "byte 1, line 1: wanted the end, got \"a\\n\""),
+    assert_eq!(message("", ""), None);
+    assert_eq!(message("a\nb\n", "a\nb\n"), None);
+    for (expected, got, text) in [
+        ("a\n", "", "byte 1, line 1: expected \"a\\n\", got the end"),
+        ("", "a\n", "byte 1, line 1: expected the end, got \"a\\n\""),
         (
             "a\nb\n",
             "a\n",
-            "byte 3, line 2: wanted \"b\\n\", got the end",
+            "byte 3, line 2: expected \"b\\n\", got the end",
         ),
         (
             "ab\ncd\n",
             "ab\nce\n",
-            "byte 5, line 2: wanted \"cd\\n\", got \"ce\\n\"",
+            "byte 5, line 2: expected \"cd\\n\", got \"ce\\n\"",
         ),
         (
             "ab\n",
             "ab",
-            "byte 3, line 1: wanted \"ab\\n\", got the end",
+            "byte 3, line 1: expected \"ab\\n\", got the end",
         ),
         (
             "ab\n",
             "ab\r\n",
-            "byte 3, line 1: wanted \"ab\\n\", got \"ab\\r\\n\"",
+            "byte 3, line 1: expected \"ab\\n\", got \"ab\\r\\n\"",
         ),
         (
             "a\n",
             "a\0",
-            "byte 2, line 1: wanted \"a\\n\", got \"a\\x00\"",
+            "byte 2, line 1: expected \"a\\n\", got \"a\\x00\"",
         ),
     ] {
-        assert_eq!(told(wanted, got), Some(format!("differs at {text}")));
+        assert_eq!(message(expected, got), Some(format!("differs at {text}")));
     }
     // Of a long line only what is about the place.
     let (long, other) = ("x".repeat(20_000), "x".repeat(10_000));
-    let told = told(&long, &format!("{other}y{other}")).unwrap();
-    assert!(told.len() < 200 && told.contains("byte 10001, line 1") && told.contains("xy"));
+    let message = message(&long, &format!("{other}y{other}")).unwrap();
+    assert!(message.len() < 200);
+    assert!(message.contains("byte 10001, line 1") && message.contains("xy"));
 }
 
 #[test]

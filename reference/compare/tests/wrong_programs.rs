@@ -1,16 +1,17 @@
 //! The comparison passes the programs themselves and turns wrong ones away.
 
-use reference::cases::{kept, Case};
-use reference::compare::case;
-use reference::compare::fault::Fault;
-use reference::compare::live;
-use reference::compare::scratch::Scratch;
-use reference::compare::tally::Tally;
-use reference::compare::tested::Tested;
-use reference::printed::Program;
+use cases::{fixed, Case};
+use compare::programs::case;
+use compare::programs::fault::Fault;
+use compare::programs::live;
+use compare::programs::scratch::Scratch;
+use compare::programs::under_test::UnderTest;
+use compare::tally::Tally;
+use reader::Program;
 use std::fs::{self, Permissions};
 use std::os::unix::fs::PermissionsExt;
 use std::path::{Path, PathBuf};
+use std::process::Command;
 use std::sync::OnceLock;
 use std::time::Duration;
 
@@ -36,7 +37,7 @@ fn scripts() -> &'static Path {
     static FOLDER: OnceLock<PathBuf> = OnceLock::new();
     FOLDER.get_or_init(|| {
         let folder = Path::new(env!("CARGO_TARGET_TMPDIR")).join("scripts");
-        let real = Path::new(env!("CARGO_BIN_EXE_station")).parent().unwrap();
+        let real = readers_programs();
         for (name, script) in SCRIPTS {
             fs::create_dir_all(folder.join(name)).unwrap();
             for program in Program::ALL.map(Program::name) {
@@ -51,72 +52,91 @@ fn scripts() -> &'static Path {
     })
 }
 
-fn tested(script: &str) -> Tested {
-    Tested::new(&scripts().join(script))
+/// The folder of the separate reader's programs, beside this package's. They
+/// are built, as they are another package's: a test of the whole workspace
+/// has done so already, a test of this package alone has not.
+fn readers_programs() -> PathBuf {
+    let folder = Path::new(env!("CARGO_BIN_EXE_compare")).parent().unwrap();
+    let mut build = Command::new(env!("CARGO"));
+    build.args(["build", "--offline", "--quiet", "--bins", "--manifest-path"]);
+    build.arg(concat!(env!("CARGO_MANIFEST_DIR"), "/../reader/Cargo.toml"));
+    build.arg("--target-dir").arg(folder.parent().unwrap());
+    if folder.ends_with("release") {
+        build.arg("--release");
+    }
+    assert!(build.status().unwrap().success());
+    folder.to_path_buf()
+}
+
+fn patient(script: &str) -> UnderTest {
+    UnderTest::new(&scripts().join(script))
 }
 
 /// With limits that a right program keeps to all the same.
-fn impatient(script: &str) -> Tested {
-    let mut tested = tested(script);
-    tested.run_limit = Duration::from_millis(400);
-    tested.line_limit = Duration::from_millis(400);
-    tested
+fn impatient(script: &str) -> UnderTest {
+    let mut programs = patient(script);
+    programs.run_limit = Duration::from_millis(400);
+    programs.line_limit = Duration::from_millis(400);
+    programs
 }
 
 fn named(name: &str) -> Case {
-    kept().into_iter().find(|case| case.name == name).unwrap()
+    fixed().into_iter().find(|case| case.name == name).unwrap()
 }
 
-fn faults(tested: &Tested, name: &str) -> Vec<Option<Fault>> {
+fn faults(programs: &UnderTest, name: &str) -> Vec<Option<Fault>> {
     let scratch = Scratch::new().unwrap();
-    let checks = case::check(tested, &named(name), &scratch);
+    let checks = case::check(programs, &named(name), &scratch);
     checks.into_iter().map(|check| check.fault).collect()
 }
 
-fn live_faults(tested: &Tested) -> Vec<Option<Fault>> {
+fn live_faults(programs: &UnderTest) -> Vec<Option<Fault>> {
     let checks = live::cases()
         .into_iter()
-        .flat_map(|live| live::check(tested, &live));
+        .flat_map(|live| live::check(programs, &live));
     checks.map(|check| check.fault).collect()
 }
 
 #[test]
 fn the_programs_themselves_pass() {
     for folder in ["real", "fails"] {
-        let tested = tested(folder);
+        let programs = patient(folder);
         for name in [
             "paper/listing",
             "frames/wr-9",
             "refusals/odd",
             "lines/empty-input",
         ] {
-            let faults = faults(&tested, name);
-            // Three programs, three ways.
+            let faults = faults(&programs, name);
+            // Three programs, three deliveries.
             assert_eq!(faults, vec![None; 9], "{folder}, {name}");
         }
-        assert!(live_faults(&tested).iter().all(Option::is_none), "{folder}");
+        assert!(
+            live_faults(&programs).iter().all(Option::is_none),
+            "{folder}"
+        );
     }
     // Long inputs are not written a byte at a time.
     assert_eq!(
-        faults(&tested("real"), "refusals/200000-digits"),
+        faults(&patient("real"), "refusals/200000-digits"),
         vec![None; 6]
     );
     assert_eq!(
-        faults(&tested("real"), "frames/receiver-65528"),
+        faults(&patient("real"), "frames/receiver-65528"),
         vec![None; 6]
     );
 }
 
 #[test]
-fn wrong_output_is_told_with_its_place() {
-    let tested = tested("drops-a-line");
+fn wrong_output_is_reported_with_its_place() {
+    let programs = patient("drops-a-line");
     let scratch = Scratch::new().unwrap();
-    let checks = case::check(&tested, &named("paper/listing"), &scratch);
+    let checks = case::check(&programs, &named("paper/listing"), &scratch);
     assert_eq!(checks.len(), 9);
     let mut tally = Tally::default();
     tally.add(checks);
     let first = "FAILED station, paper/listing, as a file: differs at byte 40, line 2: \
-                 wanted \"000000000015 01 05 00000015\\n\", got \"00000000001C 01 07 0000011C\\n\"";
+                 expected \"000000000015 01 05 00000015\\n\", got \"00000000001C 01 07 0000011C\\n\"";
     let text = tally.to_string();
     assert_eq!(text.lines().next(), Some(first));
     assert!(text.ends_with("\n0 passed, 9 failed"));
@@ -125,20 +145,20 @@ fn wrong_output_is_told_with_its_place() {
 #[test]
 fn output_without_end_is_cut_off() {
     // One that is not cut off would be given up as hanging.
-    for fault in faults(&tested("prints-for-ever"), "paper/listing") {
+    for fault in faults(&patient("prints-for-ever"), "paper/listing") {
         assert!(matches!(fault, Some(Fault::Differs(_))), "{fault:?}");
     }
 }
 
 #[test]
 fn a_program_that_hangs_is_killed_and_given_up() {
-    let mut tested = impatient("hangs");
-    tested.run_limit = Duration::from_millis(100);
-    for fault in faults(&tested, "paper/listing") {
+    let mut programs = impatient("hangs");
+    programs.run_limit = Duration::from_millis(100);
+    for fault in faults(&programs, "paper/listing") {
         assert!(matches!(fault, Some(Fault::Hangs(Some(_)))), "{fault:?}");
     }
     let again = Some(Fault::GivenUp);
-    assert_eq!(faults(&tested, "frames/wr-9"), vec![again; 9]);
+    assert_eq!(faults(&programs, "frames/wr-9"), vec![again; 9]);
 }
 
 #[test]
@@ -150,13 +170,13 @@ fn a_program_that_hangs_after_its_output_is_killed_too() {
 
 #[test]
 fn a_crash_shows() {
-    let faults = faults(&tested("crashes"), "paper/listing");
+    let faults = faults(&patient("crashes"), "paper/listing");
     assert_eq!(faults, vec![Some(Fault::Crashes); 9]);
 }
 
 #[test]
 fn a_program_that_is_not_there_shows() {
-    for fault in faults(&tested("none"), "paper/listing") {
+    for fault in faults(&patient("none"), "paper/listing") {
         assert!(matches!(fault, Some(Fault::NotStarted(_))), "{fault:?}");
     }
 }
@@ -164,26 +184,26 @@ fn a_program_that_is_not_there_shows() {
 /// One that reads all its input first is right on files and closed pipes.
 #[test]
 fn a_lagging_program_fails_on_a_live_pipe_only() {
-    let tested = impatient("reads-all-first");
+    let programs = impatient("reads-all-first");
     let listing = &live::cases()[0];
-    for check in live::check(&tested, listing) {
+    for check in live::check(&programs, listing) {
         assert_eq!(check.fault, Some(Fault::LagsAtLine(1)), "{}", check.name);
     }
-    let tested = self::tested("reads-all-first");
-    assert_eq!(faults(&tested, "refusals/odd"), vec![None; 9]);
+    let programs = patient("reads-all-first");
+    assert_eq!(faults(&programs, "refusals/odd"), vec![None; 9]);
 }
 
 /// A refused line ends the run, though the pipe stays open.
 #[test]
 fn reading_on_after_a_refused_line_fails_on_a_live_pipe() {
     for live in live::cases() {
-        let (make, wanted) = if live.left_open {
-            (impatient as fn(&str) -> Tested, Some(Fault::Hangs(None)))
+        let (make, expected) = if live.left_open {
+            (impatient as fn(&str) -> UnderTest, Some(Fault::Hangs(None)))
         } else {
-            (tested as fn(&str) -> Tested, None)
+            (patient as fn(&str) -> UnderTest, None)
         };
         for check in live::check(&make("reads-after-a-refusal"), &live) {
-            assert_eq!(check.fault, wanted, "{}", check.name);
+            assert_eq!(check.fault, expected, "{}", check.name);
         }
     }
 }

@@ -1,4 +1,4 @@
-//! A decoder with the buffers it is lent, fed by whole lines.
+//! A decoder with its state and the buffers that its calls are lent.
 
 use crate::limits::{STORE_WORDS, TRAY_BYTES};
 use crate::plan::Plan;
@@ -10,16 +10,16 @@ use crate::tray::frame_part;
 /// Records that one call can write; more only cost memory, fewer more calls.
 const LIST_RECORDS: usize = 64;
 
-pub struct Bench {
+pub struct Decoder {
     pub state: State,
     pub store: [u32; STORE_WORDS],
     tray: [u8; TRAY_BYTES],
 }
 
-impl Bench {
+impl Decoder {
     /// As the station program starts: cycle 0, default plan, words at zero.
-    pub fn start() -> Bench {
-        Bench {
+    pub fn start() -> Decoder {
+        Decoder {
             state: open(Plan::DEFAULT, 0).1,
             store: [0; STORE_WORDS],
             tray: [0; TRAY_BYTES],

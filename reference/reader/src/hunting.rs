@@ -1,13 +1,13 @@
-//! Passing the bits at which a hunting recogniser finds nothing ("Hunting").
+//! Hunting over many bits at once ("Hunting").
 
 use crate::window::{meaning, slide, Meaning};
 
-/// Goes bit by bit from bit `from` of the input up to `end` while the window
-/// means nothing. Such bits change only the window and the cycle, so this
-/// loop keeps to a few numbers instead of the whole state. Answers the window
-/// and the first bit not passed.
+/// Skips bits of the input from bit `from` on, at most up to `end`, as long as
+/// the window matches no pattern. Such bits change only the window and the
+/// cycle, so this loop keeps to a few numbers instead of the whole state.
+/// Answers the window and the first bit not skipped.
 #[inline]
-pub fn pass_quiet(mut window: u8, input: &[u8], from: u64, end: u64) -> (u8, u64) {
+pub fn skip_to_match(mut window: u8, input: &[u8], from: u64, end: u64) -> (u8, u64) {
     let mut place = from;
     while place < end {
         let next = slide(window, bit_at(input, place));

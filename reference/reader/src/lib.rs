@@ -1,30 +1,23 @@
-//! A plain reader of the MCC-I2.1 command line, one bit a cycle.
+//! The separate reader: a plain reader of the MCC-I2.1 command line, one bit
+//! a cycle, written from the papers. It depends on nothing but the standard
+//! library, and knows nothing of the reader that is compared with it.
 //!
-//! "Document 01" is the paper that decides; comments cite its section names.
-//! The reader is written to be compared with another one, so it stays close
-//! to the words of the papers.
+//! "Document 01" is the paper that decides; comments cite its section names,
+//! and the code stays close to its words.
 
 #![forbid(unsafe_code)]
 
-pub mod bench;
-pub mod cases;
-pub mod compare;
-pub mod compose;
 pub mod cycle;
+pub mod decoder;
 pub mod effect;
-pub mod generate;
-pub mod golden;
 pub mod group;
 pub mod hex;
-pub mod interface;
+pub mod hunting;
 pub mod limits;
 pub mod listing;
 pub mod model;
 pub mod plan;
-pub mod printed;
 pub mod program;
-pub mod quiet;
-pub mod random;
 pub mod recogniser;
 pub mod record;
 pub mod slow;
@@ -36,7 +29,7 @@ pub mod window;
 
 pub use hex::hex_line;
 pub use plan::Plan;
-pub use program::{model, reading, station};
+pub use program::{model, reading, station, Program};
 pub use recogniser::Recogniser;
 pub use record::Record;
 pub use sound::sound;

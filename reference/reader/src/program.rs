@@ -1,71 +1,97 @@
 //! The programs: hexadecimal lines in, a listing out.
 
-use crate::bench::Bench;
+use crate::decoder::Decoder;
 use crate::hex::HexLine;
 use crate::listing::{push_frame, push_record, push_refused};
 use crate::model::push_model;
 use std::io::{self, ErrorKind, Read, Write};
+use std::process::ExitCode;
 
 /// Bytes read, and written, at a time.
 const BLOCK: usize = 65_536;
 
-/// What a program prints besides the record lines and the refused line.
-#[derive(Clone, Copy, PartialEq, Eq)]
-enum Form {
-    /// The frames, as document 01's station program does.
+/// All print the records and the line of a refused line.
+#[derive(Clone, Copy, Debug, PartialEq, Eq)]
+pub enum Program {
+    /// Document 01's station program: the frames too.
     Station,
+    /// No more than that.
     Reading,
-    /// The controller's state at the end of the run.
+    /// The controller's state at the end of the run too.
     Model,
 }
 
 /// Prints every record and every frame.
 pub fn station(input: impl Read, output: impl Write) -> io::Result<()> {
-    run(input, output, Form::Station)
+    Program::Station.run(input, output)
 }
 
 /// Prints the records only.
 pub fn reading(input: impl Read, output: impl Write) -> io::Result<()> {
-    run(input, output, Form::Reading)
+    Program::Reading.run(input, output)
 }
 
 /// Prints the records, then the state of the controller.
 pub fn model(input: impl Read, output: impl Write) -> io::Result<()> {
-    run(input, output, Form::Model)
+    Program::Model.run(input, output)
 }
 
-fn run(mut input: impl Read, mut output: impl Write, form: Form) -> io::Result<()> {
-    let mut session = Session::start(form);
-    let mut block = vec![0; BLOCK];
-    while !session.over {
-        let length = match input.read(&mut block) {
-            Ok(0) => break,
-            Ok(length) => length,
-            Err(error) if error.kind() == ErrorKind::Interrupted => continue,
-            Err(error) => return Err(error),
-        };
-        for &character in &block[..length] {
-            session.take(character);
-            if session.over {
-                break;
-            }
-            if session.out.len() >= BLOCK {
-                session.write(&mut output)?;
+impl Program {
+    pub const ALL: [Program; 3] = [Program::Station, Program::Reading, Program::Model];
+
+    /// The name of its executable.
+    pub fn name(self) -> &'static str {
+        match self {
+            Program::Station => "station",
+            Program::Reading => "reading",
+            Program::Model => "model",
+        }
+    }
+
+    /// The program itself, from standard input to standard output.
+    pub fn main(self) -> ExitCode {
+        match self.run(io::stdin().lock(), io::stdout().lock()) {
+            Ok(()) => ExitCode::SUCCESS,
+            Err(error) => {
+                eprintln!("{}: {error}", self.name());
+                ExitCode::FAILURE
             }
         }
-        // Before the next read, which may wait on a live pipe.
-        session.write(&mut output)?;
-        output.flush()?;
     }
-    session.finish();
-    session.write(&mut output)?;
-    output.flush()
+
+    pub fn run(self, mut input: impl Read, mut output: impl Write) -> io::Result<()> {
+        let mut run = Run::start(self);
+        let mut block = vec![0; BLOCK];
+        while !run.over {
+            let length = match input.read(&mut block) {
+                Ok(0) => break,
+                Ok(length) => length,
+                Err(error) if error.kind() == ErrorKind::Interrupted => continue,
+                Err(error) => return Err(error),
+            };
+            for &character in &block[..length] {
+                run.take(character);
+                if run.over {
+                    break;
+                }
+                if run.out.len() >= BLOCK {
+                    run.write(&mut output)?;
+                }
+            }
+            // Before the next read, which may wait on a live pipe.
+            run.write(&mut output)?;
+            output.flush()?;
+        }
+        run.finish();
+        run.write(&mut output)?;
+        output.flush()
+    }
 }
 
 /// One run of a program, but for its reading and writing.
-struct Session {
-    form: Form,
-    bench: Bench,
+struct Run {
+    program: Program,
+    decoder: Decoder,
     line: HexLine,
     lines_ended: u64,
     /// What is printed and not yet written.
@@ -73,11 +99,11 @@ struct Session {
     over: bool,
 }
 
-impl Session {
-    fn start(form: Form) -> Session {
-        Session {
-            form,
-            bench: Bench::start(),
+impl Run {
+    fn start(program: Program) -> Run {
+        Run {
+            program,
+            decoder: Decoder::start(),
             line: HexLine::default(),
             lines_ended: 0,
             out: Vec::with_capacity(2 * BLOCK),
@@ -95,12 +121,12 @@ impl Session {
 
     fn end_line(&mut self) {
         self.lines_ended += 1;
-        let (form, out) = (self.form, &mut self.out);
+        let (program, out) = (self.program, &mut self.out);
         match self.line.bytes() {
             Ok(bytes) => {
-                let taken = self.bench.feed(bytes, |record, frame| {
+                let taken = self.decoder.feed(bytes, |record, frame| {
                     push_record(out, record);
-                    if form == Form::Station {
+                    if program == Program::Station {
                         push_frame(out, frame);
                     }
                 });
@@ -120,8 +146,8 @@ impl Session {
         if !self.over && self.line.started() {
             self.end_line();
         }
-        if self.form == Form::Model {
-            push_model(&mut self.out, &self.bench.state, &self.bench.store);
+        if self.program == Program::Model {
+            push_model(&mut self.out, &self.decoder.state, &self.decoder.store);
         }
     }
 

@@ -1,8 +1,8 @@
 //! The taking call ("A taking call").
 
 use crate::cycle::cycle;
+use crate::hunting::{bit_at, skip_to_match};
 use crate::limits::{input_fits, CLOCK_LIMIT, RECORD_WORDS, STORE_WORDS, TRAY_BYTES};
-use crate::quiet::{bit_at, pass_quiet};
 use crate::recogniser::Recogniser;
 use crate::sound::sound;
 use crate::state::State;
@@ -66,7 +66,7 @@ pub fn take(
         };
         if let Recogniser::Hunting { window } = &mut state.recogniser {
             let from = next_bit;
-            (*window, next_bit) = pass_quiet(*window, input, from, end);
+            (*window, next_bit) = skip_to_match(*window, input, from, end);
             state.next_cycle += next_bit - from;
             if next_bit == end {
                 break;

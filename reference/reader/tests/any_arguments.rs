@@ -1,9 +1,9 @@
 //! Any arguments at all: no panic, refusals change nothing, and a sound
 //! state stays sound. Run without `--release`, overflows show too.
 
-use reference::group::Group;
-use reference::random::Random;
-use reference::{frame_part, open, sound, take, Ending, Plan, Recogniser, State, Warnings};
+use cases::Random;
+use reader::group::Group;
+use reader::{frame_part, open, sound, take, Ending, Plan, Recogniser, State, Warnings};
 
 const EDGES: [u64; 16] = [
     0,

@@ -3,11 +3,11 @@
 
 mod common;
 
+use cases::generate;
+use cases::Random;
+use cases::Stream;
 use common::Reader;
-use reference::compose::Stream;
-use reference::generate;
-use reference::random::Random;
-use reference::{Record, State};
+use reader::{Record, State};
 
 /// Streams of whole commands, with flips, and of random bits.
 fn random_stream(random: &mut Random, kind: u64) -> Stream {

@@ -11,9 +11,9 @@
 
 mod common;
 
+use cases::Random;
 use common::{rec, Reader};
-use reference::random::Random;
-use reference::{take, Record, State};
+use reader::{take, Record, State};
 use std::ops::RangeInclusive;
 
 #[derive(Clone, Copy, Debug, PartialEq, Eq)]

@@ -2,10 +2,10 @@
 
 mod common;
 
+use cases::Stream;
 use common::{rec, stream, Reader};
-use reference::compose::Stream;
-use reference::limits::CLOCK_LIMIT;
-use reference::{open, station, Ending, Plan, Record};
+use reader::limits::CLOCK_LIMIT;
+use reader::{open, station, Ending, Plan, Record};
 
 /// What a record of the table says.
 #[derive(Clone, Copy)]
@@ -112,7 +112,7 @@ fn the_last_cycle_of_the_clock() {
         let (number, state) = open(Plan::DEFAULT, CLOCK_LIMIT - 1);
         assert_eq!(number, None);
         let mut reader = Reader::new(state.clone());
-        let answer = reference::take(
+        let answer = reader::take(
             state.clone(),
             &[0],
             0,

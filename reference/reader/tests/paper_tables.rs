@@ -2,10 +2,10 @@
 
 mod common;
 
+use cases::Stream;
+use cases::RECEIVED;
 use common::{rec, stream, Reader};
-use reference::cases::RECEIVED;
-use reference::compose::Stream;
-use reference::{Recogniser, Record};
+use reader::{Recogniser, Record};
 
 /// Table 1-1: name, Field 1, Field 2, kind of the record.
 const CONTROL_COMMANDS: [(&str, &str, &str, Option<u8>); 6] = [

@@ -1,7 +1,8 @@
 //! The programs' lines: how input arrives, fit and refused lines, output.
 
-use reference::listing::{push_frame, push_record, push_refused};
-use reference::{model, reading, station, Record};
+use cases::Stream;
+use reader::listing::{push_frame, push_record, push_refused};
+use reader::{model, reading, station, Record};
 use std::cell::RefCell;
 use std::io::{self, BufRead, BufReader, ErrorKind, Read, Write};
 use std::process::{Command, Stdio};
@@ -154,7 +155,7 @@ fn lines_split_at_every_place() {
 #[test]
 fn frames_are_lines_of_their_own() {
     // CNT 9: one data bit, eight control bits; then an empty WrReceiver.
-    let stream = reference::compose::Stream::new()
+    let stream = Stream::new()
         .wr_register(5, 9)
         .front_end(4, &[true, false, true, false, true, true, true, true, true])
         .wr_register(5, 0)
@@ -184,7 +185,7 @@ fn frames_are_lines_of_their_own() {
 
 #[test]
 fn the_model() {
-    let stream = reference::compose::Stream::new()
+    let stream = Stream::new()
         .wr_register(0, 0xFFFF)
         .wr_register(2, 0x8001)
         .wr_register(6, 0x00AB)

@@ -2,10 +2,10 @@
 
 mod common;
 
+use cases::Stream;
 use common::{rec, stream, Reader};
-use reference::compose::Stream;
-use reference::limits::CLOCK_LIMIT;
-use reference::{frame_part, open, take, Ending, Plan, Recogniser, Record, Warnings};
+use reader::limits::CLOCK_LIMIT;
+use reader::{frame_part, open, take, Ending, Plan, Recogniser, Record, Warnings};
 
 fn s() -> Stream {
     Stream::new()

@@ -3,10 +3,10 @@
 
 mod common;
 
+use cases::Stream;
 use common::Reader;
-use reference::compose::Stream;
-use reference::limits::CLOCK_LIMIT;
-use reference::{hex_line, open, take, Ending, Plan, State};
+use reader::limits::CLOCK_LIMIT;
+use reader::{hex_line, open, take, Ending, Plan, State};
 
 const DEFAULT: Plan = Plan::DEFAULT;
 

@@ -3,9 +3,9 @@
 mod common;
 
 use common::Reader;
-use reference::group::Group;
-use reference::limits::CLOCK_LIMIT;
-use reference::{sound, Plan, Recogniser, State};
+use reader::group::Group;
+use reader::limits::CLOCK_LIMIT;
+use reader::{sound, Plan, Recogniser, State};
 
 fn state() -> State {
     Reader::running().state

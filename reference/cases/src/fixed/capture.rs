@@ -1,9 +1,7 @@
 //! A short run at the bench, with every kind of record and every flag: the
 //! example for the person who uses the reader.
 
-use super::Case;
-use crate::compose::Stream;
-use crate::slow;
+use crate::{code, Case, Stream};
 
 /// Cycles of a full line.
 const LINE: usize = 256;
@@ -60,13 +58,13 @@ fn frames(stream: Stream) -> Stream {
     let stream = stream
         .wr_register(5, 16 << 3 | 1)
         .zeros(8)
-        .front_end(slow::WR_FRONT_END, &frame)
+        .front_end(code::WR_FRONT_END, &frame)
         .zeros(30);
     // Eight data bits, one of them with a wrong cycle.
     let mut stream = stream
         .wr_register(5, 8 << 3)
         .zeros(8)
-        .front_end(slow::RD_FRONT_END, &frame[..8]);
+        .front_end(code::RD_FRONT_END, &frame[..8]);
     let wrong = stream.bits.len() - 20;
     stream.bits[wrong] ^= true;
     stream

@@ -1,7 +1,7 @@
 //! Every command in and out of RunMode.
 
-use super::{in_run_mode, run_mode_name, Case};
-use crate::compose::Stream;
+use super::{in_run_mode, run_mode_name};
+use crate::{Case, Stream};
 
 const LV1: [&str; 6] = ["11101", "11100", "11111", "11001", "10101", "01101"];
 

@@ -1,7 +1,7 @@
 //! What commands leave in registers, FIFOs, counters and warnings.
 
-use super::{in_run_mode, Case};
-use crate::compose::Stream;
+use super::in_run_mode;
+use crate::{Case, Stream};
 
 pub fn cases() -> Vec<Case> {
     let long = [

@@ -1,10 +1,6 @@
 //! Frames of every kind and of lengths about the edges.
 
-use super::Case;
-use crate::compose::Stream;
-use crate::generate;
-use crate::random::Random;
-use crate::slow;
+use crate::{code, generate, Case, Random, Stream};
 
 /// Longest frame, in bits, whose files are kept.
 const GOLDEN_BITS: u32 = 64;
@@ -34,9 +30,9 @@ const RECEIVER: [(&str, u16); 5] = [
 pub fn cases() -> Vec<Case> {
     let mut random = Random::new(4);
     let mut cases = Vec::new();
-    for (kind, field3) in [("wr", slow::WR_FRONT_END), ("rd", slow::RD_FRONT_END)] {
+    for (kind, field3) in [("wr", code::WR_FRONT_END), ("rd", code::RD_FRONT_END)] {
         for (name, cnt) in FRONT_END {
-            let length = slow::data_bits(cnt) + slow::control_bits(cnt);
+            let length = code::front_end_bits(cnt);
             let frame = generate::bits(&mut random, length);
             let stream = with_cnt(cnt).front_end(field3, &frame).lv1();
             let case = Case::stream(format!("frames/{kind}-{name}"), &stream);
@@ -45,7 +41,7 @@ pub fn cases() -> Vec<Case> {
         cases.extend((0..16).map(|wrong| unsteady(kind, field3, wrong)));
     }
     for (name, cnt) in RECEIVER {
-        let length = slow::receiver_bits(cnt);
+        let length = code::receiver_bits(cnt);
         let frame = generate::bits(&mut random, length);
         let stream = with_cnt(cnt).wr_receiver(&frame).lv1();
         let case = Case::stream(format!("frames/receiver-{name}"), &stream);
@@ -76,8 +72,8 @@ fn long_then_short() -> Stream {
     with_cnt(4)
         .wr_receiver(&[true; 32])
         .wr_register(5, 3 << 3)
-        .front_end(slow::WR_FRONT_END, &[false, true, false])
+        .front_end(code::WR_FRONT_END, &[false, true, false])
         .wr_register(5, 1)
         .wr_receiver(&[false; 8])
-        .front_end(slow::RD_FRONT_END, &[true; 8])
+        .front_end(code::RD_FRONT_END, &[true; 8])
 }

@@ -1,6 +1,6 @@
 //! Fit and refused lines.
 
-use super::Case;
+use crate::Case;
 
 /// Name and input.
 const FIT: [(&str, &[u8]); 5] = [

@@ -1,7 +1,8 @@
 //! The listing and the marked streams of document 01, and the received
 //! patterns of the chip paper's Tables 1-4 to 1-9.
 
-use super::{in_run_mode, run_mode_name, Case};
+use super::{in_run_mode, run_mode_name};
+use crate::Case;
 
 /// "Streams with their records"; the last one asks for CNT 0, which holds.
 const MARKED: [&str; 14] = [

@@ -1,16 +1,16 @@
-//! Compares programs with this reader, byte for byte:
+//! Compares programs with the separate reader, byte for byte:
 //! `compare FOLDER`, where FOLDER holds `station`, `reading` and `model`.
 //!
 //! Its last line is `N passed, M failed`; it fails if any check did.
 
 #![forbid(unsafe_code)]
 
-use reference::compare::compare;
+use compare::programs::compare;
 use std::path::Path;
 use std::process::ExitCode;
 
-/// The kept files, which lie beside the separate reader's folder.
-const GOLDEN: &str = concat!(env!("CARGO_MANIFEST_DIR"), "/../tests/golden");
+/// The golden files of the repository.
+const GOLDEN: &str = concat!(env!("CARGO_MANIFEST_DIR"), "/../../tests/golden");
 
 fn main() -> ExitCode {
     let arguments: Vec<String> = std::env::args().skip(1).collect();

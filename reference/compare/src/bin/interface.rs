@@ -1,12 +1,12 @@
-//! Compares a library with this reader through its C interface:
+//! Compares a library with the separate reader through its C interface:
 //! `interface DRIVER [DRIVER...]`, each a build of the driver with it.
 //!
 //! Its last line is `N passed, M failed`; it fails if any check did.
 
 #![forbid(unsafe_code)]
 
-use reference::compare::tally::Tally;
-use reference::interface::compare;
+use compare::interface::compare;
+use compare::tally::Tally;
 use std::path::Path;
 use std::process::ExitCode;
 

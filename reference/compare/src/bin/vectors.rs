@@ -1,13 +1,13 @@
 //! Writes each case's input and what the three programs print for it:
 //! `vectors FOLDER [--golden | --generated N]`.
 //!
-//! With `--golden` only the cases whose files are kept, and files of cases
+//! With `--golden` only the cases that have golden files, and files of cases
 //! that are no more are removed.
 
 #![forbid(unsafe_code)]
 
-use reference::cases::{generated, golden, kept, Case};
-use reference::golden::{strays, write};
+use cases::{fixed, generated, golden, Case};
+use compare::golden::{strays, write};
 use std::fs;
 use std::io;
 use std::path::Path;
@@ -17,10 +17,10 @@ fn main() -> ExitCode {
     let arguments: Vec<String> = std::env::args().skip(1).collect();
     let arguments: Vec<&str> = arguments.iter().map(String::as_str).collect();
     let written = match arguments[..] {
-        [folder] if !folder.starts_with("--") => write_all(Path::new(folder), kept()),
+        [folder] if !folder.starts_with("--") => write_all(Path::new(folder), fixed()),
         [folder, "--golden"] => write_golden(Path::new(folder)),
         [folder, "--generated", count] => match count.parse() {
-            Ok(count) => write_all(Path::new(folder), [kept(), generated(count)].concat()),
+            Ok(count) => write_all(Path::new(folder), [fixed(), generated(count)].concat()),
             Err(_) => return usage(),
         },
         _ => return usage(),

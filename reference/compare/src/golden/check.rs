@@ -1,23 +1,23 @@
-//! The kept files against what this reader gives now.
+//! The golden files against what the separate reader prints now.
 
-use super::difference::difference;
-use super::fault::Fault;
-use super::tally::Check;
-use crate::cases::Case;
-use crate::golden::{files, strays};
+use super::{files, strays};
+use crate::programs::difference::difference;
+use crate::programs::fault::Fault;
+use crate::tally::Check;
+use cases::Case;
 use std::fs;
 use std::path::Path;
 
 /// A check for each file of each case, and a fault for each other file.
 pub fn check(folder: &Path, cases: &[Case]) -> Vec<Check> {
     let check = |path: &Path, fault| Check {
-        name: format!("kept file {}", path.display()),
+        name: format!("golden file {}", path.display()),
         fault,
     };
     let mut checks = Vec::new();
-    for (path, wanted) in cases.iter().flat_map(files) {
+    for (path, expected) in cases.iter().flat_map(files) {
         let fault = match fs::read(folder.join(&path)) {
-            Ok(kept) => difference(&wanted, &kept).map(Fault::Differs),
+            Ok(kept) => difference(&expected, &kept).map(Fault::Differs),
             Err(error) => Some(Fault::Unreadable(error.to_string())),
         };
         checks.push(check(&path, fault));

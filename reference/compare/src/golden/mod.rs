@@ -1,7 +1,10 @@
-//! The kept files of cases: each input with what the three programs print.
+//! The golden files of cases: each input with what the three programs print.
 
-use crate::cases::Case;
-use crate::printed::Program;
+pub mod check;
+
+use crate::printed::printed;
+use cases::Case;
+use reader::Program;
 use std::collections::BTreeSet;
 use std::fs;
 use std::io;
@@ -14,7 +17,7 @@ const INPUT: &str = "in";
 pub fn files(case: &Case) -> Vec<(PathBuf, Vec<u8>)> {
     let path = |end: &str| PathBuf::from(format!("{}.{end}", case.name));
     let mut files = vec![(path(INPUT), case.input.clone())];
-    files.extend(Program::ALL.map(|program| (path(program.name()), program.prints(&case.input))));
+    files.extend(Program::ALL.map(|program| (path(program.name()), printed(program, &case.input))));
     files
 }
 

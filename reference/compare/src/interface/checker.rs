@@ -2,8 +2,8 @@
 
 use super::call::{Call, Empty, Take};
 use super::difference::{difference, reply_bytes};
-use super::wanted::{wanted, Wanted};
-use crate::compare::tally::Tally;
+use super::expected::{expected, Expected};
+use crate::tally::Tally;
 use std::io::{self, BufReader, ErrorKind, Read, Write};
 use std::path::Path;
 use std::process::{ChildStdin, Command, Stdio};
@@ -11,77 +11,76 @@ use std::sync::mpsc::{sync_channel, Receiver, SyncSender};
 use std::sync::Arc;
 use std::thread;
 
-/// Calls whose replies may be waited for at once.
-const UNDER_WAY: usize = 256;
+/// Checks that may wait for their replies at once.
+const MOST_PENDING: usize = 256;
 
 const BLOCK: usize = 1 << 20;
 
 /// Asks a driver for calls. Another thread compares the replies.
 pub struct Checker {
     input: ChildStdin,
-    asked: SyncSender<Asked>,
+    pending: SyncSender<Check>,
 }
 
-enum Asked {
+/// A check that is still to be counted.
+enum Check {
+    /// Waits for the driver's reply.
     Call {
         name: String,
-        wanted: Arc<Wanted>,
+        expected: Arc<Expected>,
     },
     /// Decided without the driver.
-    Claim {
-        name: String,
-        fault: Option<String>,
-    },
+    Decided { name: String, fault: Option<String> },
 }
 
 impl Checker {
     /// Makes a call, and one more with NULL where a slice of length 0 is
-    /// lent. Answers what is wanted of it. An error only ends the run: what
+    /// lent. Answers what is expected of it. An error only ends the run: what
     /// broke is found where the reply is read.
-    pub fn check(&mut self, name: String, call: &Call) -> io::Result<Arc<Wanted>> {
-        let wanted = Arc::new(wanted(call));
+    pub fn check(&mut self, name: String, call: &Call) -> io::Result<Arc<Expected>> {
+        let expected = Arc::new(expected(call));
         if call.lends_empty() {
             let name = format!("{name}, with NULL");
-            self.ask(name, call.request(Empty::Null), &wanted)?;
+            self.ask(name, call.request(Empty::Null), &expected)?;
         }
-        self.ask(name, call.request(Empty::Block), &wanted)?;
-        Ok(wanted)
+        self.ask(name, call.request(Empty::Block), &expected)?;
+        Ok(expected)
     }
 
-    /// A taking call: what is wanted of it, and the call afterwards.
+    /// A taking call: what is expected of it, and the call afterwards.
     pub fn take(&mut self, name: String, take: Take) -> io::Result<(u64, Take)> {
-        let wanted = self.check(name, &Call::Take(take))?;
-        match &wanted.after {
-            Call::Take(after) => Ok((wanted.answer, after.clone())),
+        let expected = self.check(name, &Call::Take(take))?;
+        match &expected.after {
+            Call::Take(after) => Ok((expected.answer, after.clone())),
             _ => unreachable!("a call stays what it is"),
         }
     }
 
     /// A call that the case says to be answered with this number; that the
     /// separate reader does so too is a check of its own.
-    pub fn numbered(&mut self, name: String, number: u64, call: &Call) -> io::Result<()> {
-        let wanted = self.check(name.clone(), call)?;
-        let answer = wanted.answer;
+    pub fn check_number(&mut self, name: String, number: u64, call: &Call) -> io::Result<()> {
+        let expected = self.check(name.clone(), call)?;
+        let answer = expected.answer;
         let fault = (answer != number)
             .then(|| format!("meant for number {number}, the separate reader answers {answer}"));
-        self.claim(format!("{name}, its number"), fault)
+        self.report(format!("{name}, its number"), fault)
     }
 
     /// Counts what was decided without the driver.
-    pub fn claim(&mut self, name: String, fault: Option<String>) -> io::Result<()> {
-        self.send(Asked::Claim { name, fault })
+    pub fn report(&mut self, name: String, fault: Option<String>) -> io::Result<()> {
+        self.send(Check::Decided { name, fault })
     }
 
     /// Writes first, so that no reply is waited for that was not asked for.
-    fn ask(&mut self, name: String, request: Vec<u8>, wanted: &Arc<Wanted>) -> io::Result<()> {
+    fn ask(&mut self, name: String, request: Vec<u8>, expected: &Arc<Expected>) -> io::Result<()> {
         let written = self.input.write_all(&request);
-        let wanted = Arc::clone(wanted);
-        self.send(Asked::Call { name, wanted })?;
+        let expected = Arc::clone(expected);
+        self.send(Check::Call { name, expected })?;
         written
     }
 
-    fn send(&mut self, asked: Asked) -> io::Result<()> {
-        self.asked.send(asked).map_err(io::Error::other)
+    fn send(&mut self, check: Check) -> io::Result<()> {
+        self.pending.send(check).map_err(io::Error::other)
     }
 }
 
@@ -97,19 +96,19 @@ pub fn run(
         .spawn()?;
     let input = child.stdin.take().expect("the input is a pipe");
     let output = child.stdout.take().expect("the output is a pipe");
-    let (asked, to_judge) = sync_channel(UNDER_WAY);
+    let (pending, checks) = sync_channel(MOST_PENDING);
     let program = driver.display().to_string();
     let program = &program[..];
     let judged = &mut *tally;
     let ended = thread::scope(|scope| {
         scope.spawn(move || {
             let output = BufReader::with_capacity(BLOCK, output);
-            judge(output, to_judge, |name, fault| {
+            judge(output, checks, |name, fault| {
                 judged.count(format_args!("{program}, {name}"), fault);
             });
         });
         // Dropped when the cases are through, which ends driver and judge.
-        let mut checker = Checker { input, asked };
+        let mut checker = Checker { input, pending };
         cases(&mut checker)
     });
     let status = child.wait()?;
@@ -122,22 +121,22 @@ pub fn run(
     Ok(())
 }
 
-/// Compares each reply with what is wanted, until one does not come.
+/// Compares each reply with what is expected, until one does not come.
 fn judge(
     mut output: impl Read,
-    asked: Receiver<Asked>,
+    checks: Receiver<Check>,
     mut count: impl FnMut(String, Option<String>),
 ) {
     let mut reply = Vec::new();
-    for asked in asked {
-        let (name, wanted) = match asked {
-            Asked::Claim { name, fault } => {
+    for check in checks {
+        let (name, expected) = match check {
+            Check::Decided { name, fault } => {
                 count(name, fault);
                 continue;
             }
-            Asked::Call { name, wanted } => (name, wanted),
+            Check::Call { name, expected } => (name, expected),
         };
-        reply.resize(reply_bytes(&wanted), 0);
+        reply.resize(reply_bytes(&expected), 0);
         if let Err(error) = output.read_exact(&mut reply) {
             let fault = match error.kind() {
                 ErrorKind::UnexpectedEof => "the driver ended within this call".to_string(),
@@ -146,7 +145,7 @@ fn judge(
             count(name, Some(fault));
             return;
         }
-        count(name, difference(&wanted, &reply));
+        count(name, difference(&expected, &reply));
     }
     let rest = output.read(&mut [0]);
     let fault = (!matches!(rest, Ok(0))).then_some("more was written than asked for");

@@ -2,19 +2,18 @@
 
 use super::call::{Call, Take};
 use super::checker::Checker;
-use super::dirty;
-use super::image::{first_is_free, image, state, Image};
+use super::image::{first_is_unspecified, image, state, Image};
 use super::layout::{at, CLOCK_OVER, DONE, LIST_FULL, OK, RECORD_LINE_BYTES, RESULT_WORDS};
-use crate::compose::Stream;
-use crate::generate::bits;
-use crate::limits::{CLOCK_LIMIT, RECORD_WORDS};
-use crate::random::Random;
-use crate::record::Record;
+use super::prefilled;
+use cases::generate::bits;
+use cases::{Random, Stream};
+use reader::limits::{CLOCK_LIMIT, RECORD_WORDS};
+use reader::Record;
 use std::io;
 
 /// What goes from each call to the next.
 #[derive(Clone, Debug)]
-pub struct Session {
+pub struct Carried {
     pub image: Vec<u64>,
     pub store: Vec<u32>,
     pub tray: Vec<u8>,
@@ -22,7 +21,7 @@ pub struct Session {
 
 /// What came of a stream, whatever its cuts.
 #[derive(Debug, PartialEq, Eq)]
-pub struct Ran {
+pub struct Outcome {
     records: Vec<[u64; 2]>,
     /// With 0 for the words that mean nothing.
     image: Option<Image>,
@@ -35,14 +34,14 @@ pub fn run(
     checker: &mut Checker,
     name: &str,
     bits: &[bool],
-    session: Session,
+    carried: Carried,
     random: &mut Random,
-) -> io::Result<Ran> {
+) -> io::Result<Outcome> {
     let mut runner = Runner {
         checker,
         name,
         calls: 0,
-        session,
+        carried,
         records: Vec::new(),
     };
     let mut place = 0;
@@ -52,11 +51,11 @@ pub fn run(
         runner.piece(piece, random)?;
         place += length;
     }
-    Ok(Ran {
+    Ok(Outcome {
         records: runner.records,
-        image: state(&runner.session.image).map(|state| image(&state)),
-        store: runner.session.store,
-        tray: runner.session.tray,
+        image: state(&runner.carried.image).map(|state| image(&state)),
+        store: runner.carried.store,
+        tray: runner.carried.tray,
     })
 }
 
@@ -112,7 +111,7 @@ impl List {
         let free = random.below(6) as usize;
         let room = random.below(8) as usize;
         List {
-            words: dirty::words(random, free + room),
+            words: prefilled::words(random, free + room),
             free,
         }
     }
@@ -122,7 +121,7 @@ struct Runner<'a> {
     checker: &'a mut Checker,
     name: &'a str,
     calls: usize,
-    session: Session,
+    carried: Carried,
     records: Vec<[u64; 2]>,
 }
 
@@ -136,12 +135,12 @@ impl Runner<'_> {
                 OK => {}
                 CLOCK_OVER => {
                     // The rest has no cycles; go on with what has.
-                    piece.left = CLOCK_LIMIT - self.session.image[at::NEXT];
+                    piece.left = CLOCK_LIMIT - self.carried.image[at::NEXT];
                     continue;
                 }
                 _ => {
                     let fault = format!("the separate reader turns it away with {answer}");
-                    return self.checker.claim(self.call_name(), Some(fault));
+                    return self.checker.report(self.call_name(), Some(fault));
                 }
             }
             let [taken, written, ending] = after.result[..] else {
@@ -149,7 +148,7 @@ impl Runner<'_> {
             };
             piece.first += taken;
             piece.left -= taken;
-            self.look_at(&after, list.free, written as usize, random)?;
+            self.check_records(&after, list.free, written as usize, random)?;
             if ending == DONE {
                 return Ok(());
             }
@@ -167,8 +166,8 @@ impl Runner<'_> {
 
     fn take(&mut self, piece: &Piece, list: &List, random: &mut Random) -> io::Result<(u64, Take)> {
         self.calls += 1;
-        let mut image = self.session.image.clone();
-        if first_is_free(&image) {
+        let mut image = self.carried.image.clone();
+        if first_is_unspecified(&image) {
             image[at::FIRST] = random.below(2);
         }
         let take = Take {
@@ -176,23 +175,23 @@ impl Runner<'_> {
             input: piece.input.clone(),
             first: piece.first,
             count: piece.left,
-            store: self.session.store.clone(),
-            tray: self.session.tray.clone(),
+            store: self.carried.store.clone(),
+            tray: self.carried.tray.clone(),
             list: list.words.clone(),
             free: list.free as u64,
-            result: dirty::words(random, RESULT_WORDS),
+            result: prefilled::words(random, RESULT_WORDS),
         };
         let (answer, after) = self.checker.take(self.call_name(), take)?;
         if answer == OK {
-            self.session.image.clone_from(&after.image);
-            self.session.store.clone_from(&after.store);
-            self.session.tray.clone_from(&after.tray);
+            self.carried.image.clone_from(&after.image);
+            self.carried.store.clone_from(&after.store);
+            self.carried.tray.clone_from(&after.tray);
         }
         Ok((answer, after))
     }
 
     /// The lines of a call's records, and its frame, if it ended with one.
-    fn look_at(
+    fn check_records(
         &mut self,
         after: &Take,
         free: usize,
@@ -219,7 +218,7 @@ impl Runner<'_> {
         }
         for length in lengths {
             let name = format!("{}, line of {length} bytes", self.call_name());
-            let line = dirty::bytes(random, length);
+            let line = prefilled::bytes(random, length);
             let call = Call::RecordLine { line, head, value };
             self.checker.check(name, &call)?;
         }

@@ -1,8 +1,8 @@
-//! Where what came of a call parts from what is wanted.
+//! Where what came of a call differs from what is expected.
 
 use super::call::Call;
+use super::expected::Expected;
 use super::layout::{largest, name};
-use super::wanted::Wanted;
 
 /// A buffer that the driver sends back, as bytes.
 struct Buffer {
@@ -58,54 +58,61 @@ const IMAGE: &str = "image";
 const WORD: usize = 8;
 
 /// How many bytes the driver sends for a call.
-pub fn reply_bytes(wanted: &Wanted) -> usize {
-    let buffers = buffers(&wanted.after);
+pub fn reply_bytes(expected: &Expected) -> usize {
+    let buffers = buffers(&expected.after);
     WORD + buffers.iter().map(|b| b.bytes.len()).sum::<usize>()
 }
 
-/// The first difference in plain words; `None` if all is as wanted.
-pub fn difference(wanted: &Wanted, reply: &[u8]) -> Option<String> {
+/// The first difference in plain words; `None` if all is as expected.
+pub fn difference(expected: &Expected, reply: &[u8]) -> Option<String> {
     let (answer, mut rest) = reply.split_at(WORD);
     let answer = number(answer);
-    if answer != wanted.answer {
-        let wanted = wanted.answer;
-        return Some(format!("the answer differs: wanted {wanted}, got {answer}"));
+    if answer != expected.answer {
+        let expected = expected.answer;
+        return Some(format!(
+            "the answer differs: expected {expected}, got {answer}"
+        ));
     }
-    for buffer in buffers(&wanted.after) {
+    for buffer in buffers(&expected.after) {
         let (got, after) = rest.split_at(buffer.bytes.len());
         rest = after;
         if got == buffer.bytes {
             continue;
         }
-        let free: &[usize] = match buffer.name {
-            IMAGE => &wanted.free,
+        let unspecified: &[usize] = match buffer.name {
+            IMAGE => &expected.unspecified,
             _ => &[],
         };
-        if let Some(difference) = in_buffer(&buffer, got, free) {
+        if let Some(difference) = in_buffer(&buffer, got, unspecified) {
             return Some(difference);
         }
     }
     None
 }
 
-/// The first element that differs. A free one may be any word of its width.
-fn in_buffer(wanted: &Buffer, got: &[u8], free: &[usize]) -> Option<String> {
-    let size = wanted.element_bytes;
-    let elements = wanted.bytes.chunks(size).zip(got.chunks(size)).enumerate();
-    for (place, (wanted_element, got)) in elements {
-        let (wanted_element, got) = (number(wanted_element), number(got));
-        if wanted_element == got || (free.contains(&place) && got <= largest(place)) {
+/// The first element that differs. An unspecified one may be any word of its
+/// width.
+fn in_buffer(expected: &Buffer, got: &[u8], unspecified: &[usize]) -> Option<String> {
+    let size = expected.element_bytes;
+    let elements = expected
+        .bytes
+        .chunks(size)
+        .zip(got.chunks(size))
+        .enumerate();
+    for (place, (expected_element, got)) in elements {
+        let (expected_element, got) = (number(expected_element), number(got));
+        if expected_element == got || (unspecified.contains(&place) && got <= largest(place)) {
             continue;
         }
-        let what = match wanted.name {
-            IMAGE if wanted.bytes.len() == super::layout::IMAGE_WORDS * WORD => {
+        let what = match expected.name {
+            IMAGE if expected.bytes.len() == super::layout::IMAGE_WORDS * WORD => {
                 format!("word {place} ({})", name(place))
             }
             _ => format!("element {place}"),
         };
-        let buffer = wanted.name;
+        let buffer = expected.name;
         return Some(format!(
-            "{buffer} {what} differs: wanted {wanted_element:#X}, got {got:#X}"
+            "{buffer} {what} differs: expected {expected_element:#X}, got {got:#X}"
         ));
     }
     None

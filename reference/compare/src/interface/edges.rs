@@ -1,13 +1,13 @@
 //! Each limit of a taking call just inside and just outside.
 
-use super::base;
 use super::call::{Call, Take};
 use super::checker::Checker;
-use super::dirty;
+use super::fit;
 use super::image::image;
 use super::layout::{at, CLOCK_OVER, INPUT_BYTES, OK, RESULT_WORDS, WRONG_BUFFERS, WRONG_RANGE};
-use crate::limits::{CLOCK_LIMIT, STORE_WORDS, TRAY_BYTES};
-use crate::random::Random;
+use super::prefilled;
+use cases::Random;
+use reader::limits::{CLOCK_LIMIT, STORE_WORDS, TRAY_BYTES};
 use std::io;
 
 /// A call, what is special about it and the number that it is answered with.
@@ -15,8 +15,8 @@ type Edge = (String, u64, Take);
 
 pub fn check(checker: &mut Checker) -> io::Result<()> {
     let mut random = Random::new(0xED6E);
-    for (phase, state) in base::states() {
-        let fit = base::call(&image(&state), &mut random);
+    for (phase, state) in fit::states() {
+        let fit = fit::call(&image(&state), &mut random);
         let mut edges = buffers(&fit);
         edges.extend(lists(&fit, &mut random));
         edges.extend(inputs(&fit, &mut random));
@@ -24,7 +24,7 @@ pub fn check(checker: &mut Checker) -> io::Result<()> {
         edges.extend(clocks(&fit));
         for (name, number, take) in edges {
             let name = format!("edge, {phase}, {name}");
-            checker.numbered(name, number, &Call::Take(take))?;
+            checker.check_number(name, number, &Call::Take(take))?;
         }
     }
     Ok(())
@@ -72,7 +72,7 @@ fn lists(fit: &Take, random: &mut Random) -> Vec<Edge> {
         let end = length as u64;
         let past = [end + 1, end + 2, 1 << 32, 1 << 61, u64::MAX];
         for free in (0..=end).chain(past) {
-            let words = dirty::words(random, length);
+            let words = prefilled::words(random, length);
             let take = changed(fit, |take| (take.list, take.free) = (words, free));
             let number = if free <= end { OK } else { WRONG_BUFFERS };
             let name = format!("free word {free} of a list of {length}");
@@ -103,7 +103,7 @@ fn inputs(fit: &Take, random: &mut Random) -> Vec<Edge> {
             edges.push((name, number, take));
         };
         for (first, count) in ends {
-            add(&dirty::bytes(random, length), first, count);
+            add(&prefilled::bytes(random, length), first, count);
         }
         add(&zeros, 0, bits);
         add(&zeros, 7, bits - 7);

@@ -1,31 +1,25 @@
-//! What a call must come to, by the separate reader.
+//! What is expected of a call, by the separate reader.
 
 use super::call::{Call, Open, Take};
-use super::image::{free_places, image, state};
+use super::image::{image, state, unspecified_places};
 use super::layout::{
     DONE, FRAME, IMAGE_WORDS, LINE_BYTES, LIST_FULL, OK, RECORD_LINE_BYTES, RESULT_WORDS, UNSOUND,
     WRONG_BUFFERS, WRONG_PLAN,
 };
-use crate::hex::hex_line;
-use crate::listing::push_record;
-use crate::plan::Plan;
-use crate::record::Record;
-use crate::sound::sound;
-use crate::state::{open, State};
-use crate::take::{take, Ending};
-use crate::tray::frame_part;
+use reader::listing::push_record;
+use reader::{frame_part, hex_line, open, sound, take, Ending, Plan, Record, State};
 
 #[derive(Clone, Debug)]
-pub struct Wanted {
+pub struct Expected {
     /// What the function answers.
     pub answer: u64,
     /// The call with its buffers as they are afterwards.
     pub after: Call,
     /// Places of the image whose words are without a meaning.
-    pub free: Vec<usize>,
+    pub unspecified: Vec<usize>,
 }
 
-pub fn wanted(call: &Call) -> Wanted {
+pub fn expected(call: &Call) -> Expected {
     let mut after = call.clone();
     let answer = match &mut after {
         Call::Open(after) => opening(after),
@@ -38,10 +32,10 @@ pub fn wanted(call: &Call) -> Wanted {
         Call::HexLine { line, bytes } => reading(line, bytes),
         Call::RecordLine { line, head, value } => writing(line, [*head, *value]),
     };
-    Wanted {
+    Expected {
         answer,
         after,
-        free: Vec::new(),
+        unspecified: Vec::new(),
     }
 }
 
@@ -69,21 +63,21 @@ fn plan(call: &Open) -> Option<Plan> {
     })
 }
 
-fn taking(call: &Take) -> Wanted {
+fn taking(call: &Take) -> Expected {
     let mut after = call.clone();
     match take_into(&mut after) {
-        Ok(taken) => Wanted {
+        Ok(taken) => Expected {
             answer: OK,
-            free: match taken {
+            unspecified: match taken {
                 0 => Vec::new(),
-                _ => free_places(&call.image, &after.image),
+                _ => unspecified_places(&call.image, &after.image),
             },
             after: Call::Take(after),
         },
         // What was lent, not what the reader left: nothing changes.
-        Err(number) => Wanted {
+        Err(number) => Expected {
             answer: number,
-            free: Vec::new(),
+            unspecified: Vec::new(),
             after: Call::Take(call.clone()),
         },
     }

@@ -1,16 +1,13 @@
-//! Fit taking calls, of which the cases change one thing or two.
+//! Fit states and taking calls, of which the cases change one thing or two.
 
 use super::call::Take;
-use super::dirty;
 use super::image::{image, Image};
 use super::layout::RESULT_WORDS;
+use super::prefilled;
 use super::states::WITH_FIELD5;
-use crate::group::Group;
-use crate::plan::Plan;
-use crate::random::Random;
-use crate::recogniser::Recogniser;
-use crate::slow;
-use crate::state::State;
+use cases::Random;
+use reader::group::Group;
+use reader::{slow, Plan, Recogniser, State};
 
 /// What CSR, FEEN and CNT hold: the same, so that a plan can name another of
 /// them as CNT without changing a length.
@@ -82,13 +79,13 @@ pub fn hunting() -> Image {
 pub fn call(image: &[u64], random: &mut Random) -> Take {
     Take {
         image: image.to_vec(),
-        input: dirty::bytes(random, 40),
+        input: prefilled::bytes(random, 40),
         first: 5,
         count: 200,
-        store: dirty::store(random),
-        tray: dirty::tray(random),
-        list: dirty::words(random, 10),
+        store: prefilled::store(random),
+        tray: prefilled::tray(random),
+        list: prefilled::words(random, 10),
         free: 3,
-        result: dirty::words(random, RESULT_WORDS),
+        result: prefilled::words(random, RESULT_WORDS),
     }
 }

@@ -2,10 +2,10 @@
 
 use super::call::Call;
 use super::checker::Checker;
-use super::dirty;
-use crate::limits::TRAY_BYTES;
-use crate::random::Random;
-use crate::slow;
+use super::prefilled;
+use cases::Random;
+use reader::limits::TRAY_BYTES;
+use reader::slow;
 use std::io;
 
 /// WrFrontEnd, RdFrontEnd and WrReceiver.
@@ -48,7 +48,7 @@ fn other_kinds(checker: &mut Checker, random: &mut Random) -> io::Result<()> {
         for value in [0, 1, 0x0008_0010, u64::from(any as u32), any, u64::MAX] {
             let head = random.word() & !0xFF00 | kind << 8;
             let name = format!("bits of no frame {head:#X} {value:#X}");
-            checker.numbered(name, 0, &Call::FrameBits { head, value })?;
+            checker.check_number(name, 0, &Call::FrameBits { head, value })?;
         }
     }
     Ok(())
@@ -57,7 +57,7 @@ fn other_kinds(checker: &mut Checker, random: &mut Random) -> io::Result<()> {
 /// Trays of any length, with counts about their end and near all numbers.
 fn parts(checker: &mut Checker, random: &mut Random) -> io::Result<()> {
     for length in [0, 1, 2, 3, 100, TRAY_BYTES - 1, TRAY_BYTES, TRAY_BYTES + 1] {
-        let tray = dirty::bytes(random, length);
+        let tray = prefilled::bytes(random, length);
         let end = length as u64 * 8;
         let about = (0..20).map(|step| (end + step).saturating_sub(10));
         let far = [

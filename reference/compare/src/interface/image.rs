@@ -1,11 +1,8 @@
 //! The image of a state and the state of an image, by the C header's words.
 
 use super::layout::{at, largest, phase, IMAGE_WORDS, LAYOUT, RECOGNISER};
-use crate::group::Group;
-use crate::plan::Plan;
-use crate::recogniser::Recogniser;
-use crate::slow;
-use crate::state::{State, Warnings};
+use reader::group::Group;
+use reader::{slow, Plan, Recogniser, State, Warnings};
 
 pub type Image = [u64; IMAGE_WORDS];
 
@@ -153,21 +150,21 @@ fn read_recogniser(words: &Image) -> Recogniser {
 /// The places at which an image may hold any word of its width: those that
 /// its phase does not use, if the image that was lent held something where
 /// its own phase does not; else only `at::FIRST` inside a WrReceiver.
-pub fn free_places(lent: &[u64], after: &[u64]) -> Vec<usize> {
+pub fn unspecified_places(lent: &[u64], after: &[u64]) -> Vec<usize> {
     let (Ok(lent), Ok(after)) = (<&Image>::try_from(lent), <&Image>::try_from(after)) else {
         return Vec::new();
     };
     let unused = |words| RECOGNISER.filter(move |&place| !uses(words, place));
-    let free = |words: &Image, place| place == at::FIRST && first_is_free(words);
-    let clean = unused(lent).all(|place| lent[place] == 0 || free(lent, place));
+    let is_first = |words: &Image, place| place == at::FIRST && first_is_unspecified(words);
+    let clean = unused(lent).all(|place| lent[place] == 0 || is_first(lent, place));
     unused(after)
-        .filter(|&place| !clean || free(after, place))
+        .filter(|&place| !clean || is_first(after, place))
         .collect()
 }
 
 /// Whether the word at `at::FIRST` changes without a meaning: inside a
 /// WrReceiver.
-pub fn first_is_free(words: &[u64]) -> bool {
+pub fn first_is_unspecified(words: &[u64]) -> bool {
     words.len() == IMAGE_WORDS
         && words[at::PHASE] == phase::FIELD5
         && words[at::COMMAND] == u64::from(slow::WR_RECEIVER)

@@ -1,6 +1,6 @@
 //! The numbers of the C header: lengths, places in the image and widths.
 
-use crate::limits::{FIFOS, STORE_WORDS, TRAY_BYTES};
+use reader::limits::{FIFOS, STORE_WORDS, TRAY_BYTES};
 
 pub const IMAGE_WORDS: usize = 68;
 pub const RESULT_WORDS: usize = 3;

@@ -2,11 +2,11 @@
 
 use super::call::Call;
 use super::checker::Checker;
-use super::dirty;
 use super::layout::{
     LINE_BYTES, OK, RECORD_LINE_BYTES, WRONG_BUFFERS, WRONG_CHARACTER, WRONG_LENGTH,
 };
-use crate::random::Random;
+use super::prefilled;
+use cases::Random;
 use std::io;
 
 const DIGITS: &[u8; 16] = b"0123456789ABCDEF";
@@ -45,9 +45,9 @@ fn buffers(checker: &mut Checker, what: &str, line: &[u8], random: &mut Random) 
             OK
         };
         let name = format!("line of {} {what} into {length} bytes", line.len());
-        let bytes = dirty::bytes(random, length);
+        let bytes = prefilled::bytes(random, length);
         let line = line.to_vec();
-        checker.numbered(name, number, &Call::HexLine { line, bytes })?;
+        checker.check_number(name, number, &Call::HexLine { line, bytes })?;
     }
     Ok(())
 }
@@ -75,7 +75,7 @@ fn every_character(checker: &mut Checker, random: &mut Random) -> io::Result<()>
         for place in 0..4 {
             let mut line = digits(random, 4);
             line[place] = character;
-            let bytes = dirty::bytes(random, LINE_BYTES);
+            let bytes = prefilled::bytes(random, LINE_BYTES);
             let name = format!("line with character {character} at {place}");
             checker.check(name, &Call::HexLine { line, bytes })?;
         }
@@ -94,7 +94,7 @@ fn records(checker: &mut Checker, random: &mut Random) -> io::Result<()> {
         64,
     ];
     let edges = [0, u64::MAX, 0x0123_4567_89AB_CDEF, 0xFEDC_BA98_7654_3210];
-    let random_heads: Vec<_> = dirty::words(random, 500);
+    let random_heads: Vec<_> = prefilled::words(random, 500);
     for head in edges.into_iter().chain(random_heads) {
         // A value as records have it, and one of more than 32 bits.
         let value = head.rotate_left(21);
@@ -105,9 +105,9 @@ fn records(checker: &mut Checker, random: &mut Random) -> io::Result<()> {
                 } else {
                     OK
                 };
-                let line = dirty::bytes(random, length);
+                let line = prefilled::bytes(random, length);
                 let name = format!("record {head:#X} {value:#X} into {length} bytes");
-                checker.numbered(name, number, &Call::RecordLine { line, head, value })?;
+                checker.check_number(name, number, &Call::RecordLine { line, head, value })?;
             }
         }
     }

@@ -1,16 +1,16 @@
 //! Malformed images, and every word of an image at many values.
 
-use super::base;
 use super::call::Call;
 use super::checker::Checker;
+use super::fit;
 use super::image::{image, uses, Image};
 use super::layout::{at, largest, name, IMAGE_WORDS, LAYOUT, OK, RECOGNISER, UNSOUND};
-use crate::random::Random;
+use cases::Random;
 use std::io;
 
 pub fn check(checker: &mut Checker) -> io::Result<()> {
     let mut random = Random::new(0x3A1F);
-    for (phase, state) in base::states() {
+    for (phase, state) in fit::states() {
         let image = image(&state);
         lengths(checker, &phase, &image, &mut random)?;
         widths(checker, &phase, &image, &mut random)?;
@@ -27,11 +27,11 @@ fn lengths(
     random: &mut Random,
 ) -> io::Result<()> {
     for length in [0, 1, IMAGE_WORDS - 1, IMAGE_WORDS, IMAGE_WORDS + 1] {
-        let mut take = base::call(image, random);
+        let mut take = fit::call(image, random);
         take.image.resize(length, 0);
         let number = if length == IMAGE_WORDS { OK } else { UNSOUND };
         let name = format!("malformed, {phase}, an image of {length} words");
-        checker.numbered(name, number, &Call::Take(take))?;
+        checker.check_number(name, number, &Call::Take(take))?;
     }
     Ok(())
 }
@@ -52,10 +52,10 @@ fn widths(
             if !beyond {
                 continue;
             }
-            let mut take = base::call(image, random);
+            let mut take = fit::call(image, random);
             take.image[place] = word;
             let name = format!("malformed, {phase}, {} {word:#X}", name(place));
-            checker.numbered(name, UNSOUND, &Call::Take(take))?;
+            checker.check_number(name, UNSOUND, &Call::Take(take))?;
         }
     }
     Ok(())
@@ -71,11 +71,11 @@ fn unused(
 ) -> io::Result<()> {
     for place in RECOGNISER.filter(|&place| !uses(image, place)) {
         for (word, count) in [(1, 0), (largest(place), 0), (largest(place), 3)] {
-            let mut take = base::call(image, random);
+            let mut take = fit::call(image, random);
             take.image[place] = word;
             take.count = count;
             let name = format!("unused word, {phase}, {} {word:#X}", name(place));
-            checker.numbered(name, OK, &Call::Take(take))?;
+            checker.check_number(name, OK, &Call::Take(take))?;
         }
     }
     Ok(())
@@ -89,7 +89,7 @@ fn sweep(checker: &mut Checker, phase: &str, image: &Image, random: &mut Random)
     let far = [32, 48, 63].map(|bit| 1 << bit);
     for place in 0..IMAGE_WORDS {
         for word in edges.into_iter().chain(far) {
-            let mut take = base::call(image, random);
+            let mut take = fit::call(image, random);
             take.image[place] = word;
             let name = format!("sweep, {phase}, {} {word:#X}", name(place));
             checker.check(name, &Call::Take(take))?;

@@ -1,29 +1,29 @@
-//! Comparison of a library with this reader through its C interface.
+//! Comparison of a library with the separate reader through its C interface.
 //!
 //! A driver program makes the calls: it is linked with the library and lends
 //! each slice in a block of its own. Every answer and every buffer, written
-//! or not, is compared whole with what this reader gives.
+//! or not, is compared whole with what the separate reader gives.
 
-pub mod base;
 pub mod call;
 pub mod checker;
 pub mod cut;
 pub mod difference;
-pub mod dirty;
 pub mod edges;
+pub mod expected;
+pub mod fit;
 pub mod frames;
 pub mod image;
 pub mod layout;
 pub mod lines;
 pub mod malformed;
 pub mod opening;
-pub mod pairs;
+pub mod precedence;
+pub mod prefilled;
 pub mod soundness;
 pub mod states;
 pub mod streams;
-pub mod wanted;
 
-use crate::compare::tally::Tally;
+use crate::tally::Tally;
 use std::io;
 use std::path::Path;
 
@@ -36,7 +36,7 @@ pub fn compare(driver: &Path, tally: &mut Tally) -> io::Result<()> {
         edges::check(checker)?;
         soundness::check(checker)?;
         malformed::check(checker)?;
-        pairs::check(checker)?;
+        precedence::check(checker)?;
         streams::check(checker)
     })
 }

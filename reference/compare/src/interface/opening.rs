@@ -2,10 +2,10 @@
 
 use super::call::{Call, Open};
 use super::checker::Checker;
-use super::dirty;
 use super::layout::{IMAGE_WORDS, OK, UNSOUND, WRONG_CYCLE, WRONG_PLAN};
-use crate::limits::CLOCK_LIMIT;
-use crate::random::Random;
+use super::prefilled;
+use cases::Random;
+use reader::limits::CLOCK_LIMIT;
 use std::io;
 
 /// Mask, CSR, FEEN, CNT.
@@ -83,7 +83,7 @@ pub fn check(checker: &mut Checker) -> io::Result<()> {
                     OK
                 };
                 let (name, call) = opening(plan, cycle, length, &mut random);
-                checker.numbered(name, number, &call)?;
+                checker.check_number(name, number, &call)?;
             }
         }
     }
@@ -138,7 +138,7 @@ fn opening(
         feen,
         cnt,
         cycle,
-        image: dirty::words(random, length),
+        image: prefilled::words(random, length),
     };
     (name, Call::Open(open))
 }

@@ -1,7 +1,8 @@
-//! Buffers whose contents a call must leave where it does not write.
+//! Buffers with random contents, which a call must leave where it does not
+//! write.
 
-use crate::limits::{STORE_WORDS, TRAY_BYTES};
-use crate::random::Random;
+use cases::Random;
+use reader::limits::{STORE_WORDS, TRAY_BYTES};
 
 pub fn words(random: &mut Random, count: usize) -> Vec<u64> {
     (0..count).map(|_| random.word()).collect()

@@ -1,14 +1,13 @@
 //! Each clause of soundness violated alone, and kept just so, in each phase.
 
-use super::base;
 use super::call::Call;
 use super::checker::Checker;
+use super::fit;
 use super::image::{image, Image};
 use super::layout::{at, phase, OK, UNSOUND};
-use crate::limits::{CLOCK_LIMIT, FIFOS};
-use crate::plan::Plan;
-use crate::random::Random;
-use crate::slow;
+use cases::Random;
+use reader::limits::{CLOCK_LIMIT, FIFOS};
+use reader::{slow, Plan};
 use std::io;
 
 /// An image, what is special about it and whether its state is sound.
@@ -16,7 +15,7 @@ type Clause = (String, bool, Image);
 
 pub fn check(checker: &mut Checker) -> io::Result<()> {
     let mut random = Random::new(0x50D);
-    for (phase, state) in base::states() {
+    for (phase, state) in fit::states() {
         let image = image(&state);
         let mut clauses = plans(&image);
         clauses.extend(cycles(&image));
@@ -27,8 +26,8 @@ pub fn check(checker: &mut Checker) -> io::Result<()> {
         for (name, sound, image) in clauses {
             let number = if sound { OK } else { UNSOUND };
             let name = format!("soundness, {phase}, {name}");
-            let take = base::call(&image, &mut random);
-            checker.numbered(name, number, &Call::Take(take))?;
+            let take = fit::call(&image, &mut random);
+            checker.check_number(name, number, &Call::Take(take))?;
         }
     }
     Ok(())
@@ -221,7 +220,7 @@ fn field5(image: &Image) -> Vec<Clause> {
     }
     clauses.extend(lengths(image));
     let command = image[at::COMMAND] as u8;
-    let length = slow::field5_cycles(command, base::CNT).unwrap_or(0);
+    let length = slow::field5_cycles(command, fit::CNT).unwrap_or(0);
     for count in 0..u64::from(length).min(28) {
         let below = 1_u64 << count;
         let kept = slow::keeps_field5(command);

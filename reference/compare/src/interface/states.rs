@@ -1,12 +1,9 @@
 //! Sound states from which calls start.
 
-use crate::group::Group;
-use crate::limits::CLOCK_LIMIT;
-use crate::plan::Plan;
-use crate::random::Random;
-use crate::recogniser::Recogniser;
-use crate::slow;
-use crate::state::{State, Warnings};
+use cases::Random;
+use reader::group::Group;
+use reader::limits::CLOCK_LIMIT;
+use reader::{slow, Plan, Recogniser, State, Warnings};
 
 /// Plans with few and many addresses, the highest one too.
 pub const PLANS: [Plan; 6] = [

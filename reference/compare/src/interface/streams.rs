@@ -1,19 +1,16 @@
-//! Generated streams of each make, cut into calls at random places.
+//! Generated streams of each recipe, cut into calls at random places.
 
 use super::call::{Call, Open};
 use super::checker::Checker;
-use super::cut::{run, Session};
-use super::dirty;
+use super::cut::{run, Carried};
 use super::image::image;
 use super::layout::IMAGE_WORDS;
+use super::prefilled;
 use super::states::{random_cycle, random_state, PLANS};
-use crate::compose::Stream;
-use crate::generate::{bits, commands_by, flip_some};
-use crate::limits::CLOCK_LIMIT;
-use crate::plan::Plan;
-use crate::random::Random;
-use crate::slow;
-use crate::state::State;
+use cases::generate::{bits, commands_at, flip_some, Addresses};
+use cases::{Random, Stream};
+use reader::limits::CLOCK_LIMIT;
+use reader::{slow, Plan, State};
 use std::io;
 
 /// Streams of ordinary length, and ones with frames as long as they come.
@@ -28,14 +25,14 @@ const SEED: u64 = 0x1F4C_E000_0000;
 pub fn check(checker: &mut Checker) -> io::Result<()> {
     for number in 0..STREAMS {
         let mut random = Random::new(SEED + number);
-        let plan = PLANS[(number / MAKES % PLANS.len() as u64) as usize];
-        let stream = stream(&mut random, number % MAKES, plan);
+        let plan = PLANS[(number / RECIPES % PLANS.len() as u64) as usize];
+        let stream = stream(&mut random, number % RECIPES, plan);
         let name = format!("stream {number}");
-        one(
+        check_stream(
             checker,
             &name,
             plan,
-            number % MAKES == ANY_STATE,
+            number % RECIPES == ANY_STATE,
             &stream,
             &mut random,
         )?;
@@ -44,30 +41,36 @@ pub fn check(checker: &mut Checker) -> io::Result<()> {
         let mut random = Random::new(SEED + STREAMS + number);
         let stream = longest(&mut random, number);
         let name = format!("longest stream {number}");
-        one(checker, &name, Plan::DEFAULT, false, &stream, &mut random)?;
+        check_stream(checker, &name, Plan::DEFAULT, false, &stream, &mut random)?;
     }
     Ok(())
 }
 
-const MAKES: u64 = 16;
-/// The make that starts in a state of any phase.
+const RECIPES: u64 = 16;
+/// The recipe that starts in a state of any phase.
 const ANY_STATE: u64 = 15;
 
-fn stream(random: &mut Random, make: u64, plan: Plan) -> Stream {
+fn stream(random: &mut Random, recipe: u64, plan: Plan) -> Stream {
     let few = 3 + random.below(20) as usize;
-    match make {
-        0..=3 => commands_by(plan, random, few),
-        4..=7 => damaged(commands_by(plan, random, few), random),
+    match recipe {
+        0..=3 => commands_at(addresses(plan), random, few),
+        4..=7 => damaged(commands_at(addresses(plan), random, few), random),
         8..=10 => {
-            let mut stream = commands_by(plan, random, few);
-            flip_some(&mut stream, random, [10, 30, 100][(make - 8) as usize]);
+            let mut stream = commands_at(addresses(plan), random, few);
+            flip_some(&mut stream, random, [10, 30, 100][(recipe - 8) as usize]);
             stream
         }
-        11 => commands_by(plan, random, 4 * few),
+        11 => commands_at(addresses(plan), random, 4 * few),
         12 => frames(plan, random),
         13 => Stream::new().en_data_take().raw(&noise(random)),
         _ => Stream::new().raw(&noise(random)),
     }
+}
+
+/// Where a plan has the registers that the streams write.
+pub fn addresses(plan: Plan) -> Addresses {
+    let Plan { csr, feen, cnt, .. } = plan;
+    Addresses { csr, feen, cnt }
 }
 
 /// One bit inverted.
@@ -120,7 +123,7 @@ fn longest(random: &mut Random, number: u64) -> Stream {
     frame(stream, random, slow::WR_RECEIVER, 0x000A).lv1()
 }
 
-fn one(
+fn check_stream(
     checker: &mut Checker,
     name: &str,
     plan: Plan,
@@ -133,22 +136,22 @@ fn one(
     } else {
         opened(checker, name, plan, stream, random)?
     };
-    let start = Session {
+    let start = Carried {
         image: image(&state).to_vec(),
-        store: dirty::store(random),
-        tray: dirty::tray(random),
+        store: prefilled::store(random),
+        tray: prefilled::tray(random),
     };
-    let ran = run(checker, name, &stream.bits, start.clone(), random)?;
+    let outcome = run(checker, name, &stream.bits, start.clone(), random)?;
     if random.one_in(CUT_AGAIN) {
         let again = format!("{name}, cut again");
         let other = run(checker, &again, &stream.bits, start, random)?;
-        let fault = (ran != other).then_some("the two cuts differ in records or state");
-        checker.claim(again, fault.map(str::to_string))?;
+        let fault = (outcome != other).then_some("the two cuts differ in records or state");
+        checker.report(again, fault.map(str::to_string))?;
     }
     Ok(())
 }
 
-/// Opens into a dirty image. Near the last cycle the stream just ends, or
+/// Opens into a prefilled image. Near the last cycle the stream just ends, or
 /// does not.
 fn opened(
     checker: &mut Checker,
@@ -169,8 +172,8 @@ fn opened(
         feen: u64::from(plan.feen),
         cnt: u64::from(plan.cnt),
         cycle,
-        image: dirty::words(random, IMAGE_WORDS),
+        image: prefilled::words(random, IMAGE_WORDS),
     });
-    checker.numbered(format!("{name}, opening"), 0, &open)?;
+    checker.check_number(format!("{name}, opening"), 0, &open)?;
     Ok(State::start(plan, cycle))
 }

@@ -1,34 +1,44 @@
-//! The three programs on one case, in each way of giving the input.
+//! The three programs on one case, by each delivery of the input.
 
+use super::delivery::Delivery;
 use super::fault::{judge, Fault};
-use super::feed::Way;
 use super::running::Running;
 use super::scratch::Scratch;
-use super::tally::Check;
-use super::tested::Tested;
-use crate::cases::Case;
-use crate::printed::Program;
+use super::under_test::UnderTest;
+use crate::printed::printed;
+use crate::tally::Check;
+use cases::Case;
+use reader::Program;
 use std::io;
 use std::path::Path;
 use std::sync::Arc;
 use std::time::{Duration, Instant};
 
-pub fn check(tested: &Tested, case: &Case, scratch: &Scratch) -> Vec<Check> {
+pub fn check(under_test: &UnderTest, case: &Case, scratch: &Scratch) -> Vec<Check> {
     let file = match scratch.file(case) {
         Ok(file) => file,
         Err(error) => return vec![unreadable(case, &error)],
     };
     let input: Arc<[u8]> = Arc::from(&case.input[..]);
-    let ways = Way::ALL.into_iter().filter(|way| way.takes(input.len()));
+    let deliveries = Delivery::ALL
+        .into_iter()
+        .filter(|delivery| delivery.takes(input.len()));
     let mut checks = Vec::new();
     for program in Program::ALL {
-        let wanted = program.prints(&input);
-        for way in ways.clone() {
-            let fault = tested.run(program, |path| {
-                run(path, way, &input, &file, &wanted, tested.run_limit)
-                    .unwrap_or_else(|error| Some(Fault::NotStarted(error.to_string())))
+        let expected = printed(program, &input);
+        for delivery in deliveries.clone() {
+            let fault = under_test.run(program, |path| {
+                run(
+                    path,
+                    delivery,
+                    &input,
+                    &file,
+                    &expected,
+                    under_test.run_limit,
+                )
+                .unwrap_or_else(|error| Some(Fault::NotStarted(error.to_string())))
             });
-            let name = format!("{}, {}, {}", program.name(), case.name, way.name());
+            let name = format!("{}, {}, {}", program.name(), case.name, delivery.name());
             checks.push(Check { name, fault });
         }
     }
@@ -45,17 +55,17 @@ fn unreadable(case: &Case, error: &io::Error) -> Check {
 /// One run; the fault of its output or of its end, if any.
 fn run(
     program: &Path,
-    way: Way,
+    delivery: Delivery,
     input: &Arc<[u8]>,
     file: &Path,
-    wanted: &[u8],
+    expected: &[u8],
     limit: Duration,
 ) -> io::Result<Option<Fault>> {
     let deadline = Instant::now() + limit;
-    let mut running = Running::start(program, way.stdio(file)?, wanted.len())?;
+    let mut running = Running::start(program, delivery.stdio(file)?, expected.len())?;
     if let Some(pipe) = running.input() {
-        way.feed(pipe, input);
+        delivery.feed(pipe, input);
     }
     let ended = running.finish(deadline)?;
-    Ok(judge(wanted, &running.printed, ended))
+    Ok(judge(expected, &running.printed, ended))
 }

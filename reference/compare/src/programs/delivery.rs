@@ -1,4 +1,4 @@
-//! The ways in which a program is given its input.
+//! How a program is given its input.
 
 use std::fs::File;
 use std::io::{self, Write};
@@ -9,7 +9,7 @@ use std::thread;
 use std::time::Duration;
 
 #[derive(Clone, Copy, Debug, PartialEq, Eq)]
-pub enum Way {
+pub enum Delivery {
     File,
     Pipe,
     PipeByBytes,
@@ -18,27 +18,27 @@ pub enum Way {
 /// Longest input that is written a byte at a time, which takes long.
 const BY_BYTES: usize = 2_900;
 
-impl Way {
-    pub const ALL: [Way; 3] = [Way::File, Way::Pipe, Way::PipeByBytes];
+impl Delivery {
+    pub const ALL: [Delivery; 3] = [Delivery::File, Delivery::Pipe, Delivery::PipeByBytes];
 
     pub fn name(self) -> &'static str {
         match self {
-            Way::File => "as a file",
-            Way::Pipe => "through a pipe",
-            Way::PipeByBytes => "a byte at a time",
+            Delivery::File => "as a file",
+            Delivery::Pipe => "through a pipe",
+            Delivery::PipeByBytes => "a byte at a time",
         }
     }
 
-    /// Whether an input of that length is given in this way too.
+    /// Whether an input of that length is delivered so.
     pub fn takes(self, length: usize) -> bool {
-        self != Way::PipeByBytes || length <= BY_BYTES
+        self != Delivery::PipeByBytes || length <= BY_BYTES
     }
 
     /// The input of a program to be started; `file` holds the same bytes.
     pub fn stdio(self, file: &Path) -> io::Result<Stdio> {
         match self {
-            Way::File => Ok(Stdio::from(File::open(file)?)),
-            Way::Pipe | Way::PipeByBytes => Ok(Stdio::piped()),
+            Delivery::File => Ok(Stdio::from(File::open(file)?)),
+            Delivery::Pipe | Delivery::PipeByBytes => Ok(Stdio::piped()),
         }
     }
 
@@ -47,8 +47,8 @@ impl Way {
     pub fn feed(self, mut pipe: ChildStdin, input: &Arc<[u8]>) {
         let input = Arc::clone(input);
         thread::spawn(move || match self {
-            Way::PipeByBytes => write_bytes(pipe, &input),
-            Way::File | Way::Pipe => pipe.write_all(&input),
+            Delivery::PipeByBytes => write_bytes(pipe, &input),
+            Delivery::File | Delivery::Pipe => pipe.write_all(&input),
         });
     }
 }

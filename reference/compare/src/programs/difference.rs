@@ -1,4 +1,4 @@
-//! Where an output parts from the wanted one.
+//! Where an output differs from the expected one.
 
 use std::fmt;
 
@@ -7,21 +7,21 @@ use std::fmt;
 pub struct Difference {
     pub byte: usize,
     pub line: usize,
-    wanted: String,
+    expected: String,
     got: String,
 }
 
 /// `None` for equal outputs.
-pub fn difference(wanted: &[u8], got: &[u8]) -> Option<Difference> {
-    let alike = wanted.iter().zip(got).take_while(|(w, g)| w == g).count();
-    if alike == wanted.len() && alike == got.len() {
+pub fn difference(expected: &[u8], got: &[u8]) -> Option<Difference> {
+    let alike = expected.iter().zip(got).take_while(|(e, g)| e == g).count();
+    if alike == expected.len() && alike == got.len() {
         return None;
     }
-    let feeds = wanted[..alike].iter().filter(|&&byte| byte == b'\n');
+    let feeds = expected[..alike].iter().filter(|&&byte| byte == b'\n');
     Some(Difference {
         byte: alike + 1,
         line: feeds.count() + 1,
-        wanted: about(wanted, alike),
+        expected: about(expected, alike),
         got: about(got, alike),
     })
 }
@@ -48,12 +48,12 @@ impl fmt::Display for Difference {
         let Difference {
             byte,
             line,
-            wanted,
+            expected,
             got,
         } = self;
         write!(
             f,
-            "differs at byte {byte}, line {line}: wanted {wanted}, got {got}"
+            "differs at byte {byte}, line {line}: expected {expected}, got {got}"
         )
     }
 }

@@ -1,4 +1,4 @@
-//! What can be wrong with a run of a program, or with a kept file.
+//! What can be wrong with a run of a program, or with a golden file.
 
 use super::difference::{difference, Difference};
 use super::running::Ended;
@@ -18,13 +18,13 @@ pub enum Fault {
     /// Not run, as it hung often enough.
     GivenUp,
     Unreadable(String),
-    /// A kept file that belongs to no case.
+    /// A golden file that belongs to no case.
     Stray,
 }
 
 /// The fault of a run that has ended, if any.
-pub fn judge(wanted: &[u8], printed: &[u8], ended: Ended) -> Option<Fault> {
-    let difference = difference(wanted, printed);
+pub fn judge(expected: &[u8], printed: &[u8], ended: Ended) -> Option<Fault> {
+    let difference = difference(expected, printed);
     match (ended, difference) {
         (Ended::Killed, difference) => Some(Fault::Hangs(difference)),
         (_, Some(difference)) => Some(Fault::Differs(difference)),

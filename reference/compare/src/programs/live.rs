@@ -2,10 +2,11 @@
 
 use super::fault::{judge, Fault};
 use super::running::{Running, Waited};
-use super::tally::Check;
-use super::tested::Tested;
-use crate::cases::{generated, kept, Case};
-use crate::printed::Program;
+use super::under_test::UnderTest;
+use crate::printed::{printed, printed_so_far};
+use crate::tally::Check;
+use cases::{fixed, generated, Case};
+use reader::Program;
 use std::io::{self, Write};
 use std::path::Path;
 use std::process::Stdio;
@@ -21,7 +22,7 @@ pub struct Live {
 /// Inputs that fit into a pipe whole, so that no write waits.
 pub fn cases() -> Vec<Live> {
     let named = |name: &str| {
-        let mut all = kept().into_iter().chain(generated(1));
+        let mut all = fixed().into_iter().chain(generated(1));
         all.find(|case| case.name == name).expect("a case's name")
     };
     let live = |name, left_open| Live {
@@ -38,29 +39,34 @@ pub fn cases() -> Vec<Live> {
 }
 
 /// Each of the three programs on one live pipe.
-pub fn check(tested: &Tested, live: &Live) -> Vec<Check> {
+pub fn check(under_test: &UnderTest, live: &Live) -> Vec<Check> {
     let check = |program: Program| Check {
         name: format!("{}, {}, on a live pipe", program.name(), live.case.name),
-        fault: tested.run(program, |path| {
-            run(tested, path, program, live)
+        fault: under_test.run(program, |path| {
+            run(under_test, path, program, live)
                 .unwrap_or_else(|error| Some(Fault::NotStarted(error.to_string())))
         }),
     };
     Program::ALL.map(check).into()
 }
 
-fn run(tested: &Tested, path: &Path, program: Program, live: &Live) -> io::Result<Option<Fault>> {
+fn run(
+    under_test: &UnderTest,
+    path: &Path,
+    program: Program,
+    live: &Live,
+) -> io::Result<Option<Fault>> {
     let input = &live.case.input[..];
-    let wanted = program.prints(input);
-    let mut running = Running::start(path, Stdio::piped(), wanted.len())?;
+    let expected = printed(program, input);
+    let mut running = Running::start(path, Stdio::piped(), expected.len())?;
     let mut pipe = running.input();
     let mut written = 0;
     for (number, line) in (1..).zip(input.split_inclusive(|&byte| byte == b'\n')) {
         // A program that has ended too early shows in its output.
         let _ = pipe.as_mut().map(|pipe| pipe.write_all(line));
         written += line.len();
-        let so_far = program.prints_so_far(&input[..written]).len();
-        match running.wait_for(so_far, Instant::now() + tested.line_limit) {
+        let so_far = printed_so_far(program, &input[..written]).len();
+        match running.wait_for(so_far, Instant::now() + under_test.line_limit) {
             Waited::Came => {}
             Waited::NoMore => break,
             Waited::TooLong => return Ok(Some(Fault::LagsAtLine(number))),
@@ -69,7 +75,7 @@ fn run(tested: &Tested, path: &Path, program: Program, live: &Live) -> io::Resul
     if !live.left_open {
         pipe = None;
     }
-    let ended = running.finish(Instant::now() + tested.run_limit)?;
+    let ended = running.finish(Instant::now() + under_test.run_limit)?;
     drop(pipe);
-    Ok(judge(&wanted, &running.printed, ended))
+    Ok(judge(&expected, &running.printed, ended))
 }

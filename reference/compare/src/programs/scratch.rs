@@ -1,6 +1,6 @@
 //! A folder for the inputs that are given as files.
 
-use crate::cases::Case;
+use cases::Case;
 use std::fs;
 use std::io;
 use std::path::PathBuf;

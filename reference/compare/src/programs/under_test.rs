@@ -1,7 +1,7 @@
 //! The programs under test.
 
 use super::fault::Fault;
-use crate::printed::Program;
+use reader::Program;
 use std::path::{Path, PathBuf};
 use std::sync::atomic::{AtomicUsize, Ordering};
 use std::time::Duration;
@@ -10,7 +10,7 @@ use std::time::Duration;
 /// one that always hangs ends too.
 const MOST_HANGS: usize = 3;
 
-pub struct Tested {
+pub struct UnderTest {
     folder: PathBuf,
     hangs: [AtomicUsize; 3],
     /// How long a run may take.
@@ -19,9 +19,9 @@ pub struct Tested {
     pub line_limit: Duration,
 }
 
-impl Tested {
-    pub fn new(folder: &Path) -> Tested {
-        Tested {
+impl UnderTest {
+    pub fn new(folder: &Path) -> UnderTest {
+        UnderTest {
             folder: folder.to_path_buf(),
             hangs: Default::default(),
             run_limit: Duration::from_secs(10),

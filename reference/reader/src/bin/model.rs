@@ -1,14 +1,7 @@
+//! Hexadecimal lines in, a listing out: the records, then the state of the controller.
+
 #![forbid(unsafe_code)]
 
-use std::io::{stdin, stdout};
-use std::process::ExitCode;
-
-fn main() -> ExitCode {
-    match reference::model(stdin().lock(), stdout().lock()) {
-        Ok(()) => ExitCode::SUCCESS,
-        Err(error) => {
-            eprintln!("model: {error}");
-            ExitCode::FAILURE
-        }
-    }
+fn main() -> std::process::ExitCode {
+    reader::Program::Model.main()
 }

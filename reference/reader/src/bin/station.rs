@@ -1,14 +1,7 @@
+//! Hexadecimal lines in, a listing out: every record and every frame.
+
 #![forbid(unsafe_code)]
 
-use std::io::{stdin, stdout};
-use std::process::ExitCode;
-
-fn main() -> ExitCode {
-    match reference::station(stdin().lock(), stdout().lock()) {
-        Ok(()) => ExitCode::SUCCESS,
-        Err(error) => {
-            eprintln!("station: {error}");
-            ExitCode::FAILURE
-        }
-    }
+fn main() -> std::process::ExitCode {
+    reader::Program::Station.main()
 }

@@ -1,9 +1,9 @@
 //! What the tests share: a decoder with its buffers, and shorthands.
 #![allow(dead_code)]
 
-use reference::compose::Stream;
-use reference::limits::{STORE_WORDS, TRAY_BYTES};
-use reference::{frame_part, open, take, Ending, Plan, Record, State};
+use cases::Stream;
+use reader::limits::{STORE_WORDS, TRAY_BYTES};
+use reader::{frame_part, open, take, Ending, Plan, Record, State};
 
 #[derive(Clone, Debug, PartialEq)]
 pub struct Reader {
