@@ -63,14 +63,14 @@ fn read_cut(
 fn random_cuts_and_short_lists() {
     let mut random = Random::new(1);
     let mut frames = 0;
-    let mut seen = 0;
+    let mut total = 0;
     for round in 0..900 {
         let stream = random_stream(&mut random, round % 3);
         let start = random_start(&mut random);
         let mut whole = start.clone();
         let bytes = stream.bytes();
         let records = whole.read_part(&bytes, 0, stream.bits.len() as u64, 5_000);
-        seen += records.len();
+        total += records.len();
         frames += whole.frames.len();
         for (longest, rooms) in [(1, 1), (3, 2), (40, 3), (700, 1), (100_000, 2)] {
             let mut reader = start.clone();
@@ -80,7 +80,7 @@ fn random_cuts_and_short_lists() {
         }
     }
     // The rounds must be about something.
-    assert!(seen > 20_000 && frames > 500, "{seen} {frames}");
+    assert!(total > 20_000 && frames > 500, "{total} {frames}");
 }
 
 /// The same bits lent as one byte a call, at shifting first bits.

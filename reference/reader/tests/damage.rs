@@ -62,18 +62,18 @@ fn zeros_between(first: Command, second: Command) -> usize {
     }
 }
 
-/// What is recorded instead, at which bit of the command.
+/// What is recorded instead of the command, and at which of its bits.
 #[derive(Clone, Copy)]
-enum Instead {
+enum Replacement {
     Nothing,
     Flip(usize),
     Exact(usize),
     BadFast(usize),
 }
-use Instead::*;
+use Replacement::*;
 
-/// The damage table: the command hit, which of its bits, and what follows.
-const DAMAGE: [(&[Command], RangeInclusive<usize>, Instead); 11] = [
+/// The damage table: the command hit, which of its bits, and the replacement.
+const DAMAGE: [(&[Command], RangeInclusive<usize>, Replacement); 11] = [
     (&[Lv1], 1..=5, Flip(5)),
     (FASTS, 6..=9, BadFast(9)),
     (&[Cal], 1..=1, Flip(7)),
@@ -86,15 +86,15 @@ const DAMAGE: [(&[Command], RangeInclusive<usize>, Instead); 11] = [
     (&[Cal], 5..=5, Exact(7)),
     (&[Sync], 5..=5, Flip(8)),
 ];
-const ZERO_AHEAD: Instead = Flip(3);
+const ZERO_AHEAD: Replacement = Flip(3);
 
-fn damage(command: Command, bit: usize) -> Instead {
+fn damage(command: Command, bit: usize) -> Replacement {
     let mut rows = DAMAGE
         .iter()
         .filter(|(commands, bits, _)| commands.contains(&command) && bits.contains(&bit));
-    let (_, _, instead) = rows.next().expect("a row for every bit");
+    let (_, _, replacement) = rows.next().expect("a row for every bit");
     assert!(rows.next().is_none(), "one row only");
-    *instead
+    *replacement
 }
 
 #[test]
@@ -142,7 +142,7 @@ impl Clean {
     }
 
     /// The affected command's place in the list, and what is recorded.
-    fn affected(&self, inverted: usize) -> Option<(usize, Instead)> {
+    fn affected(&self, inverted: usize) -> Option<(usize, Replacement)> {
         for (place, &(command, start)) in self.commands.iter().enumerate() {
             if (start..start + command.pattern().1).contains(&inverted) {
                 return Some((place, damage(command, inverted - start + 1)));
@@ -197,20 +197,20 @@ impl Counters {
     }
 }
 
-struct Bench {
+struct Testbench {
     start: State,
     reader: Reader,
     inversions: u64,
 }
 
-impl Bench {
+impl Testbench {
     /// Counters that are about to wrap, to see them do so.
-    fn new(run_mode: bool) -> Bench {
+    fn new(run_mode: bool) -> Testbench {
         let mut reader = Reader::with_run_mode(run_mode);
         reader.state.next_cycle = 5_000;
         reader.state.base_cycle = 4_750;
         reader.state.l1id = 254;
-        Bench {
+        Testbench {
             start: reader.state.clone(),
             reader,
             inversions: 0,
@@ -240,26 +240,26 @@ impl Bench {
         answer.records_written as usize
     }
 
-    /// Whether the clean run has the paper's record for each command, and
+    /// Checks that the clean run has the paper's record for each command, and
     /// each inversion what the damage table says of it.
-    fn holds(&mut self, clean: &Clean) -> Result<(), String> {
+    fn check(&mut self, clean: &Clean) -> Result<(), String> {
         let start = self.start.next_cycle;
         let mut list = vec![0; 4 * clean.commands.len() + 8];
 
         // The clean run, and the counters ahead of each command.
         let mut counters = self.counters();
         let mut ahead = Vec::new();
-        let mut wanted = Vec::new();
+        let mut expected = Vec::new();
         for &(command, place) in &clean.commands {
             let last = start + (place + command.pattern().1 - 1) as u64;
             let record = counters.record(command, last);
             ahead.push(counters);
             counters.count(&record);
-            wanted.push(record);
+            expected.push(record);
         }
         let written = self.read(&clean.bytes, clean.length, &mut list);
         let records = list[..2 * written].chunks(2).map(record);
-        if !records.eq(wanted.iter().copied()) {
+        if !records.eq(expected.iter().copied()) {
             return Err(format!("clean {:?}", clean.commands));
         }
 
@@ -269,8 +269,8 @@ impl Bench {
             invert(&mut bytes, inverted);
             let written = self.read(&bytes, clean.length, &mut list);
             invert(&mut bytes, inverted);
-            let seen = list[..2 * written].chunks(2).map(record);
-            if !follows(clean, inverted, seen, &wanted, &ahead, start) {
+            let damaged = list[..2 * written].chunks(2).map(record);
+            if !is_as_the_table_says(clean, inverted, damaged, &expected, &ahead, start) {
                 return Err(format!("{:?}, {inverted} inverted", clean.commands));
             }
         }
@@ -284,11 +284,11 @@ fn record(words: &[u64]) -> Record {
 
 /// Whether the damaged records are the clean ones with the affected one
 /// replaced or left out, but for the counters where they may differ.
-fn follows(
+fn is_as_the_table_says(
     clean: &Clean,
     inverted: usize,
-    mut seen: impl Iterator<Item = Record>,
-    wanted: &[Record],
+    mut damaged: impl Iterator<Item = Record>,
+    expected: &[Record],
     ahead: &[Counters],
     start: u64,
 ) -> bool {
@@ -297,12 +297,12 @@ fn follows(
     // A stronger claim besides: the numbers are those that the damaged run's
     // own records count.
     let mut counters = ahead[0];
-    for (place, (&(command, first), &record)) in clean.commands.iter().zip(wanted).enumerate() {
+    for (place, (&(command, first), &record)) in clean.commands.iter().zip(expected).enumerate() {
         let at = |bit: usize| start + (first + bit - 1) as u64;
         let record = match affected {
-            Some((hit, instead)) if hit == place => {
+            Some((hit, replacement)) if hit == place => {
                 (l1id_free, bunch_free) = (true, true);
-                let record = match instead {
+                let record = match replacement {
                     Nothing => continue,
                     Flip(bit) => ahead[place].lv1(at(bit), true),
                     Exact(bit) => ahead[place].lv1(at(bit), false),
@@ -313,7 +313,7 @@ fn follows(
                     }
                 };
                 counters.count(&record);
-                if seen.next() != Some(record) {
+                if damaged.next() != Some(record) {
                     return false;
                 }
                 continue;
@@ -322,7 +322,7 @@ fn follows(
         };
         l1id_free &= command != Ecr;
         bunch_free &= command != Bcr;
-        let Some(other) = seen.next() else {
+        let Some(other) = damaged.next() else {
             return false;
         };
         let may_differ = if command == Lv1 {
@@ -338,13 +338,13 @@ fn follows(
         }
         counters.count(&other);
     }
-    seen.next().is_none()
+    damaged.next().is_none()
 }
 
 /// Checks every series of `count` commands with the gaps `more` than the
 /// timing table asks, these zeros ahead and these after.
 fn every_series(
-    bench: &mut Bench,
+    bench: &mut Testbench,
     count: usize,
     more: RangeInclusive<usize>,
     ahead: RangeInclusive<usize>,
@@ -365,7 +365,7 @@ fn every_series(
                         zeros.push(least + more.start() + extra);
                     }
                     zeros.push(trailing);
-                    bench.holds(&Clean::new(&commands, &zeros)).unwrap();
+                    bench.check(&Clean::new(&commands, &zeros)).unwrap();
                 }
             }
         }
@@ -376,7 +376,7 @@ fn every_series(
 fn single_commands_and_pairs() {
     let after: Vec<usize> = (0..=9).collect();
     for run_mode in [true, false] {
-        let mut bench = Bench::new(run_mode);
+        let mut bench = Testbench::new(run_mode);
         every_series(&mut bench, 1, 0..=0, 0..=12, &after);
         every_series(&mut bench, 2, 0..=7, 0..=6, &after);
         assert_eq!(bench.inversions, 404_715);
@@ -385,14 +385,14 @@ fn single_commands_and_pairs() {
 
 #[test]
 fn triples() {
-    let mut bench = Bench::new(true);
+    let mut bench = Testbench::new(true);
     every_series(&mut bench, 3, 0..=7, 0..=6, &[0, 1, 2, 6]);
     assert_eq!(bench.inversions, 8_541_120);
 }
 
 #[test]
 fn fours() {
-    let mut bench = Bench::new(true);
+    let mut bench = Testbench::new(true);
     every_series(&mut bench, 4, 0..=2, 0..=2, &[0, 3]);
     assert_eq!(bench.inversions, 4_072_275);
 }
@@ -401,7 +401,7 @@ fn fours() {
 fn long_streams() {
     let mut random = Random::new(3);
     for run_mode in [true, false] {
-        let mut bench = Bench::new(run_mode);
+        let mut bench = Testbench::new(run_mode);
         for _ in 0..200 {
             let commands: Vec<Command> = (0..60).map(|_| ALL[random.below(5) as usize]).collect();
             let mut zeros = vec![random.below(4) as usize];
@@ -409,7 +409,7 @@ fn long_streams() {
                 zeros.push(zeros_between(pair[0], pair[1]) + random.below(5) as usize);
             }
             zeros.push(random.below(9) as usize);
-            bench.holds(&Clean::new(&commands, &zeros)).unwrap();
+            bench.check(&Clean::new(&commands, &zeros)).unwrap();
         }
     }
 }
@@ -418,7 +418,7 @@ fn long_streams() {
 /// ahead of an LV1 are not, as far as damage goes.
 #[test]
 fn which_zeros_are_needed() {
-    let mut bench = Bench::new(true);
+    let mut bench = Testbench::new(true);
     let mut broken = Vec::new();
     for first in ALL {
         for second in ALL {
@@ -427,7 +427,7 @@ fn which_zeros_are_needed() {
                 for third in ALL {
                     let zeros = [0, gap, zeros_between(second, third), 9];
                     if bench
-                        .holds(&Clean::new(&[first, second, third], &zeros))
+                        .check(&Clean::new(&[first, second, third], &zeros))
                         .is_err()
                     {
                         broken.push((first, gap));
@@ -446,7 +446,7 @@ fn which_zeros_are_needed() {
 /// (The comparisons above would show a Slow's record; this shows RunMode.)
 #[test]
 fn no_damaged_stream_leaves_run_mode() {
-    let mut bench = Bench::new(true);
+    let mut bench = Testbench::new(true);
     for first in ALL {
         for second in ALL {
             let zeros = [3, zeros_between(first, second), 12];

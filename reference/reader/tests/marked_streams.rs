@@ -7,9 +7,9 @@ use common::{rec, stream, Reader};
 use reader::limits::CLOCK_LIMIT;
 use reader::{open, station, Ending, Plan, Record};
 
-/// What a record of the table says.
+/// A record as the table has it: what it is, and at which cycle.
 #[derive(Clone, Copy)]
-enum Seen {
+enum Expected {
     Exact(u64),
     Flip(u64),
     Bcr(u64),
@@ -18,10 +18,10 @@ enum Seen {
     /// Kind 24, 0 bits.
     EmptyFrame(u64),
 }
-use Seen::*;
+use Expected::*;
 
 /// Bits and records, from cycle 0, RunMode, window 00000 (and CNT 0).
-const MARKED: [(&str, &[Seen]); 14] = [
+const MARKED: [(&str, &[Expected]); 14] = [
     ("11101", &[Exact(4)]),
     ("11100", &[Flip(4)]),
     ("000111101", &[Exact(8)]),
@@ -38,15 +38,15 @@ const MARKED: [(&str, &[Seen]); 14] = [
     ("10110101101000000", &[EmptyFrame(16)]),
 ];
 
-fn wanted(seen: &[Seen]) -> Vec<Record> {
+fn records_of(row: &[Expected]) -> Vec<Record> {
     let mut l1id = 0;
     let mut lv1 = |time: u64, flags| {
         let value = l1id * 256 + time as u32;
         l1id += 1;
         rec(time, 0x01, flags, value)
     };
-    seen.iter()
-        .map(|&seen| match seen {
+    row.iter()
+        .map(|&expected| match expected {
             Exact(time) => lv1(time, 0x05),
             Flip(time) => lv1(time, 0x07),
             Bcr(time) => rec(time, 0x11, 0x01, 0),
@@ -59,10 +59,10 @@ fn wanted(seen: &[Seen]) -> Vec<Record> {
 
 #[test]
 fn marked_streams_in_one_call() {
-    for (bits, seen) in MARKED {
+    for (bits, row) in MARKED {
         assert_eq!(
             Reader::running().read(&stream(bits)),
-            wanted(seen),
+            records_of(row),
             "{bits}"
         );
     }
@@ -70,7 +70,7 @@ fn marked_streams_in_one_call() {
 
 #[test]
 fn marked_streams_cut_at_every_place() {
-    for (bits, seen) in MARKED {
+    for (bits, row) in MARKED {
         let bytes = stream(bits).bytes();
         let count = bits.len() as u64;
         let mut whole = Reader::running();
@@ -79,7 +79,7 @@ fn marked_streams_cut_at_every_place() {
             let mut reader = Reader::running();
             let mut records = reader.read_part(&bytes, 0, cut, 10);
             records.extend(reader.read_part(&bytes, cut, count - cut, 10));
-            assert_eq!(records, wanted(seen), "{bits} cut at {cut}");
+            assert_eq!(records, records_of(row), "{bits} cut at {cut}");
             assert_eq!(reader, whole, "{bits} cut at {cut}");
         }
         // Cut at every place at once.
@@ -87,7 +87,7 @@ fn marked_streams_cut_at_every_place() {
         let records: Vec<Record> = (0..count)
             .flat_map(|bit| reader.read_part(&bytes, bit, 1, 1))
             .collect();
-        assert_eq!(records, wanted(seen), "{bits} bit by bit");
+        assert_eq!(records, records_of(row), "{bits} bit by bit");
         assert_eq!(reader, whole, "{bits} bit by bit");
     }
 }
@@ -131,10 +131,10 @@ fn the_last_cycle_of_the_clock() {
 fn the_listing() {
     let mut out = Vec::new();
     station(&b"B5C074\nE0B080\n"[..], &mut out).unwrap();
-    let wanted = "\
+    let expected = "\
         000000000010 28 01 00000000\n\
         000000000015 01 05 00000015\n\
         00000000001C 01 07 0000011C\n\
         000000000028 11 01 00000000\n";
-    assert_eq!(String::from_utf8(out).unwrap(), wanted);
+    assert_eq!(String::from_utf8(out).unwrap(), expected);
 }

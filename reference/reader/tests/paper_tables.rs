@@ -177,14 +177,14 @@ fn table_1_3() {
                 for zeros in 0..=distance + 1 {
                     let ((a, kind_a), (b, kind_b)) = (command(first), command(second));
                     let bits = stream(a).zeros(zeros).pattern(b);
-                    let seen: Vec<(u64, u8, u8)> = Reader::running()
+                    let records: Vec<(u64, u8, u8)> = Reader::running()
                         .read(&bits)
                         .iter()
                         .map(|record| (record.time, record.kind, record.flags & 0x03))
                         .collect();
                     let ends = (a.len() - 1, a.len() + zeros + b.len() - 1);
-                    let wanted = [(ends.0 as u64, kind_a, 1), (ends.1 as u64, kind_b, 1)];
-                    assert_eq!(seen, wanted, "{first} {zeros} {second}");
+                    let expected = [(ends.0 as u64, kind_a, 1), (ends.1 as u64, kind_b, 1)];
+                    assert_eq!(records, expected, "{first} {zeros} {second}");
                 }
             }
         }
@@ -300,7 +300,7 @@ const TABLE_1_9: [Row; 14] = [
 ];
 
 /// The records that a row's words stand for, read from cycle 0.
-fn wanted(pattern: &[bool], seen: &[(&str, u64)], run_mode: bool) -> Vec<Record> {
+fn expected(pattern: &[bool], recognised: &[(&str, u64)], run_mode: bool) -> Vec<Record> {
     let mut l1id = 0;
     let mut lv1 = |time: u64, flip: u8| {
         let value = if run_mode {
@@ -312,7 +312,7 @@ fn wanted(pattern: &[bool], seen: &[(&str, u64)], run_mode: bool) -> Vec<Record>
         rec(time, 0x01, flip | if run_mode { 0x05 } else { 0 }, value)
     };
     let mut records = Vec::new();
-    for &(name, time) in seen {
+    for &(name, time) in recognised {
         records.push(match name {
             "LV1" => lv1(time, 0),
             FLIP => lv1(time, 2),
@@ -337,15 +337,19 @@ fn tables_1_4_to_1_9() {
         // The cases for comparison have the same patterns.
         assert_eq!(table, same_table);
         assert!(rows.iter().map(|(pattern, _)| pattern).eq(received));
-        for (received, seen) in rows {
+        for (received, recognised) in rows {
             for run_mode in [true, false] {
                 let context = format!("table 1-{table}, {received}, RunMode {run_mode}");
                 let bits = stream(received);
                 let mut reader = Reader::with_run_mode(run_mode);
                 let records = reader.read(&bits);
-                assert_eq!(records, wanted(&bits.bits, seen, run_mode), "{context}");
+                assert_eq!(
+                    records,
+                    expected(&bits.bits, recognised, run_mode),
+                    "{context}"
+                );
 
-                let has = |name: &str| seen.iter().any(|(other, _)| *other == name);
+                let has = |name: &str| recognised.iter().any(|(other, _)| *other == name);
                 let state = reader.state;
                 assert_eq!(state.warnings.wlv1, has(FLIP), "{context}");
                 assert_eq!(state.warnings.wfst, has(BAD), "{context}");

@@ -124,28 +124,28 @@ fn line_cases() -> Vec<(Vec<u8>, String)> {
 
 #[test]
 fn lines_in_one_piece() {
-    for (input, wanted) in line_cases() {
-        assert_eq!(run_station(&input), wanted, "{input:?}");
-        assert_eq!(run_reading(&input), wanted, "{input:?}");
-        assert!(run_model(&input).starts_with(&format!("{wanted}register 0 ")));
+    for (input, expected) in line_cases() {
+        assert_eq!(run_station(&input), expected, "{input:?}");
+        assert_eq!(run_reading(&input), expected, "{input:?}");
+        assert!(run_model(&input).starts_with(&format!("{expected}register 0 ")));
     }
 }
 
 #[test]
 fn lines_split_at_every_place() {
-    for (input, wanted) in line_cases() {
+    for (input, expected) in line_cases() {
         for cut in 0..=input.len() {
             let mut out = Vec::new();
             station(Pieces::cut(&input, &[cut]), &mut out).unwrap();
-            assert_eq!(out, wanted.as_bytes(), "{input:?} split at {cut}");
+            assert_eq!(out, expected.as_bytes(), "{input:?} split at {cut}");
         }
         let every: Vec<usize> = (0..input.len()).collect();
         let mut out = Vec::new();
         station(Pieces::cut(&input, &every), &mut out).unwrap();
-        assert_eq!(out, wanted.as_bytes(), "{input:?}, one byte at a time");
+        assert_eq!(out, expected.as_bytes(), "{input:?}, one byte at a time");
         let mut out = Vec::new();
         reading(Pieces::cut(&input, &every), &mut out).unwrap();
-        assert_eq!(out, wanted.as_bytes(), "{input:?}, one byte at a time");
+        assert_eq!(out, expected.as_bytes(), "{input:?}, one byte at a time");
         let mut out = Vec::new();
         model(Pieces::cut(&input, &every), &mut out).unwrap();
         assert_eq!(out, run_model(&input).as_bytes());
@@ -198,7 +198,7 @@ fn the_model() {
         .lv1();
     let lines = run_model(&stream.lines());
     let model: Vec<&str> = lines.lines().skip(10).collect();
-    let mut wanted: Vec<String> = [
+    let mut expected: Vec<String> = [
         "register 0 F9FF",
         "register 1 0000",
         "register 2 8001",
@@ -214,13 +214,13 @@ fn the_model() {
     ]
     .map(String::from)
     .to_vec();
-    wanted.extend((2..15).map(|fifo| format!("pointers {fifo:X} 00 00")));
-    wanted.push("pointers F 02 00".to_string());
+    expected.extend((2..15).map(|fifo| format!("pointers {fifo:X} 00 00")));
+    expected.push("pointers F 02 00".to_string());
     for fifo in ["0", "F"] {
-        wanted.push(format!("word {fifo} 00 01234567"));
-        wanted.push(format!("word {fifo} 01 00000005"));
+        expected.push(format!("word {fifo} 00 01234567"));
+        expected.push(format!("word {fifo} 01 00000005"));
     }
-    assert_eq!(model, wanted);
+    assert_eq!(model, expected);
 }
 
 #[test]
@@ -228,11 +228,11 @@ fn line_numbers_are_hexadecimal() {
     for lines in [9, 15, 16, 255, 256, 65_534, 65_535, 65_536, 70_000, 200_000] {
         let mut input = vec![b'\n'; lines];
         input.push(b'A');
-        let wanted = format!("!08 {:08X}\n", lines + 1);
-        assert_eq!(run_station(&input), wanted);
+        let expected = format!("!08 {:08X}\n", lines + 1);
+        assert_eq!(run_station(&input), expected);
         input.extend(b"0\n00\n\n?\n");
-        let wanted = format!("!07 {:08X}\n", lines + 4);
-        assert_eq!(run_station(&input), wanted);
+        let expected = format!("!07 {:08X}\n", lines + 4);
+        assert_eq!(run_station(&input), expected);
     }
 }
 
@@ -248,9 +248,9 @@ fn very_long_lines() {
     ] {
         for feed in ["\n", ""] {
             let input = format!("B5C074\n{digits}{end}{feed}");
-            let wanted = format!("{FIRST}!{number} 00000002\n");
-            assert_eq!(run_station(input.as_bytes()), wanted);
-            assert_eq!(run_reading(input.as_bytes()), wanted);
+            let expected = format!("{FIRST}!{number} 00000002\n");
+            assert_eq!(run_station(input.as_bytes()), expected);
+            assert_eq!(run_reading(input.as_bytes()), expected);
         }
     }
 }
@@ -269,36 +269,36 @@ fn the_lines_themselves() {
     push_frame(&mut out, &[0x00, 0xA5]);
     push_refused(&mut out, 8, 0xFFFF_FFFF);
     push_refused(&mut out, 7, 0x1_0000_0000);
-    let wanted = "FFFFFFFFFFFF 2F 0A FFFFFFFF\n>00A5\n!08 FFFFFFFF\n!07 100000000\n";
-    assert_eq!(String::from_utf8(out).unwrap(), wanted);
+    let expected = "FFFFFFFFFFFF 2F 0A FFFFFFFF\n>00A5\n!08 FFFFFFFF\n!07 100000000\n";
+    assert_eq!(String::from_utf8(out).unwrap(), expected);
 }
 
 /// What a program did, in order: reads, bytes written, flushes.
 #[derive(Debug, PartialEq)]
-enum Deed {
+enum Operation {
     Read,
     Written(usize),
     Flushed,
 }
 
-struct LoggedInput<'a>(Pieces, &'a RefCell<Vec<Deed>>);
-struct LoggedOutput<'a>(&'a RefCell<Vec<Deed>>);
+struct LoggedInput<'a>(Pieces, &'a RefCell<Vec<Operation>>);
+struct LoggedOutput<'a>(&'a RefCell<Vec<Operation>>);
 
 impl Read for LoggedInput<'_> {
     fn read(&mut self, buffer: &mut [u8]) -> io::Result<usize> {
-        self.1.borrow_mut().push(Deed::Read);
+        self.1.borrow_mut().push(Operation::Read);
         self.0.read(buffer)
     }
 }
 
 impl Write for LoggedOutput<'_> {
     fn write(&mut self, bytes: &[u8]) -> io::Result<usize> {
-        self.0.borrow_mut().push(Deed::Written(bytes.len()));
+        self.0.borrow_mut().push(Operation::Written(bytes.len()));
         Ok(bytes.len())
     }
 
     fn flush(&mut self) -> io::Result<()> {
-        self.0.borrow_mut().push(Deed::Flushed);
+        self.0.borrow_mut().push(Operation::Flushed);
         Ok(())
     }
 }
@@ -311,17 +311,17 @@ fn all_is_written_and_flushed_before_the_next_read() {
     let mut written = 0;
     let mut reads = Vec::new();
     let mut flushed = true;
-    for deed in log.into_inner() {
-        match deed {
-            Deed::Read => {
+    for operation in log.into_inner() {
+        match operation {
+            Operation::Read => {
                 assert!(flushed);
                 reads.push(written);
             }
-            Deed::Written(bytes) => {
+            Operation::Written(bytes) => {
                 written += bytes;
                 flushed = bytes == 0 && flushed;
             }
-            Deed::Flushed => flushed = true,
+            Operation::Flushed => flushed = true,
         }
     }
     // Ahead of each read: nothing, nothing, the first line's records, all.
@@ -342,8 +342,8 @@ fn output_goes_in_large_blocks() {
     let writes: Vec<usize> = log
         .into_inner()
         .iter()
-        .filter_map(|deed| match deed {
-            Deed::Written(bytes) if *bytes > 0 => Some(*bytes),
+        .filter_map(|operation| match operation {
+            Operation::Written(bytes) if *bytes > 0 => Some(*bytes),
             _ => None,
         })
         .collect();

@@ -7,28 +7,29 @@ use common::{rec, stream, Reader};
 use reader::limits::CLOCK_LIMIT;
 use reader::{frame_part, open, take, Ending, Plan, Recogniser, Record, Warnings};
 
-fn s() -> Stream {
-    Stream::new()
-}
-
 /// Kind, flags and value of each record.
-fn short(records: &[Record]) -> Vec<(u8, u8, u32)> {
+fn without_time(records: &[Record]) -> Vec<(u8, u8, u32)> {
     records
         .iter()
         .map(|record| (record.kind, record.flags, record.value))
         .collect()
 }
 
+fn flags_of(records: &[Record]) -> Vec<u8> {
+    records.iter().map(|record| record.flags).collect()
+}
+
+/// The records of a stream, read from cycle 0 out of RunMode.
 fn read(stream: Stream) -> Vec<(u8, u8, u32)> {
-    short(&Reader::opened().read(&stream))
+    without_time(&Reader::opened().read(&stream))
 }
 
 #[test]
 fn csr_reads_with_the_warnings_laid_over() {
     let mut reader = Reader::opened();
-    let write = reader.read(&s().wr_register(0, 0xFFFF).rd_register(0));
+    let write = reader.read(&Stream::new().wr_register(0, 0xFFFF).rd_register(0));
     // The record keeps what arrived; bits 8 to 10 are not stored.
-    assert_eq!(short(&write), [(0x20, 1, 0xFFFF), (0x21, 1, 0xF8FF)]);
+    assert_eq!(without_time(&write), [(0x20, 1, 0xFFFF), (0x21, 1, 0xF8FF)]);
     assert_eq!(reader.state.registers[0], 0xF8FF);
 
     for (fault, bit) in [
@@ -39,18 +40,18 @@ fn csr_reads_with_the_warnings_laid_over() {
         for run_mode in [true, false] {
             let mut reader = Reader::with_run_mode(run_mode);
             reader.read(&stream(fault));
-            let records = reader.read(&s().wr_register(0, 0).rd_register(0));
-            assert_eq!(short(&records)[1], (0x21, 1, bit), "{fault}");
-            reader.read(&s().reset_mcc());
-            let records = reader.read(&s().rd_register(0));
-            assert_eq!(short(&records), [(0x21, 1, 0)], "{fault}");
+            let records = reader.read(&Stream::new().wr_register(0, 0).rd_register(0));
+            assert_eq!(without_time(&records)[1], (0x21, 1, bit), "{fault}");
+            reader.read(&Stream::new().reset_mcc());
+            let records = reader.read(&Stream::new().rd_register(0));
+            assert_eq!(without_time(&records), [(0x21, 1, 0)], "{fault}");
         }
     }
     // A stored bit 8 to 10 is sound, and a read masks it.
     let mut reader = Reader::opened();
     reader.state.registers[0] = 0x0F40;
     assert_eq!(
-        short(&reader.read(&s().rd_register(0))),
+        without_time(&reader.read(&Stream::new().rd_register(0))),
         [(0x21, 1, 0x0840)]
     );
 }
@@ -65,7 +66,7 @@ fn csr_by_another_plan() {
     };
     let mut reader = Reader::new(open(plan, 0).1);
     reader.state.warnings.wfst = true;
-    let stream = s()
+    let stream = Stream::new()
         .wr_register(15, 0x0700)
         .rd_register(15)
         .wr_register(0, 0x0700)
@@ -81,7 +82,11 @@ fn csr_by_another_plan() {
 #[test]
 fn missing_registers() {
     for address in 0..16 {
-        let records = read(s().wr_register(address, 0xABCD).rd_register(address));
+        let records = read(
+            Stream::new()
+                .wr_register(address, 0xABCD)
+                .rd_register(address),
+        );
         let high = u32::from(address) << 16;
         let there = address < 7;
         let flags = if there { 0x01 } else { 0x08 };
@@ -101,17 +106,17 @@ fn missing_registers() {
 fn rd_register_does_not_keep_its_field_5() {
     let mut reader = Reader::opened();
     reader.state.registers[3] = 0x1234;
-    let records = reader.read(&s().slow(1, 3).number(0xFFFF, 16));
-    assert_eq!(short(&records), [(0x21, 1, 0x0003_1234)]);
+    let records = reader.read(&Stream::new().slow(1, 3).number(0xFFFF, 16));
+    assert_eq!(without_time(&records), [(0x21, 1, 0x0003_1234)]);
     assert_eq!(reader.state.registers[3], 0x1234);
 }
 
 #[test]
 fn wr_fifo_writes_where_feen_is_1_and_wraps() {
     let mut reader = Reader::opened();
-    reader.read(&s().wr_register(2, 0x8005));
+    reader.read(&Stream::new().wr_register(2, 0x8005));
     for n in 0..130 {
-        reader.read(&s().wr_fifo(0x0700_0000 + n));
+        reader.read(&Stream::new().wr_fifo(0x0700_0000 + n));
     }
     for fifo in 0..16 {
         let on = matches!(fifo, 0 | 2 | 15);
@@ -127,8 +132,8 @@ fn wr_fifo_writes_where_feen_is_1_and_wraps() {
 #[test]
 fn wr_fifo_with_feen_0_is_acted_on_and_writes_nothing() {
     let mut reader = Reader::opened();
-    let records = reader.read(&s().wr_fifo(0x07FF_FFFF));
-    assert_eq!(short(&records), [(0x22, 1, 0x07FF_FFFF)]);
+    let records = reader.read(&Stream::new().wr_fifo(0x07FF_FFFF));
+    assert_eq!(without_time(&records), [(0x22, 1, 0x07FF_FFFF)]);
     assert_eq!(reader.store, vec![0; 2_048]);
     assert_eq!(reader.state.write_pointers, [0; 16]);
 }
@@ -138,7 +143,7 @@ fn wr_fifo_writes_whole_words() {
     let mut reader = Reader::opened();
     reader.store.fill(u32::MAX);
     reader.state.registers[2] = 1;
-    reader.read(&s().wr_fifo(5));
+    reader.read(&Stream::new().wr_fifo(5));
     assert_eq!(reader.store[..2], [5, u32::MAX]);
 }
 
@@ -151,7 +156,7 @@ fn rd_fifo_takes_27_bits_and_wraps() {
     let mut values = Vec::new();
     for _ in 0..3 {
         // Neither FEEN nor Field 5 matters.
-        let records = reader.read(&s().slow(3, 9).number(0x0555_5555, 27));
+        let records = reader.read(&Stream::new().slow(3, 9).number(0x0555_5555, 27));
         values.push(records[0].value);
     }
     let high = 9 << 27;
@@ -172,7 +177,7 @@ fn ecr_clears_l1id_and_pointers_only_in_run_mode() {
         reader.state.warnings.wslw = true;
         reader.store.fill(3);
         let before = reader.clone();
-        let records = reader.read(&s().ecr());
+        let records = reader.read(&Stream::new().ecr());
         assert_eq!(records, [rec(8, 0x12, u8::from(run_mode), 0)]);
         let mut after = before;
         after.state.next_cycle = 9;
@@ -198,7 +203,7 @@ fn global_reset_mcc() {
         wslw: true,
     };
     reader.store.fill(3);
-    let records = reader.read(&s().zeros(100).reset_mcc());
+    let records = reader.read(&Stream::new().zeros(100).reset_mcc());
     assert_eq!(records, [rec(116, 0x29, 0x01, 0)]);
     let mut fresh = Reader::opened();
     fresh.state.next_cycle = 117;
@@ -212,15 +217,15 @@ fn the_base_of_the_bunch_number() {
     // EnDataTake moves no base; BCR does so in RunMode, GlobalResetMCC always.
     let (_, state) = open(Plan::DEFAULT, 1_000);
     let mut reader = Reader::new(state);
-    reader.read(&s().bcr());
+    reader.read(&Stream::new().bcr());
     assert_eq!(reader.state.base_cycle, 1_000);
-    reader.read(&s().en_data_take());
+    reader.read(&Stream::new().en_data_take());
     assert_eq!(reader.state.base_cycle, 1_000);
-    let records = reader.read(&s().lv1().zeros(300).lv1().bcr().lv1());
+    let records = reader.read(&Stream::new().lv1().zeros(300).lv1().bcr().lv1());
     let values: Vec<u32> = records.iter().map(|record| record.value).collect();
     assert_eq!(values, [30, 0x100 + (335 % 256), 0, 0x205]);
     assert_eq!(reader.state.base_cycle, 1_000 + 344);
-    let records = reader.read(&s().reset_mcc().en_data_take().lv1());
+    let records = reader.read(&Stream::new().reset_mcc().en_data_take().lv1());
     assert_eq!(records[2].value, 17 + 5);
 }
 
@@ -228,8 +233,8 @@ fn the_base_of_the_bunch_number() {
 fn l1id_wraps() {
     let mut reader = Reader::running();
     reader.state.l1id = 255;
-    let records = reader.read(&s().lv1().lv1());
-    assert_eq!(short(&records), [(1, 5, 0xFF04), (1, 5, 0x0009)]);
+    let records = reader.read(&Stream::new().lv1().lv1());
+    assert_eq!(without_time(&records), [(1, 5, 0xFF04), (1, 5, 0x0009)]);
 }
 
 #[test]
@@ -238,8 +243,7 @@ fn an_lv1_is_sent_while_csr_bit_6_is_0() {
         let mut reader = Reader::running();
         reader.state.registers[0] = csr;
         let records = reader.read(&stream("11101 11100"));
-        let seen: Vec<u8> = records.iter().map(|record| record.flags).collect();
-        assert_eq!(seen, [flags, flags | 2], "{csr:04X}");
+        assert_eq!(flags_of(&records), [flags, flags | 2], "{csr:04X}");
     }
     assert_eq!(read(stream("11101 11100")), [(1, 0, 0), (1, 2, 0)]);
 }
@@ -266,7 +270,7 @@ fn warnings_come_in_the_cycle_of_the_record() {
 
 #[test]
 fn run_mode_ends_at_the_ninth_header_bit() {
-    let bytes = s().en_data_take().bytes();
+    let bytes = Stream::new().en_data_take().bytes();
     let mut reader = Reader::running();
     reader.read_part(&bytes, 0, 8, 1);
     assert!(reader.state.run_mode);
@@ -286,7 +290,7 @@ fn run_mode_ends_at_the_ninth_header_bit() {
 #[test]
 fn a_damaged_slow_header_leaves_run_mode_on() {
     let records = Reader::running().read(&stream("10110 1010 0000 0000 11101"));
-    assert_eq!(short(&records), [(0x1F, 0, 10), (1, 5, 0x0015)]);
+    assert_eq!(without_time(&records), [(0x1F, 0, 10), (1, 5, 0x0015)]);
 }
 
 #[test]
@@ -294,7 +298,7 @@ fn a_bad_fast_is_never_acted_on() {
     for run_mode in [true, false] {
         for body in [0, 3, 5, 6, 7, 9, 10, 12, 13, 14, 15] {
             let mut reader = Reader::with_run_mode(run_mode);
-            let records = reader.read(&s().fast(body).lv1());
+            let records = reader.read(&Stream::new().fast(body).lv1());
             assert_eq!(records[0], rec(8, 0x1F, 0, u32::from(body)));
             assert_eq!((records.len(), records[1].time), (2, 13));
             assert_eq!(reader.state.run_mode, run_mode);
@@ -310,7 +314,7 @@ fn cal_and_sync_change_nothing() {
             reader.state.l1id = 5;
             let mut after = reader.clone();
             after.state.next_cycle = 9;
-            let records = reader.read(&s().fast(body));
+            let records = reader.read(&Stream::new().fast(body));
             assert_eq!(records, [rec(8, 0x10 + body, u8::from(run_mode), 0)]);
             assert_eq!(reader, after);
         }
@@ -329,7 +333,7 @@ fn empty_frames_end_with_field_4() {
         let mut reader = Reader::running();
         reader.state.registers[5] = cnt;
         reader.tray.fill(0x77);
-        let input = s().slow(kind - 0x20, 15).bytes();
+        let input = Stream::new().slow(kind - 0x20, 15).bytes();
         let mut list = [0; 2];
         let answer = take(
             reader.state.clone(),
@@ -357,7 +361,7 @@ fn frame_bits_fill_the_tray() {
         let mut reader = Reader::opened();
         reader.state.registers[5] = cnt;
         reader.tray.fill(0xFF);
-        let records = reader.read(&s().front_end(kind, &bits));
+        let records = reader.read(&Stream::new().front_end(kind, &bits));
         let value = (u32::from(cnt & 7) * 8) << 16 | u32::from(cnt >> 3);
         assert_eq!(records, [rec(16 + 80, 0x20 + kind, 0x01, value)]);
         assert_eq!(reader.frames, [vec![0b1011_0010, 0b1100_0000]]);
@@ -370,9 +374,9 @@ fn wr_receiver_carries_one_bit_a_cycle() {
     let mut reader = Reader::opened();
     reader.state.registers[5] = 0xFFFF;
     let bits: Vec<bool> = (0..65_528).map(|n| n % 7 < 3).collect();
-    let records = reader.read(&s().wr_receiver(&bits));
+    let records = reader.read(&Stream::new().wr_receiver(&bits));
     assert_eq!(records, [rec(16 + 65_528, 0x26, 0x01, 0x0000_FFF8)]);
-    assert_eq!(reader.frames, [s().raw(&bits).bytes()]);
+    assert_eq!(reader.frames, [Stream::new().raw(&bits).bytes()]);
     assert_eq!(reader.tray[8_191], 0);
 }
 
@@ -382,7 +386,7 @@ fn the_tray_during_a_frame() {
     let mut reader = Reader::opened();
     reader.state.registers[5] = 9 << 3;
     reader.tray.fill(0xFF);
-    let bytes = s().front_end(4, &[true; 9]).bytes();
+    let bytes = Stream::new().front_end(4, &[true; 9]).bytes();
     reader.read_part(&bytes, 0, 17, 1);
     assert_eq!(reader.tray[0], 0xFF);
     for cycle in 0..64 {
@@ -401,12 +405,11 @@ fn unsteady_groups() {
         for wrong in 0..24 {
             let mut reader = Reader::opened();
             reader.state.registers[5] = 3 << 3;
-            let mut stream = s().front_end(kind, &[true, false, true]);
+            let mut stream = Stream::new().front_end(kind, &[true, false, true]);
             stream.bits[17 + wrong] ^= true;
             let records = reader.read(&stream.slow(kind, 0).zeros(24));
-            let seen: Vec<u8> = records.iter().map(|record| record.flags).collect();
             // The next frame's groups are steady again.
-            assert_eq!(seen, [0x11, 0x01], "bit {wrong}");
+            assert_eq!(flags_of(&records), [0x11, 0x01], "bit {wrong}");
             // The first of the eight decides.
             let flipped = if wrong % 8 == 0 {
                 0x80 >> (wrong / 8)
@@ -419,8 +422,8 @@ fn unsteady_groups() {
     // No groups in a WrReceiver.
     let mut reader = Reader::opened();
     reader.state.registers[5] = 1;
-    let records = reader.read(&s().slow(6, 0).pattern("01010101"));
-    assert_eq!(short(&records), [(0x26, 0x01, 8)]);
+    let records = reader.read(&Stream::new().slow(6, 0).pattern("01010101"));
+    assert_eq!(without_time(&records), [(0x26, 0x01, 8)]);
 }
 
 #[test]
@@ -430,7 +433,7 @@ fn global_reset_fe_changes_nothing() {
         reader.state.registers[6] = 6;
         let mut after = reader.clone();
         after.state.next_cycle = 21;
-        let records = reader.read(&s().reset_fe(width));
+        let records = reader.read(&Stream::new().reset_fe(width));
         assert_eq!(records, [rec(20, 0x2A, 0x01, u32::from(width) * 2 + 1)]);
         assert_eq!(reader, after);
     }
@@ -440,23 +443,31 @@ fn global_reset_fe_changes_nothing() {
 fn field_4_is_ignored_where_it_is_not_used() {
     for field4 in 0..16 {
         for field3 in [8, 9] {
-            let records = read(s().slow(field3, field4));
+            let records = read(Stream::new().slow(field3, field4));
             assert_eq!(records, [(0x20 + field3, 1, 0)]);
         }
-        assert_eq!(read(s().slow(2, field4).number(5, 27)), [(0x22, 1, 5)]);
-        assert_eq!(read(s().slow(10, field4).number(5, 4)), [(0x2A, 1, 11)]);
-        assert_eq!(read(s().slow(7, field4)), [(0x2F, 0, 7)]);
+        assert_eq!(
+            read(Stream::new().slow(2, field4).number(5, 27)),
+            [(0x22, 1, 5)]
+        );
+        assert_eq!(
+            read(Stream::new().slow(10, field4).number(5, 4)),
+            [(0x2A, 1, 11)]
+        );
+        assert_eq!(read(Stream::new().slow(7, field4)), [(0x2F, 0, 7)]);
     }
 }
 
 #[test]
 fn bits_of_fields_do_not_enter_the_window() {
     // Field 5 full of LV1, and zeros after: nothing but its own record.
-    let stream = s().wr_register(1, 0b1110_1111_0111_1011).zeros(10);
+    let stream = Stream::new()
+        .wr_register(1, 0b1110_1111_0111_1011)
+        .zeros(10);
     assert_eq!(read(stream), [(0x20, 1, 0x0001_EF7B)]);
     // A window starts empty after each command.
     assert_eq!(
-        read(s().wr_register(1, 3).pattern("0100")),
+        read(Stream::new().wr_register(1, 3).pattern("0100")),
         [(0x20, 1, 0x0001_0003)]
     );
 }
@@ -464,7 +475,7 @@ fn bits_of_fields_do_not_enter_the_window() {
 /// A window equal to a pattern acts only after the next bit.
 #[test]
 fn a_window_acts_after_its_bit() {
-    for (window, bit, seen) in [
+    for (window, bit, flags) in [
         (0b11101, "1", None),
         (0b11110, "1", Some(0x05)),
         (0b10110, "0", None),
@@ -474,7 +485,7 @@ fn a_window_acts_after_its_bit() {
         let records = reader.read(&stream(bit));
         assert_eq!(
             records.first().map(|record| record.flags),
-            seen,
+            flags,
             "{window:05b}"
         );
     }
@@ -490,13 +501,13 @@ fn every_window() {
             window: window >> 1,
         };
         let records = reader.read(&Stream::new().raw(&[window & 1 == 1]));
-        let seen: Vec<u8> = records.iter().map(|record| record.flags).collect();
+        let flags = flags_of(&records);
         if exact.contains(&window) {
-            assert_eq!(seen, [5]);
+            assert_eq!(flags, [5]);
         } else if flip.contains(&window) {
-            assert_eq!(seen, [7]);
+            assert_eq!(flags, [7]);
         } else {
-            assert_eq!(seen, [0; 0]);
+            assert_eq!(flags, [0; 0]);
         }
         let header = reader.state.recogniser
             == Recogniser::Body {
@@ -588,7 +599,7 @@ fn the_last_cycle_has_a_record() {
     state.run_mode = true;
     state.base_cycle = 0;
     let mut reader = Reader::new(state);
-    let records = reader.read(&s().lv1());
+    let records = reader.read(&Stream::new().lv1());
     assert_eq!(records, [rec(CLOCK_LIMIT - 1, 0x01, 0x05, 0xFF)]);
     assert_eq!(records[0].words(), [0xFFFF_FFFF_FFFF_0105, 0xFF]);
     assert_eq!(reader.state.next_cycle, CLOCK_LIMIT);

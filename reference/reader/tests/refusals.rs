@@ -94,7 +94,7 @@ fn number_2() {
     );
 }
 
-/// A call's arguments, so that a test can spoil them one by one.
+/// A call's arguments, so that a test can change them one by one.
 #[derive(Clone)]
 struct Call {
     state: State,
@@ -155,7 +155,7 @@ impl Call {
 type Change = fn(&mut Call);
 
 /// Changes by which a call is turned away, with the number.
-const SPOILT: [(u8, Change); 22] = [
+const UNFIT: [(u8, Change); 22] = [
     (3, |call| call.state.l1id = 256),
     (3, |call| call.state.next_cycle = u64::MAX),
     (3, |call| call.state.base_cycle = u64::MAX),
@@ -207,7 +207,7 @@ const FIT: [(Ending, Change); 12] = [
 
 #[test]
 fn numbers_3_to_6_just_outside() {
-    for (place, (number, change)) in SPOILT.into_iter().enumerate() {
+    for (place, (number, change)) in UNFIT.into_iter().enumerate() {
         let call = Call::good().with(change);
         assert_eq!(call.ending(), Ending::Refused(number), "change {place}");
         // Also with a count of 0, where the count is not the fault.
@@ -227,11 +227,11 @@ fn numbers_3_to_6_just_inside() {
 
 #[test]
 fn the_lowest_number_wins() {
-    for (higher, spoil_more) in SPOILT {
-        for (lower, spoil) in SPOILT {
+    for (higher, higher_change) in UNFIT {
+        for (lower, lower_change) in UNFIT {
             if lower < higher {
                 // The lower number's change comes last, so that it stands.
-                let call = Call::good().with(spoil_more).with(spoil);
+                let call = Call::good().with(higher_change).with(lower_change);
                 assert_eq!(
                     call.ending(),
                     Ending::Refused(lower),
