@@ -1,8 +1,7 @@
 //! The golden files: writing them, and seeing every change of them.
 
 use cases::{golden, Case};
-use compare::golden::check::check;
-use compare::golden::{strays, write};
+use compare::golden::{check, strays, write};
 use compare::programs::fault::Fault;
 use compare::programs::scratch::Scratch;
 use std::fs;
@@ -35,8 +34,8 @@ fn every_change_of_a_golden_file_shows() {
     assert_eq!(failed(&folder, &cases), []);
 
     let listing = folder.join("paper/listing.station");
-    let kept = fs::read(&listing).unwrap();
-    fs::write(&listing, &kept[1..]).unwrap();
+    let contents = fs::read(&listing).unwrap();
+    fs::write(&listing, &contents[1..]).unwrap();
     let faults = failed(&folder, &cases);
     assert_eq!(faults.len(), 1);
     assert_eq!(faults[0].0, "golden file paper/listing.station");
@@ -46,7 +45,7 @@ fn every_change_of_a_golden_file_shows() {
     let faults = failed(&folder, &cases);
     assert!(matches!(&faults[..], [(_, Fault::Unreadable(_))]));
 
-    fs::write(&listing, kept).unwrap();
+    fs::write(&listing, contents).unwrap();
     assert_eq!(failed(&folder, &cases), []);
 
     // A case that is no more leaves its files behind.

@@ -40,8 +40,8 @@ fn the_example_has_every_kind_and_flag() {
         kinds.insert(&record[13..15]);
         flags |= u8::from_str_radix(&record[16..18], 16).unwrap();
     }
-    let wanted = "01 11 12 14 18 1F 20 21 22 23 24 25 26 28 29 2A 2F";
-    assert_eq!(kinds, wanted.split(' ').collect());
+    let expected = "01 11 12 14 18 1F 20 21 22 23 24 25 26 28 29 2A 2F";
+    assert_eq!(kinds, expected.split(' ').collect());
     assert_eq!(flags, 0x1F);
 }
 

@@ -2,7 +2,7 @@
 
 use crate::{code, generate, Case, Random, Stream};
 
-/// Longest frame, in bits, whose files are kept.
+/// Longest frame, in bits, that has golden files.
 const GOLDEN_BITS: u32 = 64;
 
 /// Name and CNT of a front-end frame.

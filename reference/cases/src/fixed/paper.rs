@@ -162,7 +162,7 @@ fn marked(number: u8, bits: &str) -> [Case; 2] {
     ]
 }
 
-/// A row of a table; kept in RunMode, where its records say more.
+/// A row of a table; golden in RunMode, where its records say more.
 fn received(table: u8, row: u8, bits: &str, run_mode: bool) -> Case {
     let mode = run_mode_name(run_mode);
     let digits = bits.replace(['_', '.'], "-");

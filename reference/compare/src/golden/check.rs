@@ -17,7 +17,7 @@ pub fn check(folder: &Path, cases: &[Case]) -> Vec<Check> {
     let mut checks = Vec::new();
     for (path, expected) in cases.iter().flat_map(files) {
         let fault = match fs::read(folder.join(&path)) {
-            Ok(kept) => difference(&expected, &kept).map(Fault::Differs),
+            Ok(contents) => difference(&expected, &contents).map(Fault::Differs),
             Err(error) => Some(Fault::Unreadable(error.to_string())),
         };
         checks.push(check(&path, fault));

@@ -1,6 +1,8 @@
 //! The golden files of cases: each input with what the three programs print.
 
-pub mod check;
+mod check;
+
+pub use check::check;
 
 use crate::printed::printed;
 use cases::Case;

@@ -19,11 +19,11 @@ const BLOCK: usize = 1 << 20;
 /// Asks a driver for calls. Another thread compares the replies.
 pub struct Checker {
     input: ChildStdin,
-    pending: SyncSender<Check>,
+    pending: SyncSender<Pending>,
 }
 
-/// A check that is still to be counted.
-enum Check {
+/// A check that is not counted yet.
+enum Pending {
     /// Waits for the driver's reply.
     Call {
         name: String,
@@ -68,18 +68,18 @@ impl Checker {
 
     /// Counts what was decided without the driver.
     pub fn report(&mut self, name: String, fault: Option<String>) -> io::Result<()> {
-        self.send(Check::Decided { name, fault })
+        self.send(Pending::Decided { name, fault })
     }
 
     /// Writes first, so that no reply is waited for that was not asked for.
     fn ask(&mut self, name: String, request: Vec<u8>, expected: &Arc<Expected>) -> io::Result<()> {
         let written = self.input.write_all(&request);
         let expected = Arc::clone(expected);
-        self.send(Check::Call { name, expected })?;
+        self.send(Pending::Call { name, expected })?;
         written
     }
 
-    fn send(&mut self, check: Check) -> io::Result<()> {
+    fn send(&mut self, check: Pending) -> io::Result<()> {
         self.pending.send(check).map_err(io::Error::other)
     }
 }
@@ -124,17 +124,17 @@ pub fn run(
 /// Compares each reply with what is expected, until one does not come.
 fn judge(
     mut output: impl Read,
-    checks: Receiver<Check>,
+    checks: Receiver<Pending>,
     mut count: impl FnMut(String, Option<String>),
 ) {
     let mut reply = Vec::new();
     for check in checks {
         let (name, expected) = match check {
-            Check::Decided { name, fault } => {
+            Pending::Decided { name, fault } => {
                 count(name, fault);
                 continue;
             }
-            Check::Call { name, expected } => (name, expected),
+            Pending::Call { name, expected } => (name, expected),
         };
         reply.resize(reply_bytes(&expected), 0);
         if let Err(error) = output.read_exact(&mut reply) {

@@ -29,7 +29,7 @@ pub fn compare(programs: &Path, golden_folder: &Path) -> io::Result<Tally> {
     let cases = [fixed(), generated(GENERATED)].concat();
 
     let mut tally = Tally::default();
-    tally.add(golden::check::check(golden_folder, &cases::golden()));
+    tally.add(golden::check(golden_folder, &cases::golden()));
     for checks in pool::each(&live::cases(), |live| live::check(&under_test, live)) {
         tally.add(checks);
     }
