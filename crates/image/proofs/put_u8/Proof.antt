@@ -1,19 +1,19 @@
--- `put_pointers` puts its numbers one after the other.
+-- `put_u8` puts its numbers one after the other.
 -- Assumes nothing.
 use Prim.Native.Nat.{_-_}
 use borrow.Author.Needs.{needs}
-use Rattle.image.proofs.Puts.{Left, begun, again, over}
-use Rattle.image.proofs.put_pointers.Statement.{statement}
-use Rattle.image.proofs.put_pointers.Tie as tie
+use Rattle.image.proofs.WriteLoop.{Invariant, initially, again, over}
+use Rattle.image.proofs.put_u8.Statement.{statement}
+use Rattle.image.proofs.put_u8.Tie as tie
 
 abbrev Inv-loop : tie.InvT-loop
-Inv-loop image₀ at pointers n₀ image n = Left image₀ at pointers image n
+Inv-loop image₀ at numbers n₀ image n = Invariant image₀ at numbers image n
 
 abbrev μ-loop : tie.MeasureT-loop
-μ-loop image₀ at pointers n₀ image n = 16 - n
+μ-loop image₀ at numbers n₀ image n = 16 - n
 
 loop-holds : tie.Need-loop-holds Inv-loop μ-loop
-loop-holds c = begun _ _ _
+loop-holds c = initially _ _ _
 
 array-read-image : tie.Need-array-read-image Inv-loop μ-loop
 array-read-image c = search needs
@@ -45,8 +45,8 @@ same-length c = c .before .loop .inv .same
 returns : tie.Need-returns Inv-loop μ-loop
 returns c = over (c .before .loop .inv) (search needs) (c .loop-test .left)
 
-pub put-pointers-spec : {M : Type 1} → statement M
-put-pointers-spec =
+pub put-u8-spec : {M : Type 1} → statement M
+put-u8-spec =
     tie.close
     (tie.spec
     Inv-loop

@@ -1,4 +1,4 @@
--- Two lists of as many words, compared one after the other.
+-- A loop that compares two lists of as many words: what is left of them from the present place on decides as the whole does.
 -- Assumes nothing.
 use mathlib.Core.Bool.{true, false}
 use mathlib.Core.List.{List, _∷_}
@@ -11,25 +11,24 @@ use lib.Seq.{drop-cons}
 use borrow.Author.Tests.{eq-eqb, ne-eqb}
 use Rattle.image.specs.Image.{sameWords}
 
--- What is left from k on decides as the whole does.
-pub record Left (a b : List ℕ) (k : ℕ) : Type 0 where
+pub record Invariant (a b : List ℕ) (k : ℕ) : Type 0 where
   pub low : k ≤ length a
   pub rest : sameWords (drop k a) (drop k b) ≡ sameWords a b
 
-pub begun : (a b : List ℕ) → Left a b 0
-begun a b = record { low = omega arith; rest = refl }
+pub initially : (a b : List ℕ) → Invariant a b 0
+initially a b = record { low = omega arith; rest = refl }
 
-module _ {a b : List ℕ} {k : ℕ} (l : Left a b k) (count : length a ≡ length b) where
+module _ {a b : List ℕ} {k : ℕ} (i : Invariant a b k) (count : length a ≡ length b) where
   opened : k < length a → sameWords (getD a k 0 ∷ drop (suc k) a) (getD b k 0 ∷ drop (suc k) b) ≡ sameWords a b
-  opened more = rw (drop-cons a k 0 more, drop-cons b k 0 (omega (arith, count, more))) at (l .rest)
+  opened more = rw (drop-cons a k 0 more, drop-cons b k 0 (omega (arith, count, more))) at (i .rest)
 
   pub differ : k < length a → (getD a k 0 ≡ getD b k 0 → ⊥) → false ≡ sameWords a b
   differ more h = simp (ne-eqb (getD a k 0) (getD b k 0) h) at (opened more)
 
-  pub again : k < length a → getD a k 0 ≡ getD b k 0 → Left a b (k + 1)
+  pub again : k < length a → getD a k 0 ≡ getD b k 0 → Invariant a b (k + 1)
   again more e =
       record { low = omega (arith, more); rest = rw (add-one k) (simp (eq-eqb (getD a k 0) (getD b k 0) e) at (opened more)) }
 
   pub over : length a ≤ k → true ≡ sameWords a b
   over h =
-      rw (drop-of-length-le a {i = k} h, drop-of-length-le b {i = k} (omega (arith, count, h))) at (l .rest)
+      rw (drop-of-length-le a {i = k} h, drop-of-length-le b {i = k} (omega (arith, count, h))) at (i .rest)

@@ -1,19 +1,19 @@
--- `put_registers` puts its numbers one after the other.
+-- `put_u16` puts its numbers one after the other.
 -- Assumes nothing.
 use Prim.Native.Nat.{_-_}
 use borrow.Author.Needs.{needs}
-use Rattle.image.proofs.Puts.{Left, begun, again, over}
-use Rattle.image.proofs.put_registers.Statement.{statement}
-use Rattle.image.proofs.put_registers.Tie as tie
+use Rattle.image.proofs.WriteLoop.{Invariant, initially, again, over}
+use Rattle.image.proofs.put_u16.Statement.{statement}
+use Rattle.image.proofs.put_u16.Tie as tie
 
 abbrev Inv-loop : tie.InvT-loop
-Inv-loop image₀ at registers n₀ image n = Left image₀ at registers image n
+Inv-loop image₀ at numbers n₀ image n = Invariant image₀ at numbers image n
 
 abbrev μ-loop : tie.MeasureT-loop
-μ-loop image₀ at registers n₀ image n = 16 - n
+μ-loop image₀ at numbers n₀ image n = 16 - n
 
 loop-holds : tie.Need-loop-holds Inv-loop μ-loop
-loop-holds c = begun _ _ _
+loop-holds c = initially _ _ _
 
 mul-image : tie.Need-mul-image Inv-loop μ-loop
 mul-image c = search needs
@@ -48,8 +48,8 @@ same-length c = c .before .loop .inv .same
 returns : tie.Need-returns Inv-loop μ-loop
 returns c = over (c .before .loop .inv) (search needs) (c .loop-test .left)
 
-pub put-registers-spec : {M : Type 1} → statement M
-put-registers-spec =
+pub put-u16-spec : {M : Type 1} → statement M
+put-u16-spec =
     tie.close
     (tie.spec
     Inv-loop
