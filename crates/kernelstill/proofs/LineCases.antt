@@ -52,7 +52,9 @@ module _ (head value : ℕ) (line after : List ℕ) (next : ℕ) (e : block afte
   unfolding recordResultOf
   line-left-out z =
       ⊎-elim
-      (λ (f : leb (length text) (length line) ≡ true). let moved = ap (λ (b : Block). b .next) (fit f) in absurd (omega (arith, z, moved, record-length head value)))
+      (λ (f : leb (length text) (length line) ≡ true).
+      let moved = ap (λ (b : Block). b .next) (fit f) in
+      absurd (omega (arith, z, moved, record-length head value)))
       (λ (f : leb (length text) (length line) ≡ false). simp f (ap (λ (b : Block). lineResult 4 (b .bytes)) (over f)))
       (cases (leb (length text) (length line)))
 

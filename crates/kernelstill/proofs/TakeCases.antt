@@ -13,7 +13,7 @@ use Rattle.decoder.specs.Sound.{soundOf}
 use Rattle.taking.specs.Take.{Call, CallResult, takeOf, endingNumber}
 use Rattle.taking.proofs.SoundnessKept.{take-sound}
 use Rattle.image.specs.Image.{imageLength, imageOf, stateOf, imageFits}
-use Rattle.image.proofs.Images.{fits-length, written-fits}
+use Rattle.image.proofs.RoundTrip.{fits-length, written-fits}
 use Rattle.kernelstill.specs.Take.{TakeResult, takeResult, resultLength, resultWords, refusedCall, answered, soundImage, takeResultOf, Holds}
 
 -- An image that was written holds the state, if that is sound.
