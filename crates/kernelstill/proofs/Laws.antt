@@ -24,7 +24,7 @@ use Rattle.hexlines.specs.Line.{Read, hexNumber, readAs, readOf}
 use Rattle.listing.specs.Digits.{charactersOf}
 use Rattle.listing.specs.Records.{numbersLine, recordLine}
 use Rattle.image.specs.Image.{imageLength, imageOf, stateOf, imageFits}
-use Rattle.image.proofs.Images.{fits-length, written-fits}
+use Rattle.image.proofs.RoundTrip.{fits-length, written-fits}
 use Rattle.kernelstill.specs.Open.{OpenLeft, openedInto}
 use Rattle.kernelstill.specs.Take.{TakeLeft, resultLength, resultOf, refusedCall, answered, soundImage, takeLeftOf, Holds}
 use Rattle.kernelstill.specs.Lines.{LineLeft, hexLeftOf, recordLeftOf}

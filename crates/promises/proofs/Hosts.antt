@@ -14,8 +14,8 @@ use Rattle.taking.specs.declared.Ending.{Ending}
 use Rattle.taking.specs.Take.{Call, Left, refused, takeOf, endingNumber}
 use Rattle.taking.proofs.Refusals.{unsound}
 use Rattle.image.specs.Image.{imageLength, imageOf, stateOf, Widths}
-use Rattle.image.proofs.Images.{image-fits, read-back}
-use Rattle.image.proofs.Forms.{formed, formed-fits}
+use Rattle.image.proofs.RoundTrip.{image-fits, read-back}
+use Rattle.image.proofs.WellFormed.{formed, formed-fits}
 use Rattle.kernelstill.specs.Open.{emptyPlan, openLeftOf}
 use Rattle.kernelstill.specs.Take.{TakeLeft, resultLength, refusedCall, answered, soundImage, takeLeftOf}
 use Rattle.promises.specs.Hosts.{RoundTrip, SameOpening, Unchanged, HostPromise}
