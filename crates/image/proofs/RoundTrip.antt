@@ -3,9 +3,8 @@
 use mathlib.Core.Bool.{Bool, true, false}
 use mathlib.Core.List.{List, [], _∷_, _++_, append-assoc}
 use mathlib.Core.Path.{_≡_, refl, ap, ap₂, sym, fun-ext, _∙_}
-use Prim.Native.Nat.{ℕ, zero, suc, _+_, _≤_, _<_}
+use Prim.Native.Nat.{ℕ, _+_, _<_}
 use Prim.Native.String.{String}
-use native.Mathlib.Nat.{not-suc-le-zero, le-of-suc-le-suc}
 use native.Mathlib.Omega.{arith}
 use lib.Dec.{eqb}
 use lib.ListN.{length, getD, replicate, length-append, length-replicate, getD-replicate, List·getD-append}
@@ -17,9 +16,8 @@ use Rattle.bits.proofs.Truth.{both}
 use Rattle.recogniser.specs.declared.Phase.{Phase}
 use Rattle.recogniser.specs.declared.Phase.the-variants.{Hunt, Body, Field3, Field4, Field5}
 use Rattle.decoder.specs.declared.Decoder.{Decoder}
-use Rattle.image.specs.Fields.{Limit, whole, upTo, Field, number, flag, phase, array, fields, phaseNumber, phaseOf, nameOf, size, limitOf, numbersIn, Numbers, stateFrom}
-use Rattle.image.specs.Image.{imageLength, layout, wordsOf, limitsOf, imageOf, lowWords, numbersFrom, stateOf}
-use Rattle.image.specs.Image.{sameWords, imageFits, Keeps, NumbersKeep, ArraysKeep, Widths}
+use Rattle.image.specs.Fields.{whole, Field, fields, phaseNumber, phaseOf, nameOf, size, limitOf, numbersIn, Numbers, stateFrom}
+use Rattle.image.specs.Image.{imageLength, layout, wordsOf, imageOf, lowWords, numbersFrom, stateOf, sameWords, imageFits, Widths}
 use Rattle.image.proofs.LowWords.{low-words-same}
 use Rattle.image.proofs.Widths.{Within, WithinAll, within, image-length}
 

@@ -12,7 +12,7 @@ use lib.Seq.{drop-cons, getD-drop}
 use mir.Val.{boolByte}
 use borrow.Author.Tests.{eqb-true}
 use Rattle.bits.proofs.Truth.{both}
-use Rattle.image.specs.Fields.{Limit, whole, phaseNumber, phaseOf}
+use Rattle.image.specs.Fields.{whole, phaseNumber, phaseOf}
 use Rattle.image.specs.Image.{imageLength, layout, limits, imageOf, lowWords, stateOf, sameWords, imageFits, Keeps, Formed}
 use Rattle.image.proofs.LowWords.{low-keeps, low-at, low-words-same}
 use Rattle.image.proofs.RoundTrip.{fits-length, written-fits}

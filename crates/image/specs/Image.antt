@@ -4,13 +4,14 @@
 use mathlib.Core.Bool.{Bool, true, false, _&&_}
 use mathlib.Core.List.{List, [], _∷_, _++_}
 use mathlib.Core.Path.{_≡_, refl}
-use Prim.Native.Nat.{ℕ, zero, suc, _+_, _%_, _^_, _≤_, _<_}
+use Prim.Native.Nat.{ℕ, suc, _+_, _%_, _^_, _≤_, _<_}
 use Prim.Native.String.{String}
 use lib.Dec.{eqb}
 use lib.ListN.{length, getD, replicate}
 use lib.Text.{eqt}
 use Rattle.decoder.specs.declared.Decoder.{Decoder}
-use Rattle.image.specs.Fields.{Limit, whole, bits, upTo, Field, number, flag, phase, array, scalars, fields, nameOf, size, limitOf, numbersIn, Numbers, stateFrom}
+use Rattle.image.specs.Fields.{Limit, whole, bits, upTo, Field, number, flag, phase, array, scalars, fields}
+use Rattle.image.specs.Fields.{nameOf, size, limitOf, numbersIn, Numbers, stateFrom}
 
 -- The layout's number stands first, so that an image of another layout is not misread.
 abbrev pub layout : ℕ

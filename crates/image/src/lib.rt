@@ -260,6 +260,7 @@ pub fn read(image: &[u64]) -> Decoder
     requires { ⌜ length (now image) ≡ imageLength ⌝ }
     ensures { λ r. ⌜ r ≡ stateOf (now (image .entry)) ⌝ }
 {
+    let next = image[NEXT];
     let phase = phase_of(image[PHASE] % 5);
     let registers = u16_at(image, REGISTERS);
     let pointers = Pointers {
@@ -268,7 +269,7 @@ pub fn read(image: &[u64]) -> Decoder
     };
     Decoder {
         plan: plan_at(image),
-        next: image[NEXT],
+        next: next,
         recogniser: recogniser_at(image, phase),
         model: model_at(image, registers, pointers),
     }

@@ -5,6 +5,9 @@ use Rattle.image.specs.Image.{stateOf}
 use Rattle.image.proofs.read.Statement.{statement}
 use Rattle.image.proofs.read.Tie as tie
 
+shared-slice-read-next : tie.Need-shared-slice-read-next
+shared-slice-read-next c = search needs
+
 shared-slice-read-phase-of : tie.Need-shared-slice-read-phase-of
 shared-slice-read-phase-of c = search needs
 
@@ -23,9 +26,6 @@ u8-at-requires-2 c κs = search needs
 plan-at-requires : tie.Need-plan-at-requires
 plan-at-requires c κs = search needs
 
-shared-slice-read-t6 : tie.Need-shared-slice-read-t6
-shared-slice-read-t6 c = search needs
-
 recogniser-at-requires : tie.Need-recogniser-at-requires
 recogniser-at-requires c κs = search needs
 
@@ -35,7 +35,7 @@ model-at-requires c κs = search needs
 returns : tie.Need-returns
 unfolding stateOf
 returns c =
-    let p = c .before .before .before in
+    let p = c .before .before in
     rw (
       c .model-at .ensures,
       c .before .recogniser-at .ensures,
@@ -50,13 +50,13 @@ pub read-spec : {M : Type 1} → statement M
 read-spec =
     tie.close
     (tie.spec
+    shared-slice-read-next
     shared-slice-read-phase-of
     phase-of-requires
     u16-at-requires
     u8-at-requires
     u8-at-requires-2
     plan-at-requires
-    shared-slice-read-t6
     recogniser-at-requires
     model-at-requires
     returns)
