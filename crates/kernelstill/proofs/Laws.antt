@@ -17,12 +17,12 @@ use Rattle.decoder.specs.Opening.{openingNumber}
 use Rattle.decoder.specs.Sound.{soundOf}
 use Rattle.taking.specs.Take.{Call, Left, takeOf, endingNumber}
 use Rattle.taking.proofs.Stays.{take-sound}
-use Rattle.output.specs.Block.{Block, block, putOf}
-use Rattle.output.proofs.Puts.{put-fits, put-over}
+use Rattle.output.specs.Block.{Block, block, putIfFits}
+use Rattle.output.proofs.Pieces.{put-when-fits, put-when-full}
 use Rattle.hexlines.specs.declared.HexLine.{HexLine}
 use Rattle.hexlines.specs.Line.{Read, hexNumber, readAs, readOf}
 use Rattle.layout.specs.Digits.{charactersOf}
-use Rattle.layout.specs.Records.{numbersLine, recordLine}
+use Rattle.layout.specs.ListingLines.{numbersLine, recordLine}
 use Rattle.image.specs.Image.{imageLength, imageOf, stateOf, imageFits}
 use Rattle.image.proofs.Images.{fits-length, written-fits}
 use Rattle.kernelstill.specs.Open.{OpenLeft, openedInto}
@@ -117,7 +117,7 @@ record-length : (head value : ℕ) → length (recordLine head value) ≡ 28
 unfolding numbersLine charactersOf
 record-length head value = refl
 
-module _ (head value : ℕ) (line left : List ℕ) (next : ℕ) (e : block left next ≡ putOf line 0 (recordLine head value)) where
+module _ (head value : ℕ) (line left : List ℕ) (next : ℕ) (e : block left next ≡ putIfFits line 0 (recordLine head value)) where
   abbrev text : List ℕ
   text = recordLine head value
 
@@ -125,12 +125,12 @@ module _ (head value : ℕ) (line left : List ℕ) (next : ℕ) (e : block left 
   fit : leb (length text) (length line) ≡ true → block left next ≡ block (sets line 0 text) (0 + length text)
   fit f =
       let room : 0 + length text ≤ length line = omega (arith, leb-true (length text) (length line) f) in
-      e ∙ put-fits line 0 text room
+      e ∙ put-when-fits line 0 text room
 
   over : leb (length text) (length line) ≡ false → block left next ≡ block line 0
   over f =
       let short : length line < 0 + length text = omega (arith, leb-false (length text) (length line) f) in
-      e ∙ put-over line 0 text short
+      e ∙ put-when-full line 0 text short
 
   pub line-left-out : next ≡ 0 → lineLeft 4 left ≡ recordLeftOf head value line
   unfolding recordLeftOf

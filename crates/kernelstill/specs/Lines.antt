@@ -6,8 +6,8 @@ use Prim.Native.Nat.{ℕ}
 use lib.Dec.{ltb, leb}
 use lib.ListN.{length}
 use lib.Seq.{sets}
-use Rattle.hexlines.specs.Line.{hexOf}
-use Rattle.layout.specs.Records.{recordLine}
+use Rattle.hexlines.specs.Line.{lineMeaning}
+use Rattle.layout.specs.ListingLines.{recordLine}
 
 -- A refusal number, 0 for none, and the buffer's later contents.
 pub record LineLeft : Type 0 where
@@ -18,7 +18,7 @@ pub record LineLeft : Type 0 where
 unfoldable pub hexLeftOf : List ℕ → List ℕ → LineLeft
 hexLeftOf line bytes =
     cond (ltb (length bytes) 32) (record { number = 4; bytes = bytes })
-    (record { number = hexOf line .number; bytes = sets bytes 0 (hexOf line .bytes) })
+    (record { number = lineMeaning line .number; bytes = sets bytes 0 (lineMeaning line .bytes) })
 
 -- A record's line at the buffer's start; number 4 where it has no room.
 unfoldable pub recordLeftOf : ℕ → ℕ → List ℕ → LineLeft

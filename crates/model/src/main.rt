@@ -1,11 +1,12 @@
-// The program `model`: hexadecimal lines in; a line a record out, and at the end the controller as the commands left it.
-use program::Prints;
+// The program `model`: hexadecimal lines in; one line per record out, and at the end the controller as the commands left it.
+use decoder::Decoder;
+use program::PrintOptions;
 
 fn main() {
-    let mut store = [0u32; 2048];
-    let mut tray = [0u8; 8192];
+    let mut store = [0u32; Decoder::STORE_LENGTH];
+    let mut tray = [0u8; Decoder::TRAY_LENGTH];
     program::run(
-        Prints {
+        PrintOptions {
             frames: false,
             state: true,
         },

@@ -1,11 +1,12 @@
-// The program `reading`: hexadecimal lines in; a line a record out.
-use program::Prints;
+// The program `reading`: hexadecimal lines in; one line per record out.
+use decoder::Decoder;
+use program::PrintOptions;
 
 fn main() {
-    let mut store = [0u32; 2048];
-    let mut tray = [0u8; 8192];
+    let mut store = [0u32; Decoder::STORE_LENGTH];
+    let mut tray = [0u8; Decoder::TRAY_LENGTH];
     program::run(
-        Prints {
+        PrintOptions {
             frames: false,
             state: false,
         },

@@ -1,11 +1,12 @@
-// The program `station`: hexadecimal lines in; a line a record and a line a frame out.
-use program::Prints;
+// The program `station`: hexadecimal lines in; one line per record and one per frame out.
+use decoder::Decoder;
+use program::PrintOptions;
 
 fn main() {
-    let mut store = [0u32; 2048];
-    let mut tray = [0u8; 8192];
+    let mut store = [0u32; Decoder::STORE_LENGTH];
+    let mut tray = [0u8; Decoder::TRAY_LENGTH];
     program::run(
-        Prints {
+        PrintOptions {
             frames: true,
             state: false,
         },

@@ -8,13 +8,13 @@ use lib.ListN.{length, drop, drop-of-length-le}
 use lib.Seq.{drop-cons}
 use borrow.Author.Needs.{needs}
 use borrow.Author.Tests.{eq-eqb, ne-eqb}
-use Rattle.hexlines.specs.Lines.{upToFeed}
+use Rattle.hexlines.specs.Lines.{upToLineFeed}
 use Rattle.hexlines.proofs.line_end.Statement.{statement}
 use Rattle.hexlines.proofs.line_end.Tie as tie
 
 abbrev Inv-loop : tie.InvT-loop
 Inv-loop block at end₀ end =
-    (end ≤ length block) × (end + length (upToFeed (drop end block)) ≡ at + length (upToFeed (drop at block)))
+    (end ≤ length block) × (end + length (upToLineFeed (drop end block)) ≡ at + length (upToLineFeed (drop at block)))
 
 abbrev μ-loop : tie.MeasureT-loop
 μ-loop block at end₀ end = length block - end
@@ -26,7 +26,7 @@ shared-slice-read-if1 : tie.Need-shared-slice-read-if1 Inv-loop μ-loop
 shared-slice-read-if1 c = search needs
 
 returns : tie.Need-returns Inv-loop μ-loop
-unfolding upToFeed
+unfolding upToLineFeed
 returns c =
     let t = c .before .before in
     let l = t .before .loop in
@@ -40,7 +40,7 @@ loop-less : tie.Need-loop-less Inv-loop μ-loop
 loop-less c = search needs
 
 loop-again : tie.Need-loop-again Inv-loop μ-loop
-unfolding upToFeed
+unfolding upToLineFeed
 loop-again c =
     let t = c .before .before in
     let l = t .before .loop in
@@ -48,7 +48,7 @@ loop-again c =
     (omega arith, rw add-one (omega arith))
 
 returns-2 : tie.Need-returns-2 Inv-loop μ-loop
-unfolding upToFeed
+unfolding upToLineFeed
 returns-2 c =
     let h = rw (drop-of-length-le _ (c .loop-test .left)) at (c .before .loop .inv .1) in
     omega arith
