@@ -8,9 +8,9 @@ use native.Mathlib.Nat.{add-zero, add-sub-cancel-left}
 use native.Mathlib.Numerals.{add-one}
 use native.Mathlib.Omega.{arith}
 use lib.Dec.{ltb, eqb, leb·suc-suc, eqb·suc-zero}
-use lib.ListN.{length, take, drop, length-drop}
-use lib.Seq.{drop-drop}
-use borrow.Author.Tests.{ltb-true, ltb-false, lt-ltb, le-ltb}
+use lib.ListN.{length, getD, take, drop, length-drop, drop-of-length-le}
+use lib.Seq.{drop-cons, drop-drop}
+use borrow.Author.Tests.{ltb-true, ltb-false, lt-ltb, le-ltb, eq-eqb, ne-eqb}
 use Rattle.bits.proofs.Truth.{choice, choice-under}
 use Rattle.output.specs.Ascii.{lineFeed}
 use Rattle.hexlines.specs.declared.LineSoFar.{LineSoFar}
@@ -76,6 +76,20 @@ unfolding upToLineFeed
 ahead-take [] = refl
 ahead-take (c ∷ cs) = choice (λ (l : List ℕ). take (length l) (c ∷ cs) ≡ l) (eqb c lineFeed) (λ t. refl) (λ f. ap (λ (l : List ℕ). c ∷ l) (ahead-take cs))
 
+-- by the character at a place
+module _ (block : List ℕ) (at : ℕ) (h : at < length block) where
+  pub ahead-none : getD block at 0 ≡ lineFeed → length (upToLineFeed (drop at block)) ≡ 0
+  unfolding upToLineFeed
+  ahead-none e = simp (drop-cons block at 0 h, eq-eqb (getD block at 0) lineFeed e)
+
+  pub ahead-more : (getD block at 0 ≡ lineFeed → ⊥) → length (upToLineFeed (drop at block)) ≡ 1 + length (upToLineFeed (drop (at + 1) block))
+  unfolding upToLineFeed
+  ahead-more n = simp (drop-cons block at 0 h, ne-eqb (getD block at 0) lineFeed n, add-one) (omega arith)
+
+pub ahead-end : (block : List ℕ) (at : ℕ) → length block ≤ at → length (upToLineFeed (drop at block)) ≡ 0
+unfolding upToLineFeed
+ahead-end block at h = simp (drop-of-length-le block h)
+
 -- what the characters mean, cut after those ahead of the line feed
 abbrev cutAfter : LineSoFar → List ℕ → List ℕ → List ℕ → List LineMeaning
 cutAfter s ahead cs rest =
@@ -115,6 +129,10 @@ module _ (s : LineSoFar) (block : List ℕ) (at : ℕ) where
         let h = ltb-false (at + length ahead) (length block) e in
         let longer = le-ltb (length ahead) (length (drop at block)) (rw length-drop (omega arith)) in
         scan-splits s (drop at block) rest ∙ simp longer
+
+  pub scan-to-end : scan .complete ≡ false → drop (scan .next) block ≡ []
+  unfolding scanOf
+  scan-to-end e = rw (e, add-zero) (drop-of-length-le block (ltb-false (at + length ahead) (length block) e))
 
   -- by the place where the line ends
   module _ (end : ℕ) (line : LineSoFar) (e : end ≡ at + length ahead) (f : line ≡ withCharacters s (take (end - at) (drop at block))) where

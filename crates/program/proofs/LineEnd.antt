@@ -23,6 +23,7 @@ use Rattle.layout.proofs.LineLengths.{line-length}
 use Rattle.program.specs.Listing.{outcome, nextLineNumber, listingOf}
 use Rattle.program.specs.RunState.{Snapshot, snapshot, machineOf, stillToPrint, allPrinted, linesPrinted, StepReady, AfterLineEnd}
 use Rattle.program.proofs.OutputBlock.{put-then}
+use Rattle.program.proofs.WellFormed.{well-formed-with}
 
 -- what a line that is not refused has
 pub record LineFits (s : LineSoFar) : Type 0 where
@@ -107,13 +108,9 @@ module _ (frames : Bool) {g : Snapshot} {line : LineSoFar} {lines number : ℕ} 
 
   pub line-refused : AfterLineEnd frames g refusedState
   line-refused = let w = e .ready .well-formed in record {
-    well-formed = record {
-      sound = w .sound;
-      store = w .store;
-      tray = w .tray;
-      range = w .range;
-      filled = put-end-within (g .out) (refusedLine number lines) out (g .state .filled) place refusal-put refusal-fits;
-    };
+    well-formed =
+        well-formed-with w (refusedState .state) out refl (w .range)
+        (put-end-within (g .out) (refusedLine number lines) out (g .state .filled) place refusal-put refusal-fits);
     same-listing = refusal-listed;
     same-next = refl;
     same-length = refl;
@@ -140,13 +137,7 @@ module _ (frames : Bool) {g : Snapshot} {line : LineSoFar} {lines number : ℕ} 
 
   pub line-accepted : AfterLineEnd frames g acceptedState
   line-accepted = let w = e .ready .well-formed in record {
-    well-formed = record {
-      sound = w .sound;
-      store = w .store;
-      tray = w .tray;
-      range = omega (arith, fits .few);
-      filled = w .filled;
-    };
+    well-formed = well-formed-with w (acceptedState .state) (g .out) refl (omega (arith, fits .few)) (w .filled);
     same-listing = bits-listed;
     same-next = refl;
     same-length = refl;

@@ -3,7 +3,7 @@
 use mathlib.Core.Bool.{Bool, true, cond}
 use mathlib.Core.List.{List, [], _∷_}
 use mathlib.Core.Path.{_≡_, refl}
-use Prim.Native.Nat.{ℕ, _≤_, _<_}
+use Prim.Native.Nat.{ℕ, _<_}
 use native.Mathlib.Omega.{arith}
 use lib.ListN.{length, set, take}
 use Rattle.bits.proofs.Truth.{clash}
@@ -11,51 +11,22 @@ use Rattle.registers.specs.Plan.{defaultPlan}
 use Rattle.decoder.specs.Limits.{storeLength, trayLength}
 use Rattle.taking.proofs.Stays.{start-sound}
 use Rattle.output.specs.Ascii.{lineFeed}
+use Rattle.output.specs.Block.{blockLength}
 use Rattle.hexlines.specs.declared.LineSoFar.{LineSoFar}
 use Rattle.hexlines.specs.Lines.{noCharacters, meaningsFrom}
 use Rattle.program.specs.declared.RunState.{RunState}
 use Rattle.program.specs.RunState.{start, snapshot, WellFormed, PlacesInBlock, AfterRefill}
-
--- The run with any store and tray of the right length.
-abbrev pub WithBuffers : RunState → List ℕ → Type 0
-WithBuffers s out = (store tray : List ℕ) → length store ≡ storeLength → length tray ≡ trayLength → WellFormed (snapshot s store tray out)
-
--- What is well formed stays so while the decoder, the line's bits and what is put are kept.
-still-well-formed : (s r : RunState) {store₀ tray₀ out : List ℕ} → WellFormed (snapshot s store₀ tray₀ out)
-    → r .decoder ≡ s .decoder → r .first ≡ s .first → r .count ≡ s .count → r .filled ≤ length out → WithBuffers r out
-still-well-formed s r w d f c p store tray long wide = record {
-  sound = rw d (w .sound);
-  store = long;
-  tray = wide;
-  range = rw (f, c) (w .range);
-  filled = p;
-}
+use Rattle.program.proofs.WellFormed.{well-formed-with, withInput, input-well-formed}
 
 -- A read moves only the places of the block of input and the two ends.
 abbrev pub readTo : RunState → ℕ → ℕ → Bool → Bool → RunState
-readTo s next length eof over = record {
-  decoder = s .decoder;
-  line = s .line;
-  lines = s .lines;
-  bytes = s .bytes;
-  first = s .first;
-  count = s .count;
-  next = next;
-  length = length;
-  filled = s .filled;
-  eof = eof;
-  over = over;
-}
-
-module _ (s : RunState) (next length : ℕ) (eof over : Bool) where
-  read-well-formed : (store tray out : List ℕ) → WellFormed (snapshot s store tray out) → WellFormed (snapshot (readTo s next length eof over) store tray out)
-  read-well-formed store tray out w = still-well-formed s (readTo s next length eof over) w refl refl refl (w .filled) store tray (w .store) (w .tray)
+readTo s next length eof over = withInput s (s .line) next length eof over
 
 -- the input has not ended here
 pub goes-on : (s : RunState) (input : List ℕ) (next length : ℕ) (over : Bool) → let r = readTo s next length (s .eof) over in
     (PlacesInBlock s → PlacesInBlock r) → AfterRefill s r input
 goes-on s input next length over w = record {
-  well-formed = read-well-formed s next length (s .eof) over;
+  well-formed = λ store tray out k. input-well-formed k (s .line) next length (s .eof) over;
   within = w;
   last = λ f t. clash t f;
 }
@@ -73,21 +44,29 @@ end-as-line-feed s = refl
 pub last-line : (s : RunState) (block : List ℕ) → 0 < length block → (over : Bool) → over ≡ noCharacters (s .line)
     → AfterRefill s (readTo s 0 1 true over) (set block 0 lineFeed)
 last-line s block some over e = record {
-  well-formed = read-well-formed s 0 1 true over;
+  well-formed = λ store tray out k. input-well-formed k (s .line) 0 1 true over;
   within = λ w. record { next = omega arith; length = omega arith };
   last = λ f t. rw (one-byte block lineFeed some, e) (end-as-line-feed (s .line));
 }
 
--- The run as it begins, and after its block of output is written.
-pub begins : (s : RunState) → s ≡ start → (out : List ℕ) → WithBuffers s out
-begins s e out store tray long wide = rw e (record {
-  sound = start-sound defaultPlan 0;
-  store = long;
-  tray = wide;
-  range = omega arith;
-  filled = omega arith;
-})
+-- What holds from read to read.
+pub record BetweenReads (s : RunState) (store tray input output : List ℕ) : Type 0 where
+  pub well-formed : WellFormed (snapshot s store tray output)
+  pub places : PlacesInBlock s
+  pub input-length : length input ≡ blockLength
+  pub output-length : length output ≡ blockLength
 
-pub written : (s r : RunState) (store tray out : List ℕ) → WellFormed (snapshot s store tray out)
-    → r .decoder ≡ s .decoder → r .first ≡ s .first → r .count ≡ s .count → r .filled ≡ 0 → WithBuffers r out
-written s r store tray out w d f c p = still-well-formed s r w d f c (omega arith)
+-- as the run begins
+pub begins : (s : RunState) → s ≡ start → (store tray input output : List ℕ) → length store ≡ storeLength → length tray ≡ trayLength
+    → length input ≡ blockLength → length output ≡ blockLength → BetweenReads s store tray input output
+begins s e store tray input output long wide i o = record {
+  well-formed = rw e (record { sound = start-sound defaultPlan 0; store = long; tray = wide; range = omega arith; filled = omega arith });
+  places = rw e (record { next = omega arith; length = omega arith });
+  input-length = i;
+  output-length = o;
+}
+
+-- and after the block of output is written
+pub written : (s : RunState) (store tray out : List ℕ) → WellFormed (snapshot s store tray out) → (r : RunState)
+    → r .decoder ≡ s .decoder → r .first ≡ s .first → r .count ≡ s .count → r .filled ≡ 0 → WellFormed (snapshot r store tray out)
+written s store tray out w r d f c p = well-formed-with w r out d (rw (f, c) (w .range)) (omega arith)

@@ -78,7 +78,8 @@ module _ (frames : Bool) where
     }
 
     -- a frame's record, after which the run stops
-    with-frame : (head value : ℕ) → turnOf w bit .cycle ≡ Record head value → RunPrints frames w (bit ∷ bits) room (oneBit (oneRecord head value (ended v Frame)))
+    with-frame : (head value : ℕ) → turnOf w bit .cycle ≡ Record head value
+        → RunPrints frames w (bit ∷ bits) room (oneBit (oneRecord head value (ended v Frame)))
     unfolding bitsText recordsText recordText
     with-frame head value e = record {
       text = rw (e, append-nil);
@@ -92,8 +93,9 @@ module _ (frames : Bool) where
     by-frame head value e true f = with-frame head value e
     by-frame head value e false f =
         let r = rest v (room - 2) in
-        with-record head value e r (each v (room - 2)) (text-without-frame frames (v .tray) head value f ∙ sym (text-without-frame frames (r .state .tray) head value f))
-        (ap length (text-without-frame frames (r .state .tray) head value f) ∙ record-line-length head value)
+        let line = text-without-frame frames (r .state .tray) head value f in
+        with-record head value e r (each v (room - 2)) (text-without-frame frames (v .tray) head value f ∙ sym line)
+        (ap length line ∙ record-line-length head value)
 
     by-cycle : (c : Cycle) → turnOf w bit .cycle ≡ c → RunPrints frames w (bit ∷ bits) room (oneBit (afterCycle rest v c room))
     unfolding bitsText

@@ -1,23 +1,22 @@
 -- A scan of the block of input up to the next line feed as a step of the run: it keeps all that is printed in the end.
 -- Assumes nothing.
 use mathlib.Core.Bool.{Bool, true, false}
-use mathlib.Core.List.{List, [], _∷_, _++_}
-use mathlib.Core.Path.{_≡_, refl, sym, ap, _∙_}
+use mathlib.Core.List.{List, _∷_, _++_}
+use mathlib.Core.Path.{_≡_, refl, sym, _∙_}
 use Prim.Native.Nat.{ℕ, _+_, _*_, _-_, _<_, _≤_}
-use native.Mathlib.Nat.{add-zero}
 use native.Mathlib.Omega.{arith}
-use lib.ListN.{length, drop, drop-of-length-le}
-use borrow.Author.Tests.{le-leb, ltb-false}
+use lib.ListN.{length, drop}
+use borrow.Author.Tests.{le-leb}
 use Rattle.bits.proofs.Truth.{choice}
 use Rattle.decoder.specs.Limits.{clockLimit}
 use Rattle.decoder.proofs.Soundness.{sound-parts}
-use Rattle.hexlines.specs.declared.LineSoFar.{LineSoFar}
 use Rattle.hexlines.specs.declared.Scanned.{Scanned}
-use Rattle.hexlines.specs.Lines.{emptyLine, upToLineFeed, scanOf, meaningSoFar, meaningsFrom}
-use Rattle.hexlines.proofs.Blocks.{scan-complete, scan-incomplete, scan-within, scan-advances}
-use Rattle.program.specs.Listing.{bitsText, listingOf}
-use Rattle.program.specs.RunState.{Snapshot, snapshot, machineOf, blockThen, stillToPrint, allPrinted, linesPrinted}
+use Rattle.hexlines.specs.Lines.{emptyLine, scanOf, meaningSoFar, meaningsFrom}
+use Rattle.hexlines.proofs.Blocks.{scan-complete, scan-incomplete, scan-to-end, scan-within, scan-advances}
+use Rattle.program.specs.Listing.{bitsText}
+use Rattle.program.specs.RunState.{Snapshot, snapshot, stillToPrint, allPrinted, linesPrinted}
 use Rattle.program.specs.RunState.{StepReady, lineBits, workLeft, AfterLineEnd, AfterSteps}
+use Rattle.program.proofs.WellFormed.{withInput, input-well-formed}
 
 -- with no bits left, the lines of what is to come
 no-bits-left : (frames : Bool) (g : Snapshot) → StepReady g → g .state .count ≡ 0 → (characters : List ℕ)
@@ -26,14 +25,6 @@ unfolding stillToPrint bitsText
 no-bits-left frames g t none characters =
     let clock = sound-parts (g .state .decoder) (t .well-formed .sound) .next in
     rw (t .not-over, none, le-leb (g .state .decoder .next + 0) clockLimit (omega arith))
-
--- a block that is scanned to its end
-scanned-all : (s : LineSoFar) (input : List ℕ) (at : ℕ) → scanOf s input at .complete ≡ false → drop (scanOf s input at .next) input ≡ []
-unfolding scanOf
-scanned-all s input at e =
-    let ahead = length (upToLineFeed (drop at input)) in
-    let h = ltb-false (at + ahead) (length input) e in
-    rw (e, add-zero) (drop-of-length-le input h)
 
 -- What `scan_line` knows: no bits are left, the block has more, and a scan of it.
 pub record ScanMade (input : List ℕ) (g : Snapshot) (scanned : Scanned) : Type 0 where
@@ -46,24 +37,12 @@ pub record ScanMade (input : List ℕ) (g : Snapshot) (scanned : Scanned) : Type
 abbrev pub scannedState : Snapshot → Scanned → Snapshot
 scannedState g scanned =
     let s = g .state in
-    snapshot (record {
-      decoder = s .decoder;
-      line = scanned .line;
-      lines = s .lines;
-      bytes = s .bytes;
-      first = s .first;
-      count = s .count;
-      next = scanned .next;
-      length = s .length;
-      filled = s .filled;
-      eof = s .eof;
-      over = s .over;
-    }) (g .store) (g .tray) (g .out)
+    snapshot (withInput s (scanned .line) (scanned .next) (s .length) (s .eof) (s .over)) (g .store) (g .tray) (g .out)
 
 module _ {input : List ℕ} {g : Snapshot} {scanned : Scanned} (made : ScanMade input g scanned) where
   pub scanned-ready : StepReady (scannedState g scanned)
-  scanned-ready = let w = made .ready .well-formed in record {
-    well-formed = record { sound = w .sound; store = w .store; tray = w .tray; range = w .range; filled = w .filled };
+  scanned-ready = record {
+    well-formed = input-well-formed (made .ready .well-formed) (scanned .line) (scanned .next) (g .state .length) (g .state .eof) (g .state .over);
     not-over = made .ready .not-over;
     room = made .ready .room;
   }
@@ -111,7 +90,7 @@ module _ {input : List ℕ} {g : Snapshot} {scanned : Scanned} (made : ScanMade 
     incomplete-means : (rest : List ℕ) → meaningsFrom (g .state .line) (before rest) ≡ meaningsFrom (scanned .line) (after rest)
     incomplete-means rest =
         let o : scanOf (g .state .line) input (g .state .next) .complete ≡ false = rw (made .result) at incomplete in
-        rw (made .result, scanned-all (g .state .line) input (g .state .next) o) (scan-incomplete (g .state .line) input (g .state .next) rest o)
+        rw (made .result, scan-to-end (g .state .line) input (g .state .next) o) (scan-incomplete (g .state .line) input (g .state .next) rest o)
 
     pub steps-incomplete : AfterSteps frames input g (scannedState g scanned)
     steps-incomplete = record {

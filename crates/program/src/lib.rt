@@ -212,13 +212,10 @@ impl RunState {
     }
 }
 
-// A program's whole run, with the FIFO words and the tray that it lends. What a read brought is listed and written before the next read; a failed write
-// ends the run at once.
-pub fn run(
-    prints: PrintOptions,
-    store: &mut [u32; Decoder::STORE_LENGTH],
-    tray: &mut [u8; Decoder::TRAY_LENGTH],
-) {
+// A program's whole run. What a read brought is listed and written before the next read; a failed write ends the run at once.
+pub fn run(prints: PrintOptions) {
+    let mut store = [0u32; Decoder::STORE_LENGTH];
+    let mut tray = [0u8; Decoder::TRAY_LENGTH];
     let mut input = io::large_buffer();
     let mut output = io::large_buffer();
     let mut state = RunState::start();
@@ -228,7 +225,13 @@ pub fn run(
         reads -= 1;
         state = state.refill(&mut input);
         let length = state.length;
-        state = state.list_block(&input[..length], store, tray, &mut output, prints.frames);
+        state = state.list_block(
+            &input[..length],
+            &mut store,
+            &mut tray,
+            &mut output,
+            prints.frames,
+        );
         let filled = state.filled;
         if !io::write_all(STDOUT_FILENO, &output[..filled]) {
             return;
@@ -237,7 +240,7 @@ pub fn run(
     }
     if prints.state {
         let decoder = state.decoder;
-        let n = listing::put_state(&mut output, decoder, store);
+        let n = listing::put_state(&mut output, decoder, &store);
         io::write_all(STDOUT_FILENO, &output[..n]);
     }
 }

@@ -1,9 +1,9 @@
 -- `put_pointers` meets its contract: the pointers that are left, put at the present place, give what all 16 give.
 -- Assumes nothing.
 use mathlib.Core.List.{List}
+use mathlib.Core.Path.{refl}
 use Prim.Native.Nat.{ℕ, _-_, _≤_}
 use native.Mathlib.Omega.{arith}
-use mathlib.Core.Path.{refl}
 use borrow.Author.Needs.{needs}
 use Rattle.output.proofs.Pieces.{PartlyPut, none-put, all-put}
 use Rattle.listing.specs.State.{textsFrom, pointersText, allPointersText}

@@ -1,9 +1,9 @@
 -- `put_registers` meets its contract: the registers that are left, put at the present place, give what all 16 give.
 -- Assumes nothing.
 use mathlib.Core.List.{List}
+use mathlib.Core.Path.{sym, _∙_}
 use Prim.Native.Nat.{ℕ, _-_, _≤_}
 use native.Mathlib.Omega.{arith}
-use mathlib.Core.Path.{sym, _∙_}
 use borrow.Author.Needs.{needs}
 use borrow.Author.Tests.{not-true, not-false}
 use Rattle.output.proofs.Pieces.{PartlyPut, none-put, all-put}
