@@ -11,14 +11,22 @@ use Rattle.bits.proofs.Truth.{both, either}
 use Rattle.hexlines.specs.Digits.{isDigit}
 
 -- The ranges of the digits, "0" to "9" and "A" to "F".
-pub record Digit (c : ℕ) : Type 0 where
+pub record DigitRange (c : ℕ) : Type 0 where
   pub low : 48 ≤ c
   pub high : c ≤ 70
   pub gap : 57 < c → 65 ≤ c
 
-pub known : (c : ℕ) → isDigit c ≡ true → Digit c
-known c e =
+pub digit-range : (c : ℕ) → isDigit c ≡ true → DigitRange c
+digit-range c e =
     ⊎-elim
-    (λ n. let p = both (leb 48 c) (leb c 57) n in let l = leb-true 48 c (p .0) in let h = leb-true c 57 (p .1) in record { low = l; high = omega arith; gap = λ m. omega arith })
-    (λ n. let p = both (leb 65 c) (leb c 70) n in let l = leb-true 65 c (p .0) in let h = leb-true c 70 (p .1) in record { low = omega arith; high = h; gap = λ m. l })
+    (λ n.
+    let p = both (leb 48 c) (leb c 57) n in
+    let l = leb-true 48 c (p .0) in
+    let h = leb-true c 57 (p .1) in
+    record { low = l; high = omega arith; gap = λ m. omega arith })
+    (λ n.
+    let p = both (leb 65 c) (leb c 70) n in
+    let l = leb-true 65 c (p .0) in
+    let h = leb-true c 70 (p .1) in
+    record { low = omega arith; high = h; gap = λ m. l })
     (either _ _ e)

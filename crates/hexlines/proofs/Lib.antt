@@ -1,5 +1,5 @@
 pub mod Digits
-pub mod Says
-pub mod Seeing
-pub mod Lines
+pub mod Meaning
+pub mod PartlyRead
+pub mod Blocks
 pub mod Example

@@ -1,4 +1,4 @@
--- The hexadecimal line: what it says, and what a call that reads one answers (document 01, "A taking call": the refusal table).
+-- The hexadecimal line: what it means, and what a call that reads one answers (document 01, "A taking call": the refusal table).
 -- Assumes nothing.
 use mathlib.Core.Bool.{Bool, cond, _&&_}
 use mathlib.Core.List.{List, []}
@@ -11,21 +11,28 @@ use Rattle.hexlines.specs.declared.HexLine.the-variants.{Bytes, WrongCha
 use Rattle.hexlines.specs.Digits.{allDigits, bytesOf}
 
 -- A line's refusal number, 0 for none, and its bytes.
-pub record Hex : Type 0 where
+pub record LineMeaning : Type 0 where
   pub number : ℕ
   pub bytes : List ℕ
 
 -- "a refused line gives no bytes"
-abbrev pub refused : ℕ → Hex
+abbrev pub refused : ℕ → LineMeaning
 refused number = record { number = number; bytes = [] }
+
+-- The most digits of a line, and the bytes that they stand for.
+abbrev pub digitLimit : ℕ
+digitLimit = 64
+
+abbrev pub lineBytes : ℕ
+lineBytes = 32
 
 -- Number 8, turned round: "the count of digits is odd, or above 64".
 abbrev pub countFits : ℕ → Bool
-countFits n = eqb (n % 2) 0 && leb n 64
+countFits n = eqb (n % 2) 0 && leb n digitLimit
 
 -- Number 7 at "a character is not 0-9 or A-F", else number 8, else the bytes: "the lowest number wins".
-unfoldable pub hexOf : List ℕ → Hex
-hexOf line =
+unfoldable pub lineMeaning : List ℕ → LineMeaning
+lineMeaning line =
     cond (allDigits line)
     (cond (countFits (length line)) (record { number = 0; bytes = bytesOf line }) (refused 8))
     (refused 7)
@@ -36,7 +43,7 @@ hexNumber (Bytes count) = 0
 hexNumber WrongCharacter = 7
 hexNumber WrongLength = 8
 
--- How many bytes each answer tells.
+-- How many bytes each answer has.
 abbrev pub hexCount : HexLine → ℕ
 hexCount (Bytes count) = count
 hexCount WrongCharacter = 0
@@ -54,5 +61,5 @@ readAs answer buffer = record { number = hexNumber answer; count = hexCount answ
 -- The line's bytes stand at the buffer's start, and nothing else in it changes; a refused line changes nothing.
 unfoldable pub readOf : List ℕ → List ℕ → Read
 readOf line buffer =
-    let hex = hexOf line in
-    record { number = hex .number; count = length (hex .bytes); buffer = sets buffer 0 (hex .bytes) }
+    let meaning = lineMeaning line in
+    record { number = meaning .number; count = length (meaning .bytes); buffer = sets buffer 0 (meaning .bytes) }

@@ -1,17 +1,17 @@
--- The input's lines, and a line as it is seen character by character, since it may be of any length (document 01, "Streams with their records").
+-- The input's lines, and a line as it is read character by character, since it may be of any length (document 01, "Streams with their records").
 -- Assumes nothing.
 use mathlib.Core.Bool.{Bool, true, false, cond, not, _&&_}
 use mathlib.Core.List.{List, [], _∷_, _++_}
 use Prim.Native.Nat.{ℕ, _+_, _*_, _/_, _%_}
 use lib.Dec.{ltb, eqb}
 use lib.ListN.{length, getD, set, take, drop, replicate}
-use Rattle.output.specs.Text.{lineFeed}
+use Rattle.output.specs.Ascii.{lineFeed}
 use Rattle.hexlines.specs.declared.HexLine.{HexLine}
 use Rattle.hexlines.specs.declared.HexLine.the-variants.{Bytes, WrongCharacter, WrongLength}
-use Rattle.hexlines.specs.declared.Seen.{Seen}
-use Rattle.hexlines.specs.declared.Fed.{Fed}
+use Rattle.hexlines.specs.declared.LineSoFar.{LineSoFar}
+use Rattle.hexlines.specs.declared.Scanned.{Scanned}
 use Rattle.hexlines.specs.Digits.{isDigit, digitOf}
-use Rattle.hexlines.specs.Line.{Hex, hexOf, countFits, hexNumber, hexCount}
+use Rattle.hexlines.specs.Line.{LineMeaning, lineMeaning, digitLimit, lineBytes, countFits, hexNumber, hexCount}
 
 abbrev pub isEmpty : List ℕ → Bool
 isEmpty [] = true
@@ -25,57 +25,57 @@ linesFrom line (c ∷ cs) = cond (eqb c lineFeed) (line ∷ linesFrom [] cs) (li
 abbrev pub linesOf : List ℕ → List (List ℕ)
 linesOf input = linesFrom [] input
 
--- What the lines say, in order.
-unfoldable pub hexesOf : List (List ℕ) → List Hex
-hexesOf [] = []
-hexesOf (line ∷ lines) = hexOf line ∷ hexesOf lines
+-- What the lines mean, in order.
+unfoldable pub lineMeanings : List (List ℕ) → List LineMeaning
+lineMeanings [] = []
+lineMeanings (line ∷ lines) = lineMeaning line ∷ lineMeanings lines
 
--- Nothing seen yet.
-abbrev pub fresh : Seen
-fresh = record { wrong = false; digits = 0; bytes = replicate 32 0 }
+-- No characters yet.
+abbrev pub emptyLine : LineSoFar
+emptyLine = record { wrong = false; digits = 0; bytes = replicate lineBytes 0 }
 
--- One more digit: a byte takes two, the first of them the high one. Beyond 64 digits only that there are more is kept.
-abbrev pub withDigit : Seen → ℕ → Seen
+-- One more digit: a byte takes two, the first of them the high one. Beyond the limit only that there are more is kept.
+abbrev pub withDigit : LineSoFar → ℕ → LineSoFar
 withDigit s d =
     let at = s .digits / 2 in
-    cond (ltb (s .digits) 64)
+    cond (ltb (s .digits) digitLimit)
     (record { wrong = s .wrong; digits = s .digits + 1; bytes = set (s .bytes) at (getD (s .bytes) at 0 % 16 * 16 + d) })
-    (record { wrong = s .wrong; digits = 65; bytes = s .bytes })
+    (record { wrong = s .wrong; digits = digitLimit + 1; bytes = s .bytes })
 
 -- One more character.
-unfoldable pub withCharacter : Seen → ℕ → Seen
+unfoldable pub withCharacter : LineSoFar → ℕ → LineSoFar
 withCharacter s c = cond (isDigit c) (withDigit s (digitOf c)) (record { wrong = true; digits = s .digits; bytes = s .bytes })
 
 -- More characters, one after the other.
-unfoldable pub seenOf : Seen → List ℕ → Seen
-seenOf s [] = s
-seenOf s (c ∷ cs) = seenOf (withCharacter s c) cs
+unfoldable pub withCharacters : LineSoFar → List ℕ → LineSoFar
+withCharacters s [] = s
+withCharacters s (c ∷ cs) = withCharacters (withCharacter s c) cs
 
--- What the line says, if it ends here.
-unfoldable pub answerOf : Seen → HexLine
+-- What the line means, if it ends here.
+unfoldable pub answerOf : LineSoFar → HexLine
 answerOf s = cond (s .wrong) WrongCharacter (cond (countFits (s .digits)) (Bytes (s .digits / 2)) WrongLength)
 
 -- The same with the bytes that it holds.
-unfoldable pub saidBy : Seen → Hex
-saidBy s = record { number = hexNumber (answerOf s); bytes = take (hexCount (answerOf s)) (s .bytes) }
+unfoldable pub meaningSoFar : LineSoFar → LineMeaning
+meaningSoFar s = record { number = hexNumber (answerOf s); bytes = take (hexCount (answerOf s)) (s .bytes) }
 
--- Whether no character was seen: at the end of the input that is no line.
-abbrev pub nothingSeen : Seen → Bool
-nothingSeen s = not (s .wrong) && eqb (s .digits) 0
+-- Whether there are no characters yet: at the end of the input that is no line.
+abbrev pub noCharacters : LineSoFar → Bool
+noCharacters s = not (s .wrong) && eqb (s .digits) 0
 
 -- The characters ahead of the first line feed.
-unfoldable pub upToFeed : List ℕ → List ℕ
-upToFeed [] = []
-upToFeed (c ∷ cs) = cond (eqb c lineFeed) [] (c ∷ upToFeed cs)
+unfoldable pub upToLineFeed : List ℕ → List ℕ
+upToLineFeed [] = []
+upToLineFeed (c ∷ cs) = cond (eqb c lineFeed) [] (c ∷ upToLineFeed cs)
 
--- A block taken from a place on, up to and with the next line feed, or to its end: what is seen then, the next place, and whether the line has ended.
-unfoldable pub fedOf : Seen → List ℕ → ℕ → Fed
-fedOf s block at =
-    let line = upToFeed (drop at block) in
-    let ended = ltb (at + length line) (length block) in
-    record { seen = seenOf s line; next = at + length line + cond ended 1 0; ended = ended }
+-- A block scanned from a place on, up to and with the next line feed, or to its end: the line then, the next place, and whether it is complete.
+unfoldable pub scanOf : LineSoFar → List ℕ → ℕ → Scanned
+scanOf s block at =
+    let ahead = upToLineFeed (drop at block) in
+    let complete = ltb (at + length ahead) (length block) in
+    record { line = withCharacters s ahead; next = at + length ahead + cond complete 1 0; complete = complete }
 
--- What the lines of an input say, character by character: the line so far ends at a line feed, and at the end of the input unless nothing of it was seen.
-unfoldable pub saidFrom : Seen → List ℕ → List Hex
-saidFrom s [] = cond (nothingSeen s) [] (saidBy s ∷ [])
-saidFrom s (c ∷ cs) = cond (eqb c lineFeed) (saidBy s ∷ saidFrom fresh cs) (saidFrom (withCharacter s c) cs)
+-- What the lines of an input mean, character by character: the line so far ends at a line feed, and at the end of the input unless it has no characters.
+unfoldable pub meaningsFrom : LineSoFar → List ℕ → List LineMeaning
+meaningsFrom s [] = cond (noCharacters s) [] (meaningSoFar s ∷ [])
+meaningsFrom s (c ∷ cs) = cond (eqb c lineFeed) (meaningSoFar s ∷ meaningsFrom emptyLine cs) (meaningsFrom (withCharacter s c) cs)

@@ -5,10 +5,10 @@ ghost use mathlib.Core.Bool.{true};
 ghost use Prim.Native.Nat.{_+_, _≤_, _<_};
 ghost use lib.ListN.{length, drop};
 ghost use Rattle.hexlines.specs.Digits.{isDigit, digitOf};
-ghost use Rattle.hexlines.specs.Line.{hexNumber, readAs, readOf};
-ghost use Rattle.hexlines.specs.Lines.{fresh, seenOf, answerOf, nothingSeen, upToFeed, fedOf};
+ghost use Rattle.hexlines.specs.Line.{lineBytes, hexNumber, readAs, readOf};
+ghost use Rattle.hexlines.specs.Lines.{emptyLine, withCharacters, answerOf, noCharacters, upToLineFeed, scanOf};
 
-// What a hexadecimal line says: so many bytes, or a refusal, number 7 or 8.
+// What a hexadecimal line means: n bytes, or rejected with number 7 or 8.
 pub enum HexLine {
     Bytes(usize),
     WrongCharacter,
@@ -16,7 +16,7 @@ pub enum HexLine {
 }
 
 impl HexLine {
-    // The refusal's number, 0 for none.
+    // The number of the refusal, 0 for none.
     pub fn number(self) -> u8
         ensures { λ r. ⌜ r ≡ hexNumber self ⌝ }
     {
@@ -28,25 +28,28 @@ impl HexLine {
     }
 }
 
-// What was seen so far of a line, which may be of any length.
-pub struct Seen {
+// The most digits of a line.
+const DIGIT_LIMIT: usize = 64;
+
+// The bytes that they stand for.
+pub const LINE_BYTES: usize = 32;
+
+// A line as far as it is read; it may be of any length.
+pub struct LineSoFar {
     // Whether a character was none of 0-9 and A-F.
     pub wrong: bool,
     // The count of digits; 65 stands for any count above 64.
     pub digits: usize,
     // Their bytes, of two digits each, from the first on.
-    pub bytes: [u8; 32],
+    pub bytes: [u8; LINE_BYTES],
 }
 
-// What a block of input leaves: the line as seen then, the place in the block after what was taken, and whether a line feed ended the line.
-pub struct Fed {
-    pub seen: Seen,
+// What a scan of a block leaves: the line so far, the place in the block after what was scanned, and whether a line feed completed the line.
+pub struct Scanned {
+    pub line: LineSoFar,
     pub next: usize,
-    pub ended: bool,
+    pub complete: bool,
 }
-
-// The most digits of a line.
-const DIGITS: usize = 64;
 
 fn is_digit(character: u8) -> bool
     ensures { λ r. ⌜ r ≡ isDigit character ⌝ }
@@ -69,7 +72,7 @@ fn digit(character: u8) -> u8
 // The place of the next line feed, or the block's end.
 fn line_end(block: &[u8], at: usize) -> usize
     requires { ⌜ at ≤ length (now block) ⌝ }
-    ensures { λ r. ⌜ r ≡ at + length (upToFeed (drop at (now (block .entry)))) ⌝ }
+    ensures { λ r. ⌜ r ≡ at + length (upToLineFeed (drop at (now (block .entry)))) ⌝ }
 {
     let mut end = at;
     while end < block.len() {
@@ -81,72 +84,72 @@ fn line_end(block: &[u8], at: usize) -> usize
     end
 }
 
-impl Seen {
-    // Nothing seen yet, as a line begins.
-    pub fn fresh() -> Seen
-        ensures { λ r. ⌜ r ≡ fresh ⌝ }
+impl LineSoFar {
+    // No characters yet, as a line begins.
+    pub fn empty() -> LineSoFar
+        ensures { λ r. ⌜ r ≡ emptyLine ⌝ }
     {
-        Seen {
+        LineSoFar {
             wrong: false,
             digits: 0,
-            bytes: [0; 32],
+            bytes: [0; LINE_BYTES],
         }
     }
 
     // More characters, one after the other. A byte takes its two digits from the low end.
-    fn with_all(self, characters: &[u8]) -> Seen
-        ensures { λ r. ⌜ r ≡ seenOf self (now (characters .entry)) ⌝ }
+    fn with_characters(self, characters: &[u8]) -> LineSoFar
+        ensures { λ r. ⌜ r ≡ withCharacters self (now (characters .entry)) ⌝ }
     {
-        let mut seen = self;
+        let mut line = self;
         let mut i: usize = 0;
         while i < characters.len() {
             let character = characters[i];
             i += 1;
             if !is_digit(character) {
-                seen.wrong = true;
+                line.wrong = true;
                 continue;
             }
-            let n = seen.digits;
-            if DIGITS <= n {
-                seen.digits = DIGITS + 1;
+            let n = line.digits;
+            if DIGIT_LIMIT <= n {
+                line.digits = DIGIT_LIMIT + 1;
                 continue;
             }
-            let held = seen.bytes[n / 2];
-            seen.bytes[n / 2] = held % 16 * 16 + digit(character);
-            seen.digits = n + 1;
+            let held = line.bytes[n / 2];
+            line.bytes[n / 2] = held % 16 * 16 + digit(character);
+            line.digits = n + 1;
         }
-        seen
+        line
     }
 
-    // Takes a block's characters from a place on, up to and with the next line feed, or to the block's end.
-    // A place past the block's end takes nothing.
-    pub fn feed(self, block: &[u8], at: usize) -> Fed
-        ensures { λ r. ⌜ r ≡ fedOf self (now (block .entry)) at ⌝ }
+    // Scans a block from a place on, up to and with the next line feed, or to the block's end.
+    // From a place past the block's end nothing is scanned.
+    pub fn scan(self, block: &[u8], at: usize) -> Scanned
+        ensures { λ r. ⌜ r ≡ scanOf self (now (block .entry)) at ⌝ }
     {
         if block.len() < at {
-            return Fed {
-                seen: self,
+            return Scanned {
+                line: self,
                 next: at,
-                ended: false,
+                complete: false,
             };
         }
         let end = line_end(block, at);
-        let seen = self.with_all(&block[at..end]);
+        let line = self.with_characters(&block[at..end]);
         if end < block.len() {
-            return Fed {
-                seen: seen,
+            return Scanned {
+                line: line,
                 next: end + 1,
-                ended: true,
+                complete: true,
             };
         }
-        Fed {
-            seen: seen,
+        Scanned {
+            line: line,
             next: end,
-            ended: false,
+            complete: false,
         }
     }
 
-    // What the line says if it ends here; its bytes, if it is not refused, are the first of `bytes`.
+    // What the line means if it ends here; its bytes, if it is not refused, are the first of `bytes`.
     pub fn answer(self) -> HexLine
         ensures { λ r. ⌜ r ≡ answerOf self ⌝ }
     {
@@ -154,15 +157,15 @@ impl Seen {
         if self.wrong {
             return HexLine::WrongCharacter;
         }
-        if (n % 2 == 0) & (n <= DIGITS) {
+        if (n % 2 == 0) & (n <= DIGIT_LIMIT) {
             return HexLine::Bytes(n / 2);
         }
         HexLine::WrongLength
     }
 
-    // Whether no character was seen: at the end of the input that is no line.
+    // Whether there are no characters yet: at the end of the input that is no line.
     pub fn is_empty(self) -> bool
-        ensures { λ r. ⌜ r ≡ nothingSeen self ⌝ }
+        ensures { λ r. ⌜ r ≡ noCharacters self ⌝ }
     {
         !self.wrong & (self.digits == 0)
     }
@@ -170,14 +173,14 @@ impl Seen {
 
 // Reads a hexadecimal line, which has no line feed, into the start of a lent buffer. A refused line changes nothing.
 pub fn read_line(line: &[u8], bytes: &mut [u8]) -> HexLine
-    requires { ⌜ 32 ≤ length (now bytes) ⌝ }
+    requires { ⌜ lineBytes ≤ length (now bytes) ⌝ }
     ensures { λ r. ⌜ readAs r (now (bytes .exit)) ≡ readOf (now (line .entry)) (now (bytes .entry)) ⌝ }
 {
-    let seen = Seen::fresh().with_all(line);
-    let answer = seen.answer();
+    let read = LineSoFar::empty().with_characters(line);
+    let answer = read.answer();
     match answer {
         HexLine::Bytes(n) => {
-            let held = seen.bytes;
+            let held = read.bytes;
             output::put_bytes(bytes, 0, &held[..n]);
             HexLine::Bytes(n)
         }
@@ -187,7 +190,7 @@ pub fn read_line(line: &[u8], bytes: &mut [u8]) -> HexLine
 }
 
 // The same into a buffer of the longest line's bytes.
-pub fn hex_line(line: &[u8], bytes: &mut [u8; 32]) -> HexLine
+pub fn hex_line(line: &[u8], bytes: &mut [u8; LINE_BYTES]) -> HexLine
     ensures { λ r. ⌜ readAs r (now (bytes .exit)) ≡ readOf (now (line .entry)) (now (bytes .entry)) ⌝ }
 {
     read_line(line, bytes)

@@ -11,12 +11,12 @@ use lib.ListN.{length}
 use lib.Seq.{sets}
 use borrow.Author.Tests.{lt-ltb, le-ltb, leb-true, leb-false}
 use Rattle.bits.proofs.Truth.{cases}
-use Rattle.output.specs.Block.{Block, block, putOf}
-use Rattle.output.proofs.Puts.{put-fits, put-over}
+use Rattle.output.specs.Block.{Block, block, putIfFits}
+use Rattle.output.proofs.Pieces.{put-when-fits, put-when-full}
 use Rattle.hexlines.specs.declared.HexLine.{HexLine}
 use Rattle.hexlines.specs.Line.{Read, hexNumber, readAs, readOf}
 use Rattle.layout.specs.Digits.{charactersOf}
-use Rattle.layout.specs.Records.{numbersLine, recordLine}
+use Rattle.layout.specs.ListingLines.{numbersLine, recordLine}
 use Rattle.kernelstill.specs.Lines.{lineBytes, lineResult, hexResultOf, recordResultOf}
 
 module _ (line bytes : List ℕ) where
@@ -33,7 +33,7 @@ record-length : (head value : ℕ) → length (recordLine head value) ≡ 28
 unfolding numbersLine charactersOf
 record-length head value = refl
 
-module _ (head value : ℕ) (line after : List ℕ) (next : ℕ) (e : block after next ≡ putOf line 0 (recordLine head value)) where
+module _ (head value : ℕ) (line after : List ℕ) (next : ℕ) (e : block after next ≡ putIfFits line 0 (recordLine head value)) where
   abbrev text : List ℕ
   text = recordLine head value
 
@@ -41,12 +41,12 @@ module _ (head value : ℕ) (line after : List ℕ) (next : ℕ) (e : block afte
   fit : leb (length text) (length line) ≡ true → block after next ≡ block (sets line 0 text) (0 + length text)
   fit f =
       let room : 0 + length text ≤ length line = omega (arith, leb-true (length text) (length line) f) in
-      e ∙ put-fits line 0 text room
+      e ∙ put-when-fits line 0 text room
 
   over : leb (length text) (length line) ≡ false → block after next ≡ block line 0
   over f =
       let short : length line < 0 + length text = omega (arith, leb-false (length text) (length line) f) in
-      e ∙ put-over line 0 text short
+      e ∙ put-when-full line 0 text short
 
   pub line-left-out : next ≡ 0 → lineResult 4 after ≡ recordResultOf head value line
   unfolding recordResultOf

@@ -6,8 +6,8 @@ use Prim.Native.Nat.{ℕ}
 use lib.Dec.{ltb, leb}
 use lib.ListN.{length}
 use lib.Seq.{sets}
-use Rattle.hexlines.specs.Line.{hexOf}
-use Rattle.layout.specs.Records.{recordLine}
+use Rattle.hexlines.specs.Line.{lineMeaning}
+use Rattle.layout.specs.ListingLines.{recordLine}
 
 -- A refusal number, 0 for none, and the buffer's later contents.
 pub record LineResult : Type 0 where
@@ -25,7 +25,7 @@ lineBytes = 32
 unfoldable pub hexResultOf : List ℕ → List ℕ → LineResult
 hexResultOf line bytes =
     cond (ltb (length bytes) lineBytes) (lineResult 4 bytes)
-    (lineResult (hexOf line .number) (sets bytes 0 (hexOf line .bytes)))
+    (lineResult (lineMeaning line .number) (sets bytes 0 (lineMeaning line .bytes)))
 
 -- A record's line at the buffer's start; number 4 where it has no room.
 unfoldable pub recordResultOf : ℕ → ℕ → List ℕ → LineResult

@@ -1,4 +1,5 @@
--- Numbers in digits: their count, and the lowest apart from the others; a mark after them; and the loop that puts them.
+-- Numbers in digits: how many there are, and the lowest apart from the others; a separator after them; and the invariant of the loop that puts them,
+-- the lowest first.
 -- Assumes nothing.
 use mathlib.Core.List.{List, [], _∷_, _++_}
 use mathlib.Core.Path.{_≡_, refl, ap, sym, _∙_}
@@ -8,46 +9,48 @@ use native.Mathlib.Omega.{arith}
 use lib.ListN.{length, set, length-set, length-append}
 use lib.Seq.{sets}
 use Rattle.output.specs.Block.{block, putAll}
-use Rattle.output.proofs.Puts.{sets-append, sets-last}
+use Rattle.output.proofs.Pieces.{sets-append, sets-last}
 use Rattle.layout.specs.Digits.{characterOf, charactersOf}
 
-pub count : (n width : ℕ) → length (charactersOf n width) ≡ width
+pub digits-length : (n width : ℕ) → length (charactersOf n width) ≡ width
 unfolding charactersOf
-count n zero = refl
-count n (suc width) = ap suc (count n width)
+digits-length n zero = refl
+digits-length n (suc width) = ap suc (digits-length n width)
 
-pub lowest : (n width : ℕ) → charactersOf n (suc width) ≡ charactersOf (n / 16) width ++ (characterOf (n % 16) ∷ [])
+pub lowest-digit : (n width : ℕ) → charactersOf n (suc width) ≡ charactersOf (n / 16) width ++ (characterOf (n % 16) ∷ [])
 unfolding charactersOf
-lowest n zero = rw div-one
-lowest n (suc width) = rw (pow-succ', ← div-div-eq-div-mul, lowest n width)
+lowest-digit n zero = rw div-one
+lowest-digit n (suc width) = rw (pow-succ', ← div-div-eq-div-mul, lowest-digit n width)
 
--- A mark after a number.
-pub marked : (out : List ℕ) (at n width mark : ℕ)
-    → block (set (sets out at (charactersOf n width)) (at + width) mark) (at + width + 1) ≡ putAll out at (charactersOf n width ++ (mark ∷ []))
-marked out at n width mark = rw (sets-append, length-append, count, add-assoc)
+-- A separator after a number.
+pub digits-then-separator : (out : List ℕ) (at n width separator : ℕ)
+    → block (set (sets out at (charactersOf n width)) (at + width) separator) (at + width + 1) ≡ putAll out at (charactersOf n width ++ (separator ∷ []))
+digits-then-separator out at n width separator = rw (sets-append, length-append, digits-length, add-assoc)
 
 -- The digits that are left of the number that is left, put at the place, give what the whole number gives.
-pub record Going (out₀ : List ℕ) (at number width : ℕ) (out : List ℕ) (left rest : ℕ) : Type 0 where
-  pub low : left ≤ width
-  pub same : length out ≡ length out₀
-  pub bytes : sets out at (charactersOf rest left) ≡ sets out₀ at (charactersOf number width)
+pub record LowDigitsPut (out₀ : List ℕ) (at number width : ℕ) (out : List ℕ) (remaining quotient : ℕ) : Type 0 where
+  pub low : remaining ≤ width
+  pub same-length : length out ≡ length out₀
+  pub bytes : sets out at (charactersOf quotient remaining) ≡ sets out₀ at (charactersOf number width)
 
-pub begun : (out : List ℕ) (at number width : ℕ) → Going out at number width out width number
-begun out at number width = record { low = omega arith; same = refl; bytes = refl }
+pub no-digit-put : (out : List ℕ) (at number width : ℕ) → LowDigitsPut out at number width out width number
+no-digit-put out at number width = record { low = omega arith; same-length = refl; bytes = refl }
 
-module _ {out₀ : List ℕ} {at number width : ℕ} {out : List ℕ} {left rest : ℕ} (g : Going out₀ at number width out left rest) where
-  pub again : 0 < left → Going out₀ at number width (set out (at + (left - 1)) (characterOf (rest % 16))) (left - 1) (rest / 16)
-  again more =
-      let k : left ≡ suc (left - 1) = omega arith in
+module _ {out₀ : List ℕ} {at number width : ℕ} {out : List ℕ} {remaining quotient : ℕ} (g : LowDigitsPut out₀ at number width out remaining quotient) where
+  pub next-digit-put : 0 < remaining
+      → LowDigitsPut out₀ at number width (set out (at + (remaining - 1)) (characterOf (quotient % 16))) (remaining - 1) (quotient / 16)
+  next-digit-put more =
+      let k : remaining ≡ suc (remaining - 1) = omega arith in
+      let higher = charactersOf (quotient / 16) (remaining - 1) in
       record {
         low = omega (arith, g .low);
-        same = length-set out _ _ ∙ g .same;
+        same-length = length-set out _ _ ∙ g .same-length;
         bytes =
-            (λ i. sets (set out (at + sym (count (rest / 16) (left - 1)) i) (characterOf (rest % 16))) at (charactersOf (rest / 16) (left - 1)))
-            ∙ sets-last (charactersOf (rest / 16) (left - 1)) out at (characterOf (rest % 16))
-            ∙ (rw (← lowest rest (left - 1), ← k) (g .bytes));
+            (λ i. sets (set out (at + sym (digits-length (quotient / 16) (remaining - 1)) i) (characterOf (quotient % 16))) at higher)
+            ∙ sets-last higher out at (characterOf (quotient % 16))
+            ∙ (rw (← lowest-digit quotient (remaining - 1), ← k) (g .bytes));
       }
 
-  pub over : left ≤ 0 → out ≡ sets out₀ at (charactersOf number width)
+  pub all-digits-put : remaining ≤ 0 → out ≡ sets out₀ at (charactersOf number width)
   unfolding charactersOf
-  over h = let k : left ≡ 0 = omega arith in rw k at (g .bytes)
+  all-digits-put h = let k : remaining ≡ 0 = omega arith in rw k at (g .bytes)

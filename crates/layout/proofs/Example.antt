@@ -3,10 +3,10 @@
 use mathlib.Core.Bool.{true}
 use mathlib.Core.List.{[], _∷_, _++_}
 use mathlib.Core.Path.{_≡_, refl}
-use Rattle.output.specs.Text.{ascii}
+use Rattle.output.specs.Ascii.{ascii}
 use Rattle.layout.specs.Digits.{charactersOf}
-use Rattle.layout.specs.Records.{numbersLine, recordLine, refusedLine, byteDigits, frameLine}
-use Rattle.layout.specs.State.{registerLine, l1idLine, baseLine, runmodeLine, pointersLine, wordLine}
+use Rattle.layout.specs.ListingLines.{numbersLine, recordLine, refusedLine, byteDigits, frameLine}
+use Rattle.layout.specs.StateLines.{registerLine, l1idLine, baseLine, runmodeLine, pointersLine, wordLine}
 
 -- "Input lines B5C074 and E0B080 print, whole": the four records by their words.
 pub listing : recordLine 0x102801 0 ++ recordLine 0x150105 0x15 ++ recordLine 0x1C0107 0x11C ++ recordLine 0x281101 0

@@ -1,3 +1,4 @@
 pub mod Digits
-pub mod Texts
+pub mod LinePieces
+pub mod LineLengths
 pub mod Example

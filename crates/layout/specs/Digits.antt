@@ -10,7 +10,7 @@ use lib.Dec.{ltb}
 abbrev pub characterOf : ℕ → ℕ
 characterOf n = cond (ltb n 10) (code "0" + n) (code "A" + (n - 10))
 
--- A number in exactly so many digits, highest first; what needs more digits is left out.
+-- A number in exactly `width` digits, highest first; what needs more digits is left out.
 unfoldable pub charactersOf : ℕ → ℕ → List ℕ
 charactersOf n zero = []
 charactersOf n (suc width) = characterOf (n / 16 ^ width % 16) ∷ charactersOf n width

@@ -1,3 +1,3 @@
 pub mod Digits
-pub mod Records
-pub mod State
+pub mod ListingLines
+pub mod StateLines

@@ -6,10 +6,11 @@ ghost use Prim.Native.Nat.{_+_, _≤_, _<_};
 ghost use lib.Dec.{leb};
 ghost use lib.ListN.{length};
 ghost use lib.Seq.{sets};
-ghost use Rattle.output.specs.Block.{block, putAll, putOf};
+ghost use Rattle.output.specs.Ascii.{lineFeed};
+ghost use Rattle.output.specs.Block.{block, putAll, putIfFits};
 ghost use Rattle.layout.specs.Digits.{characterOf, charactersOf};
-ghost use Rattle.layout.specs.Records.{numbersLine, lineOf, numbersSize, recordLine, refusedLine, byteDigits, frameLine};
-ghost use Rattle.layout.specs.State.{registerLine, l1idLine, baseLine, runmodeLine, pointersLine, wordLine};
+ghost use Rattle.layout.specs.ListingLines.{space, numbersLine, lineOf, numbersSize, recordLine, refusedLine, byteDigits, frameLine};
+ghost use Rattle.layout.specs.StateLines.{registerLine, l1idLine, baseLine, runmodeLine, pointersLine, wordLine};
 
 const SPACE: u8 = b' ';
 
@@ -34,29 +35,29 @@ fn put_digits(out: &mut [u8], at: usize, number: u64, width: usize)
     requires { ⌜ at + width ≤ length (now out) ⌝ }
     ensures { λ _. ⌜ now (out .exit) ≡ sets (now (out .entry)) at (charactersOf number width) ⌝ }
 {
-    let mut left = width;
-    let mut rest = number;
-    while 0 < left {
-        left -= 1;
-        out[at + left] = character((rest % 16) as u8);
-        rest = rest / 16;
+    let mut remaining = width;
+    let mut quotient = number;
+    while 0 < remaining {
+        remaining -= 1;
+        out[at + remaining] = character((quotient % 16) as u8);
+        quotient = quotient / 16;
     }
 }
 
 // What stands after a number of a line: the line feed after the last, a space after the others.
-fn mark(last: bool) -> u8
-    ensures { λ r. ⌜ r ≡ cond last 10 32 ⌝ }
+fn separator(last: bool) -> u8
+    ensures { λ r. ⌜ r ≡ cond last lineFeed space ⌝ }
 {
     if last { output::LINE_FEED } else { SPACE }
 }
 
-// A number in so many digits, and its mark, at a place of a buffer; the answer is the place after them.
-fn put_number(out: &mut [u8], at: usize, number: u64, width: usize, mark: u8) -> usize
+// A number in the digits of its width, and its separator, at a place of a buffer; the answer is the place after them.
+fn put_number(out: &mut [u8], at: usize, number: u64, width: usize, separator: u8) -> usize
     requires { ⌜ at + width < length (now out) ⌝ }
-    ensures { λ r. ⌜ block (now (out .exit)) r ≡ putAll (now (out .entry)) at (charactersOf number width ++ (mark ∷ [])) ⌝ }
+    ensures { λ r. ⌜ block (now (out .exit)) r ≡ putAll (now (out .entry)) at (charactersOf number width ++ (separator ∷ [])) ⌝ }
 {
     put_digits(out, at, number, width);
-    out[at + width] = mark;
+    out[at + width] = separator;
     at + width + 1
 }
 
@@ -69,7 +70,7 @@ fn put_numbers(out: &mut [u8], at: usize, numbers: &[u64], widths: &[usize]) -> 
     let mut i: usize = 0;
     while i < numbers.len() {
         let next = i + 1;
-        let end = mark(next == numbers.len());
+        let end = separator(next == numbers.len());
         place = put_number(out, place, numbers[i], widths[i], end);
         i = next;
     }
@@ -91,7 +92,7 @@ fn put_byte_digits(out: &mut [u8], at: usize, bytes: &[u8]) -> usize
     place
 }
 
-// Whether a text of so many bytes fits a block of a length from a place on; no sum here can wrap.
+// Whether a text of `size` bytes fits a block of `room` bytes from a place on; no sum here can wrap.
 fn fits(room: usize, at: usize, size: usize) -> bool
     ensures { λ r. ⌜ r ≡ leb (at + size) room ⌝ }
 {
@@ -111,7 +112,7 @@ fn put_line(
     widths: &[usize],
 ) -> usize
     requires { ⌜ (length (now numbers) ≡ length (now widths)) × (size ≡ length (now lead) + numbersSize (now widths)) ⌝ }
-    ensures { λ r. ⌜ block (now (out .exit)) r ≡ putOf (now (out .entry)) at (lineOf (now (lead .entry)) (now (numbers .entry)) (now (widths .entry))) ⌝ }
+    ensures { λ r. ⌜ block (now (out .exit)) r ≡ putIfFits (now (out .entry)) at (lineOf (now (lead .entry)) (now (numbers .entry)) (now (widths .entry))) ⌝ }
 {
     if !fits(out.len(), at, size) {
         return at;
@@ -125,7 +126,7 @@ fn put_line(
 
 // A record's line from its two words. 28 bytes.
 pub fn record_line(out: &mut [u8], at: usize, head: u64, value: u64) -> usize
-    ensures { λ r. ⌜ block (now (out .exit)) r ≡ putOf (now (out .entry)) at (recordLine head value) ⌝ }
+    ensures { λ r. ⌜ block (now (out .exit)) r ≡ putIfFits (now (out .entry)) at (recordLine head value) ⌝ }
 {
     let numbers = [head / 65536, head / 256 % 256, head % 256, value];
     let widths = [12, 2, 2, 8];
@@ -134,7 +135,7 @@ pub fn record_line(out: &mut [u8], at: usize, head: u64, value: u64) -> usize
 
 // A frame's line: ">", the digits of its bytes, two each, and a line feed. Two bytes more than the digits.
 pub fn frame_line(out: &mut [u8], at: usize, bytes: &[u8]) -> usize
-    ensures { λ r. ⌜ block (now (out .exit)) r ≡ putOf (now (out .entry)) at (frameLine (now (bytes .entry))) ⌝ }
+    ensures { λ r. ⌜ block (now (out .exit)) r ≡ putIfFits (now (out .entry)) at (frameLine (now (bytes .entry))) ⌝ }
 {
     if out.len() < at {
         return at;
@@ -150,7 +151,7 @@ pub fn frame_line(out: &mut [u8], at: usize, bytes: &[u8]) -> usize
 
 // What a refused line prints: the refusal's number, and the line's number from 1. 13 bytes.
 pub fn refused_line(out: &mut [u8], at: usize, number: u8, line: u64) -> usize
-    ensures { λ r. ⌜ block (now (out .exit)) r ≡ putOf (now (out .entry)) at (refusedLine number line) ⌝ }
+    ensures { λ r. ⌜ block (now (out .exit)) r ≡ putIfFits (now (out .entry)) at (refusedLine number line) ⌝ }
 {
     let numbers = [number as u64, line];
     let widths = [2, 8];
@@ -159,7 +160,7 @@ pub fn refused_line(out: &mut [u8], at: usize, number: u8, line: u64) -> usize
 
 // A register of the model's state: its address, and what it holds. 16 bytes.
 pub fn register_line(out: &mut [u8], at: usize, address: usize, value: u16) -> usize
-    ensures { λ r. ⌜ block (now (out .exit)) r ≡ putOf (now (out .entry)) at (registerLine address value) ⌝ }
+    ensures { λ r. ⌜ block (now (out .exit)) r ≡ putIfFits (now (out .entry)) at (registerLine address value) ⌝ }
 {
     let numbers = [address as u64, value as u64];
     let widths = [1, 4];
@@ -168,7 +169,7 @@ pub fn register_line(out: &mut [u8], at: usize, address: usize, value: u16) -> u
 
 // The trigger number. 8 bytes.
 pub fn l1id_line(out: &mut [u8], at: usize, l1id: u8) -> usize
-    ensures { λ r. ⌜ block (now (out .exit)) r ≡ putOf (now (out .entry)) at (l1idLine l1id) ⌝ }
+    ensures { λ r. ⌜ block (now (out .exit)) r ≡ putIfFits (now (out .entry)) at (l1idLine l1id) ⌝ }
 {
     let numbers = [l1id as u64];
     let widths = [2];
@@ -177,7 +178,7 @@ pub fn l1id_line(out: &mut [u8], at: usize, l1id: u8) -> usize
 
 // The cycle from which the bunch number counts. 18 bytes.
 pub fn base_line(out: &mut [u8], at: usize, base: u64) -> usize
-    ensures { λ r. ⌜ block (now (out .exit)) r ≡ putOf (now (out .entry)) at (baseLine base) ⌝ }
+    ensures { λ r. ⌜ block (now (out .exit)) r ≡ putIfFits (now (out .entry)) at (baseLine base) ⌝ }
 {
     let numbers = [base];
     let widths = [12];
@@ -192,7 +193,7 @@ fn bit(on: bool) -> u64
 
 // RunMode, 1 for on. 10 bytes.
 pub fn runmode_line(out: &mut [u8], at: usize, on: bool) -> usize
-    ensures { λ r. ⌜ block (now (out .exit)) r ≡ putOf (now (out .entry)) at (runmodeLine on) ⌝ }
+    ensures { λ r. ⌜ block (now (out .exit)) r ≡ putIfFits (now (out .entry)) at (runmodeLine on) ⌝ }
 {
     let numbers = [bit(on)];
     let widths = [1];
@@ -201,7 +202,7 @@ pub fn runmode_line(out: &mut [u8], at: usize, on: bool) -> usize
 
 // A FIFO's write and read pointers. 17 bytes.
 pub fn pointers_line(out: &mut [u8], at: usize, fifo: usize, write: u8, read: u8) -> usize
-    ensures { λ r. ⌜ block (now (out .exit)) r ≡ putOf (now (out .entry)) at (pointersLine fifo write read) ⌝ }
+    ensures { λ r. ⌜ block (now (out .exit)) r ≡ putIfFits (now (out .entry)) at (pointersLine fifo write read) ⌝ }
 {
     let numbers = [fifo as u64, write as u64, read as u64];
     let widths = [1, 2, 2];
@@ -210,7 +211,7 @@ pub fn pointers_line(out: &mut [u8], at: usize, fifo: usize, write: u8, read: u8
 
 // A word of a FIFO, and its place there. 19 bytes.
 pub fn word_line(out: &mut [u8], at: usize, fifo: usize, place: usize, word: u32) -> usize
-    ensures { λ r. ⌜ block (now (out .exit)) r ≡ putOf (now (out .entry)) at (wordLine fifo place word) ⌝ }
+    ensures { λ r. ⌜ block (now (out .exit)) r ≡ putIfFits (now (out .entry)) at (wordLine fifo place word) ⌝ }
 {
     let numbers = [fifo as u64, place as u64, word as u64];
     let widths = [1, 2, 8];

@@ -1,2 +1,2 @@
 pub mod Records
-pub mod States
+pub mod State

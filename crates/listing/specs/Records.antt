@@ -6,7 +6,7 @@ use Prim.Native.Nat.{ℕ}
 use lib.Dec.{eqb}
 use Rattle.frames.specs.Tray.{partOf}
 use Rattle.controller.specs.Records.{kindOf, isFrameHead, frameBitsOf}
-use Rattle.layout.specs.Records.{recordLine, frameLine}
+use Rattle.layout.specs.ListingLines.{recordLine, frameLine}
 
 -- "after a frame of at least one bit, ">" and its bytes"; a program may leave the frames out.
 abbrev pub frameText : Bool → List ℕ → ℕ → ℕ → List ℕ
@@ -19,7 +19,7 @@ unfoldable pub recordText : Bool → List ℕ → ℕ → ℕ → List ℕ
 recordText frames tray head value = recordLine head value ++ frameText frames tray head value
 
 -- The records of a taking call, from their words. A frame's record is the last, so that the tray still holds the frame.
-unfoldable pub wordsText : Bool → List ℕ → List ℕ → List ℕ
-wordsText frames tray [] = []
-wordsText frames tray (head ∷ []) = []
-wordsText frames tray (head ∷ value ∷ words) = recordText frames tray head value ++ wordsText frames tray words
+unfoldable pub recordsText : Bool → List ℕ → List ℕ → List ℕ
+recordsText frames tray [] = []
+recordsText frames tray (head ∷ []) = []
+recordsText frames tray (head ∷ value ∷ words) = recordText frames tray head value ++ recordsText frames tray words

@@ -1,10 +1,11 @@
-// What the programs print of a taking call's records, and of the controller as the commands left it.
+// The listing: the text of a taking call's records, and of the controller as the commands left it.
 ghost use mathlib.Core.Path.{_≡_};
 ghost use Prim.Native.Nat.{_+_, _≤_};
 ghost use lib.ListN.{length};
-ghost use Rattle.output.specs.Block.{block, putAll};
-ghost use Rattle.listing.specs.Records.{recordText, wordsText};
-ghost use Rattle.listing.specs.State.{textsFrom, registerText, pointersText, wordText, stateText};
+ghost use Rattle.decoder.specs.Limits.{storeLength};
+ghost use Rattle.output.specs.Block.{blockLength, block, putAll};
+ghost use Rattle.listing.specs.Records.{recordText, recordsText};
+ghost use Rattle.listing.specs.State.{allRegistersText, allPointersText, allFifoWordsText, stateText};
 use decoder::Decoder;
 use registers::Model;
 use registers::Plan;
@@ -27,8 +28,8 @@ fn put_record(out: &mut [u8], at: usize, head: u64, value: u64, tray: &[u8], fra
 
 // The lines of the records of a taking call.
 pub fn put_records(out: &mut [u8], at: usize, words: &[u64], tray: &[u8], frames: bool) -> usize
-    requires { ⌜ at + length (wordsText frames (now tray) (now words)) ≤ length (now out) ⌝ }
-    ensures { λ r. ⌜ block (now (out .exit)) r ≡ putAll (now (out .entry)) at (wordsText frames (now (tray .entry)) (now (words .entry))) ⌝ }
+    requires { ⌜ at + length (recordsText frames (now tray) (now words)) ≤ length (now out) ⌝ }
+    ensures { λ r. ⌜ block (now (out .exit)) r ≡ putAll (now (out .entry)) at (recordsText frames (now (tray .entry)) (now (words .entry))) ⌝ }
 {
     let mut place = at;
     let mut i: usize = 0;
@@ -41,8 +42,8 @@ pub fn put_records(out: &mut [u8], at: usize, words: &[u64], tray: &[u8], frames
 
 // The registers that exist, as they read.
 fn put_registers(out: &mut [u8], at: usize, plan: Plan, model: Model) -> usize
-    requires { ⌜ at + length (textsFrom 16 0 (registerText plan model)) ≤ length (now out) ⌝ }
-    ensures { λ r. ⌜ block (now (out .exit)) r ≡ putAll (now (out .entry)) at (textsFrom 16 0 (registerText plan model)) ⌝ }
+    requires { ⌜ at + length (allRegistersText plan model) ≤ length (now out) ⌝ }
+    ensures { λ r. ⌜ block (now (out .exit)) r ≡ putAll (now (out .entry)) at (allRegistersText plan model) ⌝ }
 {
     let mut place = at;
     for i in 0..16 {
@@ -56,8 +57,8 @@ fn put_registers(out: &mut [u8], at: usize, plan: Plan, model: Model) -> usize
 
 // The FIFOs' pointers.
 fn put_pointers(out: &mut [u8], at: usize, model: Model) -> usize
-    requires { ⌜ at + length (textsFrom 16 0 (pointersText (model .writes) (model .reads))) ≤ length (now out) ⌝ }
-    ensures { λ r. ⌜ block (now (out .exit)) r ≡ putAll (now (out .entry)) at (textsFrom 16 0 (pointersText (model .writes) (model .reads))) ⌝ }
+    requires { ⌜ at + length (allPointersText (model .writes) (model .reads)) ≤ length (now out) ⌝ }
+    ensures { λ r. ⌜ block (now (out .exit)) r ≡ putAll (now (out .entry)) at (allPointersText (model .writes) (model .reads)) ⌝ }
 {
     let writes = model.writes;
     let reads = model.reads;
@@ -69,9 +70,9 @@ fn put_pointers(out: &mut [u8], at: usize, model: Model) -> usize
 }
 
 // The FIFO words that are not 0.
-fn put_words(out: &mut [u8], at: usize, store: &[u32]) -> usize
-    requires { ⌜ at + length (textsFrom (length (now store)) 0 (wordText (now store))) ≤ length (now out) ⌝ }
-    ensures { λ r. ⌜ block (now (out .exit)) r ≡ putAll (now (out .entry)) at (textsFrom (length (now (store .entry))) 0 (wordText (now (store .entry)))) ⌝ }
+fn put_fifo_words(out: &mut [u8], at: usize, store: &[u32]) -> usize
+    requires { ⌜ at + length (allFifoWordsText (now store)) ≤ length (now out) ⌝ }
+    ensures { λ r. ⌜ block (now (out .exit)) r ≡ putAll (now (out .entry)) at (allFifoWordsText (now (store .entry))) ⌝ }
 {
     let mut place = at;
     for i in 0..store.len() {
@@ -86,7 +87,7 @@ fn put_words(out: &mut [u8], at: usize, store: &[u32]) -> usize
 
 // The controller as the commands left it.
 pub fn put_state(out: &mut [u8], decoder: Decoder, store: &[u32]) -> usize
-    requires { ⌜ (length (now store) ≡ 2048) × (length (now out) ≡ 65536) ⌝ }
+    requires { ⌜ (length (now store) ≡ storeLength) × (length (now out) ≡ blockLength) ⌝ }
     ensures { λ r. ⌜ block (now (out .exit)) r ≡ putAll (now (out .entry)) 0 (stateText decoder (now (store .entry))) ⌝ }
 {
     let plan = decoder.plan;
@@ -96,5 +97,5 @@ pub fn put_state(out: &mut [u8], decoder: Decoder, store: &[u32]) -> usize
     let base = layout::base_line(out, l1id, model.base);
     let runmode = layout::runmode_line(out, base, model.running);
     let pointers = put_pointers(out, runmode, model);
-    put_words(out, pointers, store)
+    put_fifo_words(out, pointers, store)
 }

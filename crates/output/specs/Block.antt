@@ -7,6 +7,10 @@ use lib.Dec.{leb}
 use lib.ListN.{length}
 use lib.Seq.{sets}
 
+-- How many bytes a program's block of input or of output has.
+abbrev pub blockLength : ℕ
+blockLength = 65536
+
 -- The block's bytes, and its next free place.
 pub record Block : Type 0 where
   pub bytes : List ℕ
@@ -20,5 +24,5 @@ abbrev pub putAll : List ℕ → ℕ → List ℕ → Block
 putAll out at text = block (sets out at text) (at + length text)
 
 -- The same where all of the text fits; else the block and the place are as they were.
-unfoldable pub putOf : List ℕ → ℕ → List ℕ → Block
-putOf out at text = cond (leb (at + length text) (length out)) (putAll out at text) (block out at)
+unfoldable pub putIfFits : List ℕ → ℕ → List ℕ → Block
+putIfFits out at text = cond (leb (at + length text) (length out)) (putAll out at text) (block out at)

@@ -1,8 +1,9 @@
-pub mod Puts
-pub mod Runs
-pub mod Takes
-pub mod Turns
-pub mod Ends
-pub mod Feeds
-pub mod Goings
-pub mod Inputs
+pub mod OutputBlock
+pub mod RunText
+pub mod TakingCall
+pub mod WellFormed
+pub mod TakeStep
+pub mod LineEnd
+pub mod ScanStep
+pub mod Steps
+pub mod Refill

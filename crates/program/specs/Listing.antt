@@ -11,8 +11,8 @@ use Rattle.controller.specs.declared.Cycle.the-variants.{Nothing, Record}
 use Rattle.taking.specs.Run.{stateAfter}
 use Rattle.taking.specs.Turn.{World, turnOf}
 use Rattle.taking.specs.Take.{clockFits}
-use Rattle.hexlines.specs.Line.{Hex}
-use Rattle.layout.specs.Records.{refusedLine}
+use Rattle.hexlines.specs.Line.{LineMeaning}
+use Rattle.layout.specs.ListingLines.{refusedLine}
 use Rattle.listing.specs.Records.{recordText}
 
 -- The records cycle by cycle, whatever the taking calls are.
@@ -29,29 +29,30 @@ bitsText frames w (bit ∷ bits) =
 -- All that a run prints, and the state, store and tray that it leaves.
 pub record Outcome : Type 0 where
   pub text : List ℕ
-  pub world : World
+  pub machine : World
 
 abbrev pub outcome : List ℕ → World → Outcome
-outcome text w = record { text = text; world = w }
+outcome text w = record { text = text; machine = w }
 
-abbrev pub printed : List ℕ → Outcome → Outcome
-printed text o = outcome (text ++ o .text) (o .world)
+-- A text printed ahead of an outcome.
+abbrev pub printFirst : List ℕ → Outcome → Outcome
+printFirst text o = outcome (text ++ o .text) (o .machine)
 
--- A line's bits, and then the rest of the run, given at each state. At the clock's end they are turned away by number 6, and the run ends.
+-- A line's bits, and then the rest of the run, given for each state. At the clock's end they are rejected with number 6, and the run ends.
 abbrev pub bitsThen : Bool → World → List ℕ → (World → Outcome) → Outcome
 bitsThen frames w bits rest =
     cond (clockFits (w .decoder .next) (length bits))
-    (printed (bitsText frames w bits) (rest (stateAfter turnOf w bits)))
+    (printFirst (bitsText frames w bits) (rest (stateAfter turnOf w bits)))
     (outcome [] w)
 
 -- "the line's number from 1", counted in 64 bits.
-abbrev pub lineAfter : ℕ → ℕ
-lineAfter n = (n + 1) % 2 ^ 64
+abbrev pub nextLineNumber : ℕ → ℕ
+nextLineNumber n = (n + 1) % 2 ^ 64
 
--- The lines by what they say, after so many that have ended: "A refused line prints .. and ends the run."
-unfoldable pub listingOf : Bool → World → ℕ → List Hex → Outcome
+-- The lines by what they mean, after n that have ended: "A refused line prints .. and ends the run."
+unfoldable pub listingOf : Bool → World → ℕ → List LineMeaning → Outcome
 listingOf frames w n [] = outcome [] w
-listingOf frames w n (hex ∷ hexes) =
-    cond (eqb (hex .number) 0)
-    (bitsThen frames w (bitsOf (hex .bytes) 0 (8 * length (hex .bytes))) (λ v. listingOf frames v (lineAfter n) hexes))
-    (outcome (refusedLine (hex .number) (lineAfter n)) w)
+listingOf frames w n (meaning ∷ meanings) =
+    cond (eqb (meaning .number) 0)
+    (bitsThen frames w (bitsOf (meaning .bytes) 0 (8 * length (meaning .bytes))) (λ v. listingOf frames v (nextLineNumber n) meanings))
+    (outcome (refusedLine (meaning .number) (nextLineNumber n)) w)

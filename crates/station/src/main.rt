@@ -1,15 +1,9 @@
-// The program `station`: hexadecimal lines in; a line a record and a line a frame out.
-use program::Prints;
+// The program `station`: hexadecimal lines in; one line per record and one per frame out.
+use program::PrintOptions;
 
 fn main() {
-    let mut store = [0u32; 2048];
-    let mut tray = [0u8; 8192];
-    program::run(
-        Prints {
-            frames: true,
-            state: false,
-        },
-        &mut store,
-        &mut tray,
-    );
+    program::run(PrintOptions {
+        frames: true,
+        state: false,
+    });
 }

@@ -3,25 +3,25 @@
 use native.Mathlib.Omega.{arith}
 use borrow.Author.Needs.{needs}
 use borrow.Author.Tests.{le-leb, lt-leb}
-use Rattle.hexlines.proofs.Digits.{known}
+use Rattle.hexlines.proofs.Digits.{digit-range}
 use Rattle.hexlines.proofs.digit.Statement.{statement}
 use Rattle.hexlines.proofs.digit.Tie as tie
 
 sub-result : tie.Need-sub-result
-sub-result c = known (c .before .args .character) (c .before .pre) .low
+sub-result c = digit-range (c .before .args .character) (c .before .pre) .low
 
 returns : tie.Need-returns
 returns c = (simp (le-leb _ _ (c .if1 .taken)), omega arith)
 
 sub-result-2 : tie.Need-sub-result-2
-sub-result-2 c = known (c .before .args .character) (c .before .pre) .gap (c .if1 .left)
+sub-result-2 c = digit-range (c .before .args .character) (c .before .pre) .gap (c .if1 .left)
 
 add-result : tie.Need-add-result
 add-result c = search needs
 
 returns-2 : tie.Need-returns-2
 returns-2 c =
-    let d = known (c .before .args .character) (c .before .pre) in
+    let d = digit-range (c .before .args .character) (c .before .pre) in
     (simp (lt-leb _ _ (c .if1 .left)), omega arith)
 
 pub digit-spec : {M : Type 1} → statement M

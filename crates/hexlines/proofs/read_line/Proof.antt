@@ -1,4 +1,4 @@
--- `read_line` meets its contract: what was seen of the whole line says what the line says, and its bytes are copied.
+-- `read_line` meets its contract: the whole line, read character by character, means what the line means, and its bytes are copied.
 -- Assumes nothing.
 use mathlib.Core.List.{List}
 use mathlib.Core.Path.{_≡_, sym, ap, _∙_}
@@ -9,41 +9,55 @@ use lib.Seq.{sets}
 use borrow.Author.Needs.{needs}
 use Rattle.output.specs.Block.{Block}
 use Rattle.hexlines.specs.declared.HexLine.{HexLine}
-use Rattle.hexlines.specs.declared.Seen.{Seen}
-use Rattle.hexlines.specs.Line.{hexCount, readAs, readOf}
-use Rattle.hexlines.specs.Lines.{fresh, seenOf}
-use Rattle.hexlines.proofs.Says.{short, within, length-said, read}
+use Rattle.hexlines.specs.declared.LineSoFar.{LineSoFar}
+use Rattle.hexlines.specs.Line.{lineBytes, hexCount, readAs, readOf}
+use Rattle.hexlines.specs.Lines.{emptyLine, withCharacters}
+use Rattle.hexlines.proofs.Meaning.{count-limit, count-within, bytes-count, line-read}
 use Rattle.hexlines.proofs.read_line.Statement.{statement}
 use Rattle.hexlines.proofs.read_line.Tie as tie
 
+-- The places that the proofs look back to: the start by the line that is read, and the answer by its branch of a line with bytes.
+abbrev start : tie.After-with-characters → tie.Start
+start c = c .before .before .before .before
+
+abbrev answered : tie.After-answer2 → tie.After-answer
+answered c = c .before .before
+
+abbrev accepted : tie.After-held2 → tie.After-answer2
+accepted c = c .before .before .before .before
+
 -- once the answer is there
-abbrev entry : tie.After-answer → tie.Start
-entry c = c .before .before .before .before .before
+module _ (c : tie.After-answer) where
+  abbrev line : List ℕ
+  line = start (c .before) .args .line .now
 
-seen : (c : tie.After-answer) → c .before .with-all .result ≡ seenOf fresh (entry c .args .line .now)
-seen c = c .before .with-all .ensures ∙ ap (λ (s : Seen). seenOf s (entry c .args .line .now)) (c .before .before .fresh .ensures)
+  abbrev whole : LineSoFar
+  whole = c .before .with-characters .result
 
-module _ (c : tie.After-answer) (r : HexLine) (e : c .answer .result ≡ r) where
-  abbrev held : List ℕ
-  held = take (hexCount r) (c .before .with-all .result .bytes)
+  whole-read : whole ≡ withCharacters emptyLine line
+  whole-read = c .before .with-characters .ensures ∙ ap (λ (s : LineSoFar). withCharacters s line) (c .before .before .empty .ensures)
 
-  few : hexCount r ≤ 32
-  few = short (entry c .args .line .now) (c .before .with-all .result) (seen c) r (sym e ∙ c .answer .ensures)
+  module _ (r : HexLine) (e : c .answer .result ≡ r) where
+    abbrev held : List ℕ
+    held = take (hexCount r) (whole .bytes)
 
-  inside : hexCount r ≤ length (c .before .with-all .result .bytes)
-  inside = within (entry c .args .line .now) (c .before .with-all .result) (seen c) r (sym e ∙ c .answer .ensures)
+    few : hexCount r ≤ lineBytes
+    few = count-limit line whole whole-read r (sym e ∙ c .answer .ensures)
 
-  held-length : length held ≡ hexCount r
-  held-length = length-said (entry c .args .line .now) (c .before .with-all .result) (seen c) r (sym e ∙ c .answer .ensures)
+    inside : hexCount r ≤ length (whole .bytes)
+    inside = count-within line whole whole-read r (sym e ∙ c .answer .ensures)
 
-  told : readAs r (sets (entry c .args .bytes .now) 0 held) ≡ readOf (entry c .args .line .now) (entry c .args .bytes .now)
-  told = read (entry c .args .line .now) (c .before .with-all .result) (seen c) r (sym e ∙ c .answer .ensures) (entry c .args .bytes .now)
+    held-length : length held ≡ hexCount r
+    held-length = bytes-count line whole whole-read r (sym e ∙ c .answer .ensures)
 
-fresh-requires : tie.Need-fresh-requires
-fresh-requires c κs = search needs
+    means : readAs r (sets (start (c .before) .args .bytes .now) 0 held) ≡ readOf line (start (c .before) .args .bytes .now)
+    means = line-read line whole whole-read r (sym e ∙ c .answer .ensures) (start (c .before) .args .bytes .now)
 
-with-all-requires : tie.Need-with-all-requires
-with-all-requires c κs = search needs
+empty-requires : tie.Need-empty-requires
+empty-requires c κs = search needs
+
+with-characters-requires : tie.Need-with-characters-requires
+with-characters-requires c κs = search needs
 
 answer-requires : tie.Need-answer-requires
 answer-requires c κs = search needs
@@ -52,17 +66,16 @@ enum-known-answer : tie.Need-enum-known-answer
 enum-known-answer c = search needs
 
 array-share-prefix-held : tie.Need-array-share-prefix-held
-array-share-prefix-held c = inside (c .before .before .before .before .before) _ (c .before .before .before .answer2 .given .1)
+array-share-prefix-held c = let a = c .before .before .before in inside (answered a) _ (a .answer2 .given .1)
 
 slice-aggregate-put-bytes : tie.Need-slice-aggregate-put-bytes
-slice-aggregate-put-bytes c =
-    sym (held-length (c .before .before .before .before .before .before) _ (c .before .before .before .before .answer2 .given .1))
+slice-aggregate-put-bytes c = let a = accepted c in sym (held-length (answered a) _ (a .answer2 .given .1))
 
 put-bytes-requires : tie.Need-put-bytes-requires
 put-bytes-requires c κs =
-    let a = c .before .before .before .before .before .before in
-    let e = c .before .before .before .before .answer2 .given .1 in
-    rw (zero-add, held-length a _ e) (le-trans (few a _ e) (entry a .pre))
+    let a = answered (accepted c) in
+    let e = accepted c .answer2 .given .1 in
+    rw (zero-add, held-length a _ e) (le-trans (few a _ e) (start (a .before) .pre))
 
 enum-told : tie.Need-enum-told
 enum-told c = search needs
@@ -76,21 +89,21 @@ same-length c = c .before .before .put-bytes .kept .0
 returns : tie.Need-returns
 returns c =
     let p = c .before .before in
-    let a = p .before .before .before .before .before in
-    rw (ap (λ (b : Block). b .bytes) (p .put-bytes .ensures)) (told (a .before .before) _ (a .answer2 .given .1))
+    let a = accepted (p .before) in
+    rw (ap (λ (b : Block). b .bytes) (p .put-bytes .ensures)) (means (answered a) _ (a .answer2 .given .1))
 
 returns-2 : tie.Need-returns-2
-returns-2 c = told (c .before .before) _ (c .enum-told .given .1)
+returns-2 c = means (c .before .before) _ (c .enum-told .given .1)
 
 returns-3 : tie.Need-returns-3
-returns-3 c = told (c .before .before) _ (c .enum-told2 .given .1)
+returns-3 c = means (c .before .before) _ (c .enum-told2 .given .1)
 
 pub read-line-spec : {M : Type 1} → statement M
 read-line-spec =
     tie.close
     (tie.spec
-    fresh-requires
-    with-all-requires
+    empty-requires
+    with-characters-requires
     answer-requires
     enum-known-answer
     array-share-prefix-held

@@ -1,24 +1,34 @@
 -- `layout::put_byte_digits` meets its contract: the bytes that are left, put at the present place, give what all of them give.
 -- Assumes nothing.
-use Prim.Native.Nat.{_-_, _≤_}
+use Prim.Native.Nat.{_+_, _-_, _≤_}
 use native.Mathlib.Omega.{arith}
 use lib.ListN.{length, drop, drop-of-length-le}
 use borrow.Author.Needs.{needs}
-use Rattle.output.proofs.Puts.{Left, begun, over}
-use Rattle.layout.specs.Records.{byteDigits}
-use Rattle.layout.proofs.Texts.{byte-room, byte-again}
+use Rattle.output.proofs.Pieces.{PartlyPut, none-put, all-put}
+use Rattle.layout.specs.ListingLines.{byteDigits}
+use Rattle.layout.proofs.LinePieces.{byte-fits, byte-put}
 use Rattle.layout.proofs.put_byte_digits.Statement.{statement}
 use Rattle.layout.proofs.put_byte_digits.Tie as tie
 
 abbrev Inv-loop : tie.InvT-loop
 Inv-loop out₀ at bytes place₀ i₀ out place i =
-    (i ≤ length bytes) × Left out₀ at (byteDigits bytes) out place (byteDigits (drop i bytes))
+    (i ≤ length bytes) × PartlyPut out₀ at (byteDigits bytes) out place (byteDigits (drop i bytes))
 
 abbrev μ-loop : tie.MeasureT-loop
 μ-loop out₀ at bytes place₀ i₀ out place i = length bytes - i
 
+-- The places that the proofs look back to; and the room for the next byte.
+abbrev start : tie.At-loop Inv-loop μ-loop → tie.Start Inv-loop μ-loop
+start l = l .before .before .before
+
+abbrev inLoop : tie.After-put-digits Inv-loop μ-loop → tie.In-loop Inv-loop μ-loop
+inLoop c = c .before .before .before .before
+
+fits : (t : tie.In-loop Inv-loop μ-loop) → t .before .loop .place + 2 ≤ length (t .before .loop .out)
+fits t = let l = t .before in byte-fits (start l .args .bytes .now) (l .loop .i) (t .loop-test .taken) (l .loop .inv .1)
+
 loop-holds : tie.Need-loop-holds Inv-loop μ-loop
-loop-holds c = (omega arith, begun _ _ _ (c .before .before .pre))
+loop-holds c = (omega arith, none-put _ _ _ (c .before .before .pre))
 
 shared-slice-read-wide : tie.Need-shared-slice-read-wide Inv-loop μ-loop
 shared-slice-read-wide c = search needs
@@ -27,15 +37,12 @@ wide-requires : tie.Need-wide-requires Inv-loop μ-loop
 wide-requires c κs = search needs
 
 put-digits-requires : tie.Need-put-digits-requires Inv-loop μ-loop
-put-digits-requires c κs =
-    let t = c .before .before .before in
-    byte-room (t .before .before .before .before .args .bytes .now) (t .before .loop .i) (t .loop-test .taken) (t .before .loop .inv .1)
+put-digits-requires c κs = fits (c .before .before .before)
 
 add-place : tie.Need-add-place Inv-loop μ-loop
 add-place c =
-    let t = c .before .before .before .before .before .before in
-    let h = byte-room (t .before .before .before .before .args .bytes .now) (t .before .loop .i) (t .loop-test .taken) (t .before .loop .inv .1) in
-    omega (arith, t)
+    let t = inLoop (c .before .before) in
+    omega (arith, t, fits t)
 
 add-i : tie.Need-add-i Inv-loop μ-loop
 add-i c = search needs
@@ -45,16 +52,18 @@ loop-less c = search needs
 
 loop-again : tie.Need-loop-again Inv-loop μ-loop
 loop-again c =
-    let t = c .before .before .before .before .before .before in
-    let put = rw (c .before .before .before .wide .ensures) at (c .before .before .put-digits .ensures) in
-    (omega (arith, t .loop-test .taken), byte-again (t .before .before .before .before .args .bytes .now) (t .before .loop .i) (t .loop-test .taken) (t .before .loop .inv .1) _ put)
+    let p = c .before .before in
+    let t = inLoop p in
+    let l = t .before in
+    let put = rw (p .before .wide .ensures) at (p .put-digits .ensures) in
+    (omega (arith, t .loop-test .taken), byte-put (start l .args .bytes .now) (l .loop .i) (t .loop-test .taken) (l .loop .inv .1) _ put)
 
 same-length : tie.Need-same-length Inv-loop μ-loop
-same-length c = c .before .loop .inv .1 .same
+same-length c = c .before .loop .inv .1 .same-length
 
 returns : tie.Need-returns Inv-loop μ-loop
 unfolding byteDigits
-returns c = over (c .before .loop .inv .1) (rw (drop-of-length-le _ (c .loop-test .left)))
+returns c = all-put (c .before .loop .inv .1) (rw (drop-of-length-le _ (c .loop-test .left)))
 
 pub put-byte-digits-spec : {M : Type 1} → statement M
 put-byte-digits-spec =

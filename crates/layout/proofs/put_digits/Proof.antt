@@ -1,21 +1,21 @@
 -- `layout::put_digits` meets its contract: the digits that are left of the number that is left give what all of them give.
 -- Assumes nothing.
 use borrow.Author.Needs.{needs}
-use Rattle.layout.proofs.Digits.{Going, begun, again, over}
+use Rattle.layout.proofs.Digits.{LowDigitsPut, no-digit-put, next-digit-put, all-digits-put}
 use Rattle.layout.proofs.put_digits.Statement.{statement}
 use Rattle.layout.proofs.put_digits.Tie as tie
 
 abbrev Inv-loop : tie.InvT-loop
-Inv-loop out₀ at number width left₀ rest₀ out left rest = Going out₀ at number width out left rest
+Inv-loop out₀ at number width remaining₀ quotient₀ out remaining quotient = LowDigitsPut out₀ at number width out remaining quotient
 
 abbrev μ-loop : tie.MeasureT-loop
-μ-loop out₀ at number width left₀ rest₀ out left rest = left
+μ-loop out₀ at number width remaining₀ quotient₀ out remaining quotient = remaining
 
 loop-holds : tie.Need-loop-holds Inv-loop μ-loop
-loop-holds c = begun _ _ _ _
+loop-holds c = no-digit-put _ _ _ _
 
-sub-left : tie.Need-sub-left Inv-loop μ-loop
-sub-left c = search needs
+sub-remaining : tie.Need-sub-remaining Inv-loop μ-loop
+sub-remaining c = search needs
 
 cast-character : tie.Need-cast-character Inv-loop μ-loop
 cast-character c = search needs
@@ -33,13 +33,13 @@ loop-less : tie.Need-loop-less Inv-loop μ-loop
 loop-less c = search needs
 
 loop-again : tie.Need-loop-again Inv-loop μ-loop
-loop-again c = rw (c .character .ensures) (again (c .before .before .loop .inv) (c .before .loop-test .taken))
+loop-again c = rw (c .character .ensures) (next-digit-put (c .before .before .loop .inv) (c .before .loop-test .taken))
 
 same-length : tie.Need-same-length Inv-loop μ-loop
-same-length c = c .before .loop .inv .same
+same-length c = c .before .loop .inv .same-length
 
 returns : tie.Need-returns Inv-loop μ-loop
-returns c = over (c .before .loop .inv) (c .loop-test .left)
+returns c = all-digits-put (c .before .loop .inv) (c .loop-test .left)
 
 pub put-digits-spec : {M : Type 1} → statement M
 put-digits-spec =
@@ -48,7 +48,7 @@ put-digits-spec =
     Inv-loop
     μ-loop
     loop-holds
-    sub-left
+    sub-remaining
     cast-character
     character-requires
     add-out

@@ -1,7 +1,7 @@
--- `layout::put_number` meets its contract: the digits, and the mark after them.
+-- `layout::put_number` meets its contract: the digits, and the separator after them.
 -- Assumes nothing.
 use borrow.Author.Needs.{needs}
-use Rattle.layout.proofs.Digits.{marked}
+use Rattle.layout.proofs.Digits.{digits-then-separator}
 use Rattle.layout.proofs.put_number.Statement.{statement}
 use Rattle.layout.proofs.put_number.Tie as tie
 
@@ -25,8 +25,9 @@ same-length c = search needs
 
 returns : tie.Need-returns
 returns c =
-    let a = c .before .before .before .before .before .args in
-    rw (c .before .before .put-digits .ensures) (marked (a .out .now) (a .at) (a .number) (a .width) (a .mark))
+    let put = c .before .before in
+    let a = put .before .before .before .args in
+    rw (put .put-digits .ensures) (digits-then-separator (a .out .now) (a .at) (a .number) (a .width) (a .separator))
 
 pub put-number-spec : {M : Type 1} → statement M
 put-number-spec =

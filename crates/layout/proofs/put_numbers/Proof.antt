@@ -4,27 +4,34 @@ use Prim.Native.Nat.{_-_, _≤_}
 use native.Mathlib.Omega.{arith}
 use lib.ListN.{length, drop, drop-of-length-le}
 use borrow.Author.Needs.{needs}
-use Rattle.output.proofs.Puts.{Left, begun, over}
-use Rattle.layout.specs.Records.{numbersLine}
-use Rattle.layout.proofs.Texts.{number-room, number-again}
+use Rattle.output.proofs.Pieces.{PartlyPut, none-put, all-put}
+use Rattle.layout.specs.ListingLines.{numbersLine}
+use Rattle.layout.proofs.LinePieces.{number-fits, number-put}
 use Rattle.layout.proofs.put_numbers.Statement.{statement}
 use Rattle.layout.proofs.put_numbers.Tie as tie
 
 abbrev Inv-loop : tie.InvT-loop
 Inv-loop out₀ at numbers widths place₀ i₀ out place i =
-    (i ≤ length numbers) × Left out₀ at (numbersLine numbers widths) out place (numbersLine (drop i numbers) (drop i widths))
+    (i ≤ length numbers) × PartlyPut out₀ at (numbersLine numbers widths) out place (numbersLine (drop i numbers) (drop i widths))
 
 abbrev μ-loop : tie.MeasureT-loop
 μ-loop out₀ at numbers widths place₀ i₀ out place i = length numbers - i
 
+-- The places that the proofs look back to.
+abbrev start : tie.At-loop Inv-loop μ-loop → tie.Start Inv-loop μ-loop
+start l = l .before .before .before .before
+
+abbrev separated : tie.After-put-number Inv-loop μ-loop → tie.After-separator Inv-loop μ-loop
+separated c = c .before .before .before .before
+
 loop-holds : tie.Need-loop-holds Inv-loop μ-loop
-loop-holds c = (omega arith, begun _ _ _ (c .before .before .before .pre .1))
+loop-holds c = (omega arith, none-put _ _ _ (c .before .before .before .pre .1))
 
 add-next : tie.Need-add-next Inv-loop μ-loop
 add-next c = search needs
 
-mark-requires : tie.Need-mark-requires Inv-loop μ-loop
-mark-requires c κs = search needs
+separator-requires : tie.Need-separator-requires Inv-loop μ-loop
+separator-requires c κs = search needs
 
 mul-put-number : tie.Need-mul-put-number Inv-loop μ-loop
 mul-put-number c = search needs
@@ -41,25 +48,31 @@ shared-slice-read-put-number-2 c = search needs
 put-number-requires : tie.Need-put-number-requires Inv-loop μ-loop
 put-number-requires c κs =
     let t = c .before .before .before .before in
-    let b = t .before .before .before .before .before in
-    number-room (b .args .numbers .now) (b .args .widths .now) (t .before .loop .i) (t .loop-test .taken) (b .pre .0) (t .before .loop .inv .1)
+    let l = t .before in
+    let b = start l in
+    number-fits (b .args .numbers .now) (b .args .widths .now) (l .loop .i) (t .loop-test .taken) (b .pre .0) (l .loop .inv .1)
 
 loop-less : tie.Need-loop-less Inv-loop μ-loop
 loop-less c = search needs
 
 loop-again : tie.Need-loop-again Inv-loop μ-loop
 loop-again c =
-    let t = c .before .before .before .before .before .before .before in
-    let b = t .before .before .before .before .before in
-    let put = rw (c .before .before .before .before .before .before .mark .ensures) at (c .before .before .put-number .ensures) in
-    (omega (arith, t .loop-test .taken), number-again (b .args .numbers .now) (b .args .widths .now) (t .before .loop .i) (t .loop-test .taken) (b .pre .0) (t .before .loop .inv .1) _ _ put)
+    let p = c .before .before in
+    let s = separated p in
+    let t = s .before in
+    let l = t .before in
+    let b = start l in
+    let put = rw (s .separator .ensures) at (p .put-number .ensures) in (
+      omega (arith, t .loop-test .taken),
+      number-put (b .args .numbers .now) (b .args .widths .now) (l .loop .i) (t .loop-test .taken) (b .pre .0) (l .loop .inv .1) _ _ put,
+    )
 
 same-length : tie.Need-same-length Inv-loop μ-loop
-same-length c = c .before .loop .inv .1 .same
+same-length c = c .before .loop .inv .1 .same-length
 
 returns : tie.Need-returns Inv-loop μ-loop
 unfolding numbersLine
-returns c = over (c .before .loop .inv .1) (rw (drop-of-length-le _ (c .loop-test .left)))
+returns c = all-put (c .before .loop .inv .1) (rw (drop-of-length-le _ (c .loop-test .left)))
 
 pub put-numbers-spec : {M : Type 1} → statement M
 put-numbers-spec =
@@ -69,7 +82,7 @@ put-numbers-spec =
     μ-loop
     loop-holds
     add-next
-    mark-requires
+    separator-requires
     mul-put-number
     shared-slice-read-put-number
     mul-put-number-2

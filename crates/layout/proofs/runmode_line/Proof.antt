@@ -4,6 +4,10 @@ use borrow.Author.Needs.{needs}
 use Rattle.layout.proofs.runmode_line.Statement.{statement}
 use Rattle.layout.proofs.runmode_line.Tie as tie
 
+-- The bit, by the call that puts the line.
+abbrev known : tie.After-put-line → tie.After-bit
+known c = c .before .before .before .before .before
+
 bit-requires : tie.Need-bit-requires
 bit-requires c κs = search needs
 
@@ -23,7 +27,7 @@ same-length : tie.Need-same-length
 same-length c = search needs
 
 returns : tie.Need-returns
-returns c = rw (c .before .before .before .before .before .before .before .bit .ensures) at (c .before .before .put-line .ensures)
+returns c = let put = c .before .before in rw (known put .bit .ensures) at (put .put-line .ensures)
 
 pub runmode-line-spec : {M : Type 1} → statement M
 runmode-line-spec =

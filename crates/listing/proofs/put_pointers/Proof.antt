@@ -1,24 +1,32 @@
 -- `put_pointers` meets its contract: the pointers that are left, put at the present place, give what all 16 give.
 -- Assumes nothing.
-use Prim.Native.Nat.{_-_, _≤_}
-use native.Mathlib.Omega.{arith}
+use mathlib.Core.List.{List}
 use mathlib.Core.Path.{refl}
+use Prim.Native.Nat.{ℕ, _-_, _≤_}
+use native.Mathlib.Omega.{arith}
 use borrow.Author.Needs.{needs}
-use Rattle.output.proofs.Puts.{Left, begun, over}
-use Rattle.listing.specs.State.{textsFrom, pointersText}
-use Rattle.listing.proofs.States.{texts-put, texts-over}
+use Rattle.output.proofs.Pieces.{PartlyPut, none-put, all-put}
+use Rattle.listing.specs.State.{textsFrom, pointersText, allPointersText}
+use Rattle.listing.proofs.State.{text-put, texts-all-put}
 use Rattle.listing.proofs.put_pointers.Statement.{statement}
 use Rattle.listing.proofs.put_pointers.Tie as tie
 
 abbrev Inv-loop : tie.InvT-loop
 Inv-loop out₀ at writes reads place₀ i₀ out place i =
-    (i ≤ 16) × Left out₀ at (textsFrom (16) 0 (pointersText writes reads)) out place (textsFrom (16 - i) i (pointersText writes reads))
+    (i ≤ 16) × PartlyPut out₀ at (allPointersText writes reads) out place (textsFrom (16 - i) i (pointersText writes reads))
 
 abbrev μ-loop : tie.MeasureT-loop
 μ-loop out₀ at writes reads place₀ i₀ out place i = 16 - i
 
+-- The places that the proofs look back to.
+abbrev start : tie.At-loop Inv-loop μ-loop → tie.Start Inv-loop μ-loop
+start l = l .before .before .before .before
+
+abbrev text : tie.At-loop Inv-loop μ-loop → ℕ → List ℕ
+text l = let m = start l .args .model in pointersText (m .writes) (m .reads)
+
 loop-holds : tie.Need-loop-holds Inv-loop μ-loop
-loop-holds c = (omega arith, begun _ _ _ (c .before .before .before .pre))
+loop-holds c = (omega arith, none-put _ _ _ (c .before .before .before .pre))
 
 array-read-pointers-line : tie.Need-array-read-pointers-line Inv-loop μ-loop
 array-read-pointers-line c = search needs
@@ -37,15 +45,18 @@ loop-less c = search needs
 
 loop-again : tie.Need-loop-again Inv-loop μ-loop
 loop-again c =
-    let t = c .before .before .before .before in
-    let m = t .before .before .before .before .before .args .model in
-    (omega (arith, t .loop-test .taken), texts-put (pointersText (m .writes) (m .reads)) 16 (t .before .loop .i) (t .loop-test .taken) (t .before .loop .inv .1) _ refl _ _ (c .before .before .pointers-line .ensures))
+    let put = c .before .before in
+    let t = put .before .before in
+    let l = t .before in (
+      omega (arith, t .loop-test .taken),
+      text-put (text l) 16 (l .loop .i) (t .loop-test .taken) (l .loop .inv .1) _ refl _ _ (put .pointers-line .ensures),
+    )
 
 same-length : tie.Need-same-length Inv-loop μ-loop
-same-length c = c .before .loop .inv .1 .same
+same-length c = c .before .loop .inv .1 .same-length
 
 returns : tie.Need-returns Inv-loop μ-loop
-returns c = let m = c .before .before .before .before .before .args .model in over (c .before .loop .inv .1) (texts-over (pointersText (m .writes) (m .reads)) 16 (c .before .loop .i) (c .loop-test .left))
+returns c = let l = c .before in all-put (l .loop .inv .1) (texts-all-put (text l) 16 (l .loop .i) (c .loop-test .left))
 
 pub put-pointers-spec : {M : Type 1} → statement M
 put-pointers-spec =

@@ -5,7 +5,7 @@ use mathlib.Core.Path.{_≡_, ap, sym, _∙_}
 use borrow.Author.Needs.{needs}
 use borrow.Author.Tests.{eq-eqb, ne-eqb, not-true, not-false}
 use Rattle.controller.specs.Records.{isFrameHead}
-use Rattle.listing.proofs.Records.{bare, framed}
+use Rattle.listing.proofs.Records.{without-frame, with-frame}
 use Rattle.listing.proofs.put_record.Statement.{statement}
 use Rattle.listing.proofs.put_record.Tie as tie
 
@@ -18,15 +18,25 @@ is-frame-head-requires c κs = search needs
 same-length : tie.Need-same-length
 same-length c = search needs
 
--- whether the record is a frame's that is printed
-no-frame : (c : tie.Then1) → let a = c .before .before .before .before .before .before .before .before .args in (a .frames && isFrameHead (a .head)) ≡ false
-no-frame c = ap (λ (b : Bool). c .before .before .before .before .before .before .before .before .args .frames && b) (sym (c .before .is-frame-head .ensures)) ∙ not-true _ (c .if1 .taken)
+-- The places that the proofs look back to: the record's line is put, and it is known whether the record is a frame's.
+abbrev line : tie.After-is-frame-head → tie.After-record-line
+line c = c .before .before .before
 
-frame : (c : tie.Else1) → let a = c .before .before .before .before .before .before .before .before .args in (a .frames && isFrameHead (a .head)) ≡ true
-frame c = ap (λ (b : Bool). c .before .before .before .before .before .before .before .before .args .frames && b) (sym (c .before .is-frame-head .ensures)) ∙ not-false _ (c .if1 .left)
+abbrev start : tie.After-is-frame-head → tie.Start
+start c = line c .before .before .before .before
+
+-- whether the record is a frame's that is printed
+decided : (c : tie.After-is-frame-head) (b : Bool) → let a = start c .args in (a .frames && c .is-frame-head .result) ≡ b
+    → (a .frames && isFrameHead (a .head)) ≡ b
+decided c b e = ap (λ (h : Bool). start c .args .frames && h) (sym (c .is-frame-head .ensures)) ∙ e
+
+frame : (c : tie.Else1) → let a = start (c .before) .args in (a .frames && isFrameHead (a .head)) ≡ true
+frame c = decided (c .before) true (not-false _ (c .if1 .left))
 
 returns : tie.Need-returns
-returns c = bare _ _ _ _ _ _ (c .before .before .before .before .before .before .before .before .pre) _ _ (c .before .before .before .before .record-line .ensures) (simp (no-frame c))
+returns c =
+    let f = c .before in
+    without-frame _ _ _ _ _ _ (start f .pre) _ _ (line f .record-line .ensures) (simp (decided f false (not-true _ (c .if1 .taken))))
 
 frame-bits-requires : tie.Need-frame-bits-requires
 frame-bits-requires c κs = search needs
@@ -36,8 +46,9 @@ same-length-2 c = search needs
 
 returns-2 : tie.Need-returns-2
 returns-2 c =
+    let e = c .before .before in
     let none = eq-eqb _ _ (sym (c .before .frame-bits .ensures) ∙ c .if2 .taken) in
-    bare _ _ _ _ _ _ (c .before .before .before .before .before .before .before .before .before .before .pre) _ _ (c .before .before .before .before .before .before .record-line .ensures) (simp (frame (c .before .before), none))
+    without-frame _ _ _ _ _ _ (start (e .before) .pre) _ _ (line (e .before) .record-line .ensures) (simp (frame e, none))
 
 frame-part-requires : tie.Need-frame-part-requires
 frame-part-requires c κs = search needs
@@ -50,10 +61,13 @@ same-length-3 c = search needs
 
 returns-3 : tie.Need-returns-3
 returns-3 c =
-    let bits = c .before .before .before .before .before .before .frame-bits .ensures in
-    let some = ne-eqb _ _ (λ e. c .before .before .before .before .before .if2 .left (bits ∙ e)) in
-    let line = rw (c .before .before .before .frame-part .ensures, bits) at (c .before .before .frame-line .ensures) in
-    framed _ _ _ _ _ _ (c .before .before .before .before .before .before .before .before .before .before .before .before .before .before .before .pre) _ _ (c .before .before .before .before .before .before .before .before .before .before .before .record-line .ensures) _ _ _ (simp (frame (c .before .before .before .before .before .before .before), some)) line
+    let put = c .before .before in
+    let known = put .before .before .before in
+    let e = known .before .before in
+    let bits = known .before .frame-bits .ensures in
+    let some = ne-eqb _ _ (λ z. known .if2 .left (bits ∙ z)) in
+    let frame-line = rw (put .before .frame-part .ensures, bits) at (put .frame-line .ensures) in
+    with-frame _ _ _ _ _ _ (start (e .before) .pre) _ _ (line (e .before) .record-line .ensures) _ _ _ (simp (frame e, some)) frame-line
 
 pub put-record-spec : {M : Type 1} → statement M
 put-record-spec =

@@ -1,25 +1,33 @@
 -- `put_registers` meets its contract: the registers that are left, put at the present place, give what all 16 give.
 -- Assumes nothing.
-use Prim.Native.Nat.{_-_, _≤_}
-use native.Mathlib.Omega.{arith}
+use mathlib.Core.List.{List}
 use mathlib.Core.Path.{sym, _∙_}
+use Prim.Native.Nat.{ℕ, _-_, _≤_}
+use native.Mathlib.Omega.{arith}
 use borrow.Author.Needs.{needs}
 use borrow.Author.Tests.{not-true, not-false}
-use Rattle.output.proofs.Puts.{Left, begun, over}
-use Rattle.listing.specs.State.{textsFrom, registerText}
-use Rattle.listing.proofs.States.{texts-put, texts-none, texts-over}
+use Rattle.output.proofs.Pieces.{PartlyPut, none-put, all-put}
+use Rattle.listing.specs.State.{textsFrom, registerText, allRegistersText}
+use Rattle.listing.proofs.State.{text-put, text-empty, texts-all-put}
 use Rattle.listing.proofs.put_registers.Statement.{statement}
 use Rattle.listing.proofs.put_registers.Tie as tie
 
 abbrev Inv-loop : tie.InvT-loop
 Inv-loop out₀ at plan model place₀ i₀ out place i =
-    (i ≤ 16) × Left out₀ at (textsFrom (16) 0 (registerText plan model)) out place (textsFrom (16 - i) i (registerText plan model))
+    (i ≤ 16) × PartlyPut out₀ at (allRegistersText plan model) out place (textsFrom (16 - i) i (registerText plan model))
 
 abbrev μ-loop : tie.MeasureT-loop
 μ-loop out₀ at plan model place₀ i₀ out place i = 16 - i
 
+-- The places that the proofs look back to.
+abbrev start : tie.At-loop Inv-loop μ-loop → tie.Start Inv-loop μ-loop
+start l = l .before .before
+
+abbrev text : tie.At-loop Inv-loop μ-loop → ℕ → List ℕ
+text l = let a = start l .args in registerText (a .plan) (a .model)
+
 loop-holds : tie.Need-loop-holds Inv-loop μ-loop
-loop-holds c = (omega arith, begun _ _ _ (c .before .pre))
+loop-holds c = (omega arith, none-put _ _ _ (c .before .pre))
 
 exists-at-requires : tie.Need-exists-at-requires Inv-loop μ-loop
 exists-at-requires c κs = search needs
@@ -33,9 +41,9 @@ loop-less c = search needs
 loop-again : tie.Need-loop-again Inv-loop μ-loop
 loop-again c =
     let t = c .before .before in
-    let a = t .before .before .before .args in
+    let l = t .before in
     let missing = sym (c .before .exists-at .ensures) ∙ not-true _ (c .if1 .taken) in
-    (omega arith, texts-none (registerText (a .plan) (a .model)) 16 (t .before .loop .i) (t .loop-test .taken) (t .before .loop .inv .1) (simp missing))
+    (omega arith, text-empty (text l) 16 (l .loop .i) (t .loop-test .taken) (l .loop .inv .1) (simp missing))
 
 cast-register-line : tie.Need-cast-register-line Inv-loop μ-loop
 cast-register-line c = search needs
@@ -54,17 +62,19 @@ loop-less-2 c = search needs
 
 loop-again-2 : tie.Need-loop-again-2 Inv-loop μ-loop
 loop-again-2 c =
-    let t = c .before .before .before .before .before .before .before in
-    let a = t .before .before .before .args in
-    let there = sym (c .before .before .before .before .before .before .exists-at .ensures) ∙ not-false _ (c .before .before .before .before .before .if1 .left) in
-    let line = rw (c .before .before .before .read .ensures) at (c .before .before .register-line .ensures) in
-    (omega (arith, t .loop-test .taken), texts-put (registerText (a .plan) (a .model)) 16 (t .before .loop .i) (t .loop-test .taken) (t .before .loop .inv .1) _ (simp there) _ _ line)
+    let put = c .before .before in
+    let e = put .before .before .before in
+    let t = e .before .before in
+    let l = t .before in
+    let there = sym (e .before .exists-at .ensures) ∙ not-false _ (e .if1 .left) in
+    let line = rw (put .before .read .ensures) at (put .register-line .ensures) in
+    (omega (arith, t .loop-test .taken), text-put (text l) 16 (l .loop .i) (t .loop-test .taken) (l .loop .inv .1) _ (simp there) _ _ line)
 
 same-length : tie.Need-same-length Inv-loop μ-loop
-same-length c = c .before .loop .inv .1 .same
+same-length c = c .before .loop .inv .1 .same-length
 
 returns : tie.Need-returns Inv-loop μ-loop
-returns c = let a = c .before .before .before .args in over (c .before .loop .inv .1) (texts-over (registerText (a .plan) (a .model)) 16 (c .before .loop .i) (c .loop-test .left))
+returns c = let l = c .before in all-put (l .loop .inv .1) (texts-all-put (text l) 16 (l .loop .i) (c .loop-test .left))
 
 pub put-registers-spec : {M : Type 1} → statement M
 put-registers-spec =

@@ -8,18 +8,18 @@ use native.Mathlib.Omega.{arith}
 use lib.ListN.{length, getD, drop, drop-of-length-le, length-drop}
 use lib.Seq.{drop-cons}
 use borrow.Author.Needs.{needs}
-use Rattle.output.proofs.Puts.{Left, begun, again, over}
+use Rattle.output.proofs.Pieces.{PartlyPut, none-put, next-put, all-put}
 use Rattle.output.proofs.put_bytes.Statement.{statement}
 use Rattle.output.proofs.put_bytes.Tie as tie
 
 abbrev Inv-loop : tie.InvT-loop
-Inv-loop out₀ at bytes place₀ i₀ out place i = (i ≤ length bytes) × Left out₀ at bytes out place (drop i bytes)
+Inv-loop out₀ at bytes place₀ i₀ out place i = (i ≤ length bytes) × PartlyPut out₀ at bytes out place (drop i bytes)
 
 abbrev μ-loop : tie.MeasureT-loop
 μ-loop out₀ at bytes place₀ i₀ out place i = length bytes - i
 
 loop-holds : tie.Need-loop-holds Inv-loop μ-loop
-loop-holds c = (omega arith, begun _ _ _ (c .pre))
+loop-holds c = (omega arith, none-put _ _ _ (c .pre))
 
 shared-slice-read-out : tie.Need-shared-slice-read-out Inv-loop μ-loop
 shared-slice-read-out c = search needs
@@ -40,13 +40,13 @@ loop-again : tie.Need-loop-again Inv-loop μ-loop
 loop-again c =
     let l = c .before .before .loop in
     let bytes = c .before .before .before .args .bytes .now in
-    (omega arith, rw (add-one (l .i)) (again (l .inv .1) (getD bytes (l .i) 0 ∷ []) _ (drop-cons bytes (l .i) 0 (c .before .loop-test .taken)) _ _ refl))
+    (omega arith, rw (add-one (l .i)) (next-put (l .inv .1) (getD bytes (l .i) 0 ∷ []) _ (drop-cons bytes (l .i) 0 (c .before .loop-test .taken)) _ _ refl))
 
 same-length : tie.Need-same-length Inv-loop μ-loop
-same-length c = c .before .loop .inv .1 .same
+same-length c = c .before .loop .inv .1 .same-length
 
 returns : tie.Need-returns Inv-loop μ-loop
-returns c = over (c .before .loop .inv .1) (drop-of-length-le _ (c .loop-test .left))
+returns c = all-put (c .before .loop .inv .1) (drop-of-length-le _ (c .loop-test .left))
 
 pub put-bytes-spec : {M : Type 1} → statement M
 put-bytes-spec =
