@@ -13,7 +13,7 @@ use mir.Val.{boolByte}
 use borrow.Author.Tests.{eqb-true}
 use Rattle.bits.proofs.Truth.{both}
 use Rattle.image.specs.Fields.{whole, phaseNumber, phaseOf}
-use Rattle.image.specs.Image.{imageLength, layout, limits, imageOf, lowWords, stateOf, sameWords, imageFits, Keeps, Formed}
+use Rattle.image.specs.Image.{imageLength, layout, wordLimits, imageOf, lowWords, stateOf, sameWords, imageFits, Keeps, Formed}
 use Rattle.image.proofs.LowWords.{low-keeps, low-at, low-words-same}
 use Rattle.image.proofs.RoundTrip.{fits-length, written-fits}
 
@@ -47,7 +47,7 @@ phase-word : (w : ℕ) → phaseNumber (phaseOf (w % 5)) ≡ w % 5
 phase-word w = phase-low (w % 5) (mod-lt w (omega arith))
 
 -- Words, read and written again, are their low parts: this is where the table and the state that is made by its names meet.
-again : (image : List ℕ) → imageOf (stateOf image) ≡ layout ∷ lowWords limits 1 image
+again : (image : List ℕ) → imageOf (stateOf image) ≡ layout ∷ lowWords wordLimits 1 image
 unfolding imageOf stateOf
 again image = simp (flag-word, phase-word)
 
@@ -55,21 +55,21 @@ module _ (image : List ℕ) where
   pub formed : imageFits image ≡ true → Formed image
   unfolding imageFits
   formed e =
-      let same : layout ∷ lowWords limits 1 image ≡ image =
+      let same : layout ∷ lowWords wordLimits 1 image ≡ image =
       sym (again image) ∙ same-equal (imageOf (stateOf image)) image (both (eqb (length image) imageLength) _ e .1) in
       record {
         long = fits-length image e;
         layout-is = sym (ap (λ (l : List ℕ). getD l 0 0) same);
-        keeps = λ (n : ℕ) (h : n < length limits).
+        keeps = λ (n : ℕ) (h : n < length wordLimits).
             let next : suc n ≡ 1 + n = omega arith in
-            let is = sym (low-at limits 1 image n h) ∙ ap (λ (l : List ℕ). getD l (suc n) 0) same ∙ ap (λ (k : ℕ). getD image k 0) next in
-            subst (Keeps (getD limits n whole)) is (low-keeps (getD limits n whole) (getD image (1 + n) 0));
+            let is = sym (low-at wordLimits 1 image n h) ∙ ap (λ (l : List ℕ). getD l (suc n) 0) same ∙ ap (λ (k : ℕ). getD image k 0) next in
+            subst (Keeps (getD wordLimits n whole)) is (low-keeps (getD wordLimits n whole) (getD image (1 + n) 0));
       }
 
   module _ (f : Formed image) where
-    rest-same : lowWords limits 1 image ≡ drop 1 image
+    rest-same : lowWords wordLimits 1 image ≡ drop 1 image
     rest-same =
-        low-words-same limits 1 image (drop 1 image) (omega (arith, length-drop 1 image, f .long))
+        low-words-same wordLimits 1 image (drop 1 image) (omega (arith, length-drop 1 image, f .long))
         (λ (n : ℕ) h. sym (getD-drop 1 image n 0))
         (λ (n : ℕ) h. rw (getD-drop 1 image n 0) (f .keeps n h))
 

@@ -29,6 +29,7 @@ pub data Field : Type 0 where
   phase : String → (Decoder → Phase) → Field
   array : String → Limit → (Decoder → List ℕ) → Field
 
+-- The scalars, a word each, in the image's order.
 abbrev pub scalars : List Field
 scalars =
     number "mask" (bits 16) (λ d. d .plan .mask)
@@ -52,6 +53,7 @@ scalars =
     ∷ flag "wslw" (λ d. d .model .warnings .wslw)
     ∷ []
 
+-- Behind them the arrays.
 abbrev pub arrays : List Field
 arrays =
     array "registers" (bits 16) (λ d. d .model .registers)
@@ -62,7 +64,7 @@ arrays =
 abbrev pub fields : List Field
 fields = scalars ++ arrays
 
--- A flag is 1 for true, and phases are numbered as they follow each other.
+-- Phases are numbered as they follow each other; a flag is 1 where it is set.
 abbrev pub phaseNumber : Phase → ℕ
 phaseNumber Hunt = 0
 phaseNumber Body = 1
@@ -97,7 +99,7 @@ numbersIn (flag name get) d = boolByte (get d) ∷ []
 numbersIn (phase name get) d = phaseNumber (get d) ∷ []
 numbersIn (array name limit get) d = get d
 
--- Numbers of fields, by the fields' names.
+-- The state of its fields' numbers, each by its name: one number, or whether it is set, or all 16.
 abbrev pub Numbers : Type 0
 Numbers = String → List ℕ
 

@@ -26,12 +26,13 @@ abbrev pub limitsOf : List Field → List Limit
 limitsOf [] = []
 limitsOf (f ∷ fs) = replicate (size f) (limitOf f) ++ limitsOf fs
 
-abbrev pub limits : List Limit
-limits = limitsOf fields
+abbrev pub wordLimits : List Limit
+wordLimits = limitsOf fields
 
 abbrev pub imageLength : ℕ
-imageLength = suc (length limits)
+imageLength = suc (length wordLimits)
 
+-- A host lends as many words: the header's number.
 pub image-length-is : imageLength ≡ 68
 image-length-is = refl
 
@@ -96,7 +97,7 @@ Keeps (upTo m) w = w ≤ m
 pub record Formed (image : List ℕ) : Type 0 where
   pub long : length image ≡ imageLength
   pub layout-is : getD image 0 0 ≡ layout
-  pub keeps : (n : ℕ) → n < length limits → Keeps (getD limits n whole) (getD image (1 + n) 0)
+  pub keeps : (n : ℕ) → n < length wordLimits → Keeps (getD wordLimits n whole) (getD image (1 + n) 0)
 
 -- The numbers of a state within their limits, and its arrays too, each of 16. A flag or a phase always is.
 abbrev pub NumbersKeep : List Field → Decoder → Type 0

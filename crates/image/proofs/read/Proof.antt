@@ -23,14 +23,18 @@ u8-at-requires c κs = search needs
 u8-at-requires-2 : tie.Need-u8-at-requires-2
 u8-at-requires-2 c κs = search needs
 
+-- The call's start, as the readers of the parts look back to it.
+abbrev began : tie.After-u8-at2 → tie.Start
+began p = p .before .before .before .before .before .before .before
+
 plan-at-requires : tie.Need-plan-at-requires
-plan-at-requires c κs = search needs
+plan-at-requires c κs = began c .pre
 
 recogniser-at-requires : tie.Need-recogniser-at-requires
-recogniser-at-requires c κs = search needs
+recogniser-at-requires c κs = began (c .before) .pre
 
 model-at-requires : tie.Need-model-at-requires
-model-at-requires c κs = search needs
+model-at-requires c κs = began (c .before .before) .pre
 
 returns : tie.Need-returns
 unfolding stateOf

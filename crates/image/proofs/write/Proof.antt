@@ -47,6 +47,7 @@ at-scalars p = p .before .before .before .before
 abbrev at-registers : tie.After-put-u8 → tie.After-put-u16
 at-registers p = p .before .before .before .before
 
+-- The widths, by the types: of all numbers at once, and of each array from what is known of the model.
 numbers-keep : (s : tie.Start) → NumbersKeep fields (s .args .d)
 numbers-keep s = omega arith
 
