@@ -32,6 +32,9 @@
 extern "C" {
 #endif
 
+/* The version; CHANGES.md says what each one holds. */
+#define KERNELSTILL_VERSION "1.0.0"
+
 /* The elements of each slice, and the limits of a call. */
 #define KERNELSTILL_IMAGE_WORDS 68       /* the state, exactly */
 #define KERNELSTILL_STORE_WORDS 2048     /* the FIFO words, exactly */

@@ -77,6 +77,8 @@ __all__ = [
     "hex_line",
 ]
 
+__version__ = "1.0.0"
+
 # As kernelstill.h has them.
 CLOCK_LIMIT = 1 << 48
 INPUT_BYTES = 65_536

@@ -48,10 +48,14 @@ def wr_register(address, value):
 
 
 def in_header():
-    """The numbers that the C header defines, by name without KERNELSTILL_."""
+    """The numbers that the C header defines, by name without KERNELSTILL_; and
+    the version, which is a text."""
     text = (ROOT / "include/kernelstill.h").read_text()
     numbers = {}
     for name, number in re.findall(r"^#define KERNELSTILL_(\w+) +([^/\n]+)", text, re.MULTILINE):
+        if name == "VERSION":
+            numbers[name] = number.strip().strip('"')
+            continue
         power = re.fullmatch(r"\(UINT64_C\(1\) << (\d+)\)", number.strip())
         numbers[name] = 1 << int(power[1]) if power else int(number, 0)
     return numbers
@@ -77,6 +81,9 @@ class Header(unittest.TestCase):
         self.assertEqual(len(Decoder()._list) % self.header["RECORD_WORDS"], 0)
         # In the order in which `take` reads them.
         self.assertEqual(self.named("RESULT_"), {"WORDS": 3, "BITS": 0, "RECORDS": 1, "ENDING": 2})
+
+    def test_version(self):
+        self.assertEqual(kernelstill.__version__, self.header["VERSION"])
 
     def test_default_plan(self):
         default = {name.upper(): number for name, number in Plan()._asdict().items()}

@@ -6,7 +6,7 @@ mod plain;
 mod streams;
 
 use bench::{take_fresh, Buffers};
-use reference::{open, take, Plan};
+use reader::{open, take, Plan};
 use std::time::Instant;
 
 const CALL: usize = 65_536;

@@ -3,7 +3,7 @@
 //! and short lists. Every word and byte of the buffers is compared.
 
 use bench::{take_fresh, Buffers};
-use reference::{open, take, Plan};
+use reader::{open, take, Plan};
 
 /// xorshift, seeded, so that every run is the same.
 struct Random(u64);

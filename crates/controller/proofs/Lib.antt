@@ -1,4 +1,6 @@
-pub mod Wrote
-pub mod Cases
-pub mod Laws
-pub mod Heard
+pub mod FifoWrite
+pub mod FastCases
+pub mod EffectCases
+pub mod EffectKeeps
+pub mod RecordTime
+pub mod RequestsFit

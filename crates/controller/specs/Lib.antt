@@ -1,4 +1,3 @@
-pub mod Parts
 pub mod Records
 pub mod Commands
-pub mod Events
+pub mod Requests

@@ -1,24 +1,36 @@
--- A record, document 01's term for a line of the listing as two words ("A record").
+-- A record by its parts, and as the two words of the list ("A record").
 -- Assumes nothing.
 use mathlib.Core.Bool.{Bool, cond, _&&_}
 use mathlib.Core.List.{List, [], _∷_}
 use Prim.Native.Nat.{ℕ, _+_, _*_, _/_, _%_}
 use lib.Dec.{leb, eqb}
 use Rattle.controller.specs.declared.Cycle.{Cycle}
-use Rattle.controller.specs.declared.Cycle.the-variants.{Nothing, Record}
+use Rattle.controller.specs.declared.Cycle.the-variants.{Silent, Recorded}
+use Rattle.controller.specs.declared.Record.{Record}
 
--- "time × 65,536 + kind × 256 + flags, then a value"
-abbrev pub recordOf : ℕ → ℕ → ℕ → ℕ → Cycle
-recordOf time kind flags value = Record (time * 65536 + kind * 256 + flags) value
+abbrev pub recordOf : ℕ → ℕ → ℕ → ℕ → Record
+recordOf time kind flags value = record { time = time; kind = kind; flags = flags; value = value }
+
+-- "Two 64-bit numbers: time × 65,536 + kind × 256 + flags, then a value".
+abbrev pub headOf : Record → ℕ
+headOf r = r .time * 65536 + r .kind * 256 + r .flags
+
+abbrev pub recordWords : List Record → List ℕ
+recordWords [] = []
+recordWords (r ∷ rs) = headOf r ∷ r .value ∷ recordWords rs
+
+-- The records of a cycle's answer.
+abbrev pub recordsOf : Cycle → List Record
+recordsOf Silent = []
+recordsOf (Recorded r) = r ∷ []
+
+-- The words that it writes.
+abbrev pub wordsOf : Cycle → List ℕ
+wordsOf c = recordWords (recordsOf c)
 
 -- The kind, off a record's first word.
 abbrev pub kindOf : ℕ → ℕ
 kindOf head = head / 256 % 256
-
--- What each case of a cycle's answer writes.
-abbrev pub wordsOf : Cycle → List ℕ
-wordsOf Nothing = []
-wordsOf (Record head value) = head ∷ value ∷ []
 
 -- Kinds: "01 LV1; 10 + body for a Fast; 1F bad Fast; 20 + Field 3 for a Slow; 2F bad Slow".
 abbrev pub kindLv1 : ℕ

@@ -1,19 +1,50 @@
-// What each event does to the registers, FIFOs, counters, warnings and RunMode, and its record.
+// What each request does to the registers, FIFOs, counters, warnings and RunMode, and its record.
 ghost use mathlib.Core.Path.{_≡_};
 ghost use mathlib.Core.Bool.{true};
 ghost use Prim.Native.Nat.{_<_, _^_};
 ghost use lib.ListN.{length};
-ghost use Rattle.controller.specs.Records.{kindOf, recordOf, isFrameHead, frameBitsOf};
-ghost use Rattle.controller.specs.Commands.{acted, bunchOf, lv1Of, fastOf, badFastOf, leaveOf, writeRegisterOf, readRegisterOf, writeFifoOf, readFifoOf, enableOf, resetOf, resetFrontEndsOf, badSlowOf, frameValueOf, frameOf, slowOf, actOf};
-ghost use Rattle.controller.specs.Events.{eventFits};
-use recogniser::Event;
+ghost use Rattle.limits.specs.Limits.{clockLimit, storeLength};
+ghost use Rattle.controller.specs.Records.{kindOf, recordOf, headOf, isFrameHead, frameBitsOf};
+ghost use Rattle.controller.specs.Commands.{acted, recorded, bunchOf, lv1Of, fastOf, badFastOf, leaveOf, writeRegisterOf, readRegisterOf};
+ghost use Rattle.controller.specs.Commands.{writeFifoOf, readFifoOf, enableOf, resetOf, resetFrontEndsOf, badSlowOf, frameValueOf, frameOf};
+ghost use Rattle.controller.specs.Commands.{commandOf, slowOf, actOf};
+ghost use Rattle.controller.specs.Requests.{requestFits, slowFits};
+use recogniser::Request;
+use recogniser::SlowRequest;
+use registers::Counters;
 use registers::Model;
 use registers::Plan;
+use registers::Pointers;
 
-// What one cycle answers: nothing, or a record's two words.
+// A record by its parts. Its two words are made where it is written.
+pub struct Record {
+    pub time: u64,
+    pub kind: u8,
+    pub flags: u8,
+    pub value: u64,
+}
+
+impl Record {
+    // Its first word. Kind and flags are bytes, so that it fits while the time has 48 bits.
+    pub fn head(self) -> u64
+        requires { ⌜ self .time < clockLimit ⌝ }
+        ensures { λ r. ⌜ r ≡ headOf self ⌝ }
+    {
+        self.time * 65536 + self.kind as u64 * 256 + self.flags as u64
+    }
+
+    // Whether it is a frame's, after which a taking call stops: kind 24, 25 or 26.
+    pub fn is_frame(self) -> bool
+        ensures { λ r. ⌜ r ≡ isFrameHead (headOf self) ⌝ }
+    {
+        (0x24 <= self.kind) & (self.kind <= 0x26)
+    }
+}
+
+// What one cycle answers: nothing, or a record.
 pub enum Cycle {
-    Nothing,
-    Record { head: u64, value: u64 },
+    Silent,
+    Recorded { entry: Record },
 }
 
 pub struct Acted {
@@ -60,21 +91,24 @@ const FLAG_MISSING: u8 = 0x08;
 
 const FLAG_UNSTEADY: u8 = 0x10;
 
-// A model with its record. Kind and flags are bytes, so the head fits while the time has 48 bits.
+// A model with its record.
 fn answer(model: Model, time: u64, kind: u8, flags: u8, value: u64) -> Acted
-    requires { ⌜ time < 2 ^ 48 ⌝ }
-    ensures { λ r. ⌜ r ≡ acted model (recordOf time kind flags value) ⌝ }
+    ensures { λ r. ⌜ r ≡ recorded model (recordOf time kind flags value) ⌝ }
 {
     Acted {
         model: model,
-        cycle: Cycle::Record {
-            head: time * 65536 + kind as u64 * 256 + flags as u64,
-            value: value,
+        cycle: Cycle::Recorded {
+            entry: Record {
+                time: time,
+                kind: kind,
+                flags: flags,
+                value: value,
+            },
         },
     }
 }
 
-// Whether a record's first word is that of kind 24, 25 or 26, after which a taking call stops.
+// The same of a record of which only the first word is at hand.
 pub fn is_frame_head(head: u64) -> bool
     ensures { λ r. ⌜ r ≡ isFrameHead head ⌝ }
 {
@@ -103,44 +137,47 @@ fn frame_value(command: u8, cnt: u16) -> u64
     n % 8 * 8 * 65536 + n / 8
 }
 
-fn bunch(model: Model, time: u64) -> u64
-    ensures { λ r. ⌜ r ≡ bunchOf model time ⌝ }
+fn bunch(counters: Counters, time: u64) -> u64
+    ensures { λ r. ⌜ r ≡ bunchOf counters time ⌝ }
 {
-    if time < model.base {
+    if time < counters.base {
         return 0;
     }
-    (time - model.base) % 256
+    (time - counters.base) % 256
 }
 
 // A cycle that writes no record and changes nothing here.
 fn silent(model: Model) -> Acted
-    ensures { λ r. ⌜ r ≡ acted model Cycle.Nothing ⌝ }
+    ensures { λ r. ⌜ r ≡ acted model Cycle.Silent ⌝ }
 {
     Acted {
         model: model,
-        cycle: Cycle::Nothing,
+        cycle: Cycle::Silent,
     }
 }
 
 fn lv1(model: Model, plan: Plan, flip: bool, time: u64) -> Acted
-    requires { ⌜ time < 2 ^ 48 ⌝ }
     ensures { λ r. ⌜ r ≡ lv1Of plan model flip time ⌝ }
 {
     let mut m = model;
-    m.wlv1 = model.wlv1 | flip;
+    let mut warnings = model.warnings;
+    warnings.wlv1 = warnings.wlv1 | flip;
+    m.warnings = warnings;
     let flipped = registers::flag(flip, FLAG_FLIP);
     if !model.running {
         return answer(m, time, KIND_LV1, flipped, 0);
     }
     let csr = model.register(plan.csr);
     let sent = registers::flag(csr / 64 % 2 == 0, FLAG_SENT);
-    let value = model.l1id as u64 * 256 + bunch(model, time);
-    m.l1id = ((model.l1id as u16 + 1) % 256) as u8;
+    let mut counters = model.counters;
+    let value = counters.l1id as u64 * 256 + bunch(counters, time);
+    counters.l1id = ((counters.l1id as u16 + 1) % 256) as u8;
+    m.counters = counters;
     answer(m, time, KIND_LV1, FLAG_ACTED + flipped + sent, value)
 }
 
 fn fast(model: Model, body: u8, time: u64) -> Acted
-    requires { ⌜ (time < 2 ^ 48) × (body < 16) ⌝ }
+    requires { ⌜ body < 16 ⌝ }
     ensures { λ r. ⌜ r ≡ fastOf model body time ⌝ }
 {
     let kind = KIND_FAST + body;
@@ -148,26 +185,32 @@ fn fast(model: Model, body: u8, time: u64) -> Acted
         return answer(model, time, kind, 0, 0);
     }
     let mut m = model;
+    let mut counters = model.counters;
     if body == 0b0001 {
-        m.base = time;
+        counters.base = time;
+        m.counters = counters;
         return answer(m, time, kind, FLAG_ACTED, 0);
     }
     if body == 0b0010 {
-        let pointers = [0u8; 16];
-        m.l1id = 0;
-        m.writes = pointers;
-        m.reads = pointers;
+        counters.l1id = 0;
+        m.counters = counters;
+        let pointers = Pointers {
+            writes: [0u8; 16],
+            reads: [0u8; 16],
+        };
+        m.pointers = pointers;
         return answer(m, time, kind, FLAG_ACTED, 0);
     }
     answer(model, time, kind, FLAG_ACTED, 0)
 }
 
 fn bad_fast(model: Model, body: u8, time: u64) -> Acted
-    requires { ⌜ time < 2 ^ 48 ⌝ }
     ensures { λ r. ⌜ r ≡ badFastOf model body time ⌝ }
 {
     let mut m = model;
-    m.wfst = true;
+    let mut warnings = model.warnings;
+    warnings.wfst = true;
+    m.warnings = warnings;
     answer(m, time, KIND_BAD_FAST, 0, body as u64)
 }
 
@@ -179,12 +222,11 @@ fn leave(model: Model) -> Acted
     m.running = false;
     Acted {
         model: m,
-        cycle: Cycle::Nothing,
+        cycle: Cycle::Silent,
     }
 }
 
 fn write_register(model: Model, plan: Plan, address: u8, value: u32, time: u64) -> Acted
-    requires { ⌜ time < 2 ^ 48 ⌝ }
     ensures { λ r. ⌜ r ≡ writeRegisterOf plan model address value time ⌝ }
 {
     let bits = (value % 65536) as u16;
@@ -198,7 +240,6 @@ fn write_register(model: Model, plan: Plan, address: u8, value: u32, time: u64) 
 }
 
 fn read_register(model: Model, plan: Plan, address: u8, time: u64) -> Acted
-    requires { ⌜ time < 2 ^ 48 ⌝ }
     ensures { λ r. ⌜ r ≡ readRegisterOf plan model address time ⌝ }
 {
     let asked = address as u64 * 65536;
@@ -216,34 +257,37 @@ fn read_register(model: Model, plan: Plan, address: u8, time: u64) -> Acted
 }
 
 fn write_fifo(model: Model, plan: Plan, value: u32, time: u64, store: &mut [u32]) -> Acted
-    requires { ⌜ (time < 2 ^ 48) × (length (now store) ≡ 2048) ⌝ }
+    requires { ⌜ length (now store) ≡ storeLength ⌝ }
     ensures { λ r. ⌜ (record { acted = r; store = now (store .exit) }) ≡ writeFifoOf plan model value time (now (store .entry)) ⌝ }
 {
     let word = value % registers::WORD;
     let feen = model.register(plan.feen);
-    let pointers = model.writes;
-    let moved = registers::write_all(pointers, feen, word, store);
+    let mut pointers = model.pointers;
+    let writes = pointers.writes;
+    let moved = registers::write_all(writes, feen, word, store);
+    pointers.writes = moved;
     let mut m = model;
-    m.writes = moved;
+    m.pointers = pointers;
     answer(m, time, KIND_SLOW + WR_FIFO, FLAG_ACTED, word as u64)
 }
 
 fn read_fifo(model: Model, address: u8, time: u64, store: &[u32]) -> Acted
-    requires { ⌜ (time < 2 ^ 48) × (length (now store) ≡ 2048) ⌝ }
+    requires { ⌜ length (now store) ≡ storeLength ⌝ }
     ensures { λ r. ⌜ r ≡ readFifoOf model address time (now (store .entry)) ⌝ }
 {
     let n = (address % 16) as usize;
-    let mut m = model;
-    let pointer = m.reads[n];
+    let mut pointers = model.pointers;
+    let pointer = pointers.reads[n];
     let word = registers::read_word(store, n, pointer);
-    m.reads[n] = registers::moved_on(pointer);
+    pointers.reads[n] = registers::moved_on(pointer);
+    let mut m = model;
+    m.pointers = pointers;
     let value = n as u64 * registers::WORD as u64 + word as u64;
     answer(m, time, KIND_SLOW + RD_FIFO, FLAG_ACTED, value)
 }
 
 // RunMode starts at the end of EnDataTake.
 fn enable(model: Model, time: u64) -> Acted
-    requires { ⌜ time < 2 ^ 48 ⌝ }
     ensures { λ r. ⌜ r ≡ enableOf model time ⌝ }
 {
     let mut m = model;
@@ -253,27 +297,13 @@ fn enable(model: Model, time: u64) -> Acted
 
 // All but RunMode starts anew, and the bunch number counts from here.
 fn reset(model: Model, time: u64) -> Acted
-    requires { ⌜ time < 2 ^ 48 ⌝ }
     ensures { λ r. ⌜ r ≡ resetOf model time ⌝ }
 {
-    let registers = [0u16; 16];
-    let pointers = [0u8; 16];
-    let m = Model {
-        running: model.running,
-        l1id: 0,
-        base: time,
-        wlv1: false,
-        wfst: false,
-        wslw: false,
-        registers: registers,
-        writes: pointers,
-        reads: pointers,
-    };
+    let m = Model::cleared(model.running, time);
     answer(m, time, KIND_SLOW + GLOBAL_RESET_MCC, FLAG_ACTED, 0)
 }
 
 fn reset_front_ends(model: Model, value: u32, time: u64) -> Acted
-    requires { ⌜ time < 2 ^ 48 ⌝ }
     ensures { λ r. ⌜ r ≡ resetFrontEndsOf model value time ⌝ }
 {
     let told = (value % 16 * 2 + 1) as u64;
@@ -281,16 +311,17 @@ fn reset_front_ends(model: Model, value: u32, time: u64) -> Acted
 }
 
 fn bad_slow(model: Model, command: u8, time: u64) -> Acted
-    requires { ⌜ time < 2 ^ 48 ⌝ }
     ensures { λ r. ⌜ r ≡ badSlowOf model command time ⌝ }
 {
     let mut m = model;
-    m.wslw = true;
+    let mut warnings = model.warnings;
+    warnings.wslw = true;
+    m.warnings = warnings;
     answer(m, time, KIND_BAD_SLOW, 0, command as u64)
 }
 
 fn frame(model: Model, plan: Plan, command: u8, unsteady: bool, time: u64) -> Acted
-    requires { ⌜ (time < 2 ^ 48) × (command < 16) ⌝ }
+    requires { ⌜ command < 16 ⌝ }
     ensures { λ r. ⌜ r ≡ frameOf plan model command unsteady time ⌝ }
 {
     let value = frame_value(command, model.cnt(plan));
@@ -298,8 +329,8 @@ fn frame(model: Model, plan: Plan, command: u8, unsteady: bool, time: u64) -> Ac
     answer(model, time, KIND_SLOW + command, flags, value)
 }
 
-// A Slow command that carries no frame.
-fn slow(
+// A Slow command that carries no frame, by Field 3.
+fn slow_command(
     model: Model,
     plan: Plan,
     command: u8,
@@ -308,8 +339,8 @@ fn slow(
     time: u64,
     store: &mut [u32],
 ) -> Acted
-    requires { ⌜ (time < 2 ^ 48) × (length (now store) ≡ 2048) ⌝ }
-    ensures { λ r. ⌜ (record { acted = r; store = now (store .exit) }) ≡ slowOf plan model command address value time (now (store .entry)) ⌝ }
+    requires { ⌜ length (now store) ≡ storeLength ⌝ }
+    ensures { λ r. ⌜ (record { acted = r; store = now (store .exit) }) ≡ commandOf plan model command address value time (now (store .entry)) ⌝ }
 {
     if command == WR_REGISTER {
         return write_register(model, plan, address, value, time);
@@ -332,30 +363,33 @@ fn slow(
     reset_front_ends(model, value, time)
 }
 
-// What an event does in its cycle. A body and Field 3 have four bits, which keeps a record's kind within its byte.
-pub fn act(model: Model, plan: Plan, event: Event, time: u64, store: &mut [u32]) -> Acted
-    requires { ⌜ (time < 2 ^ 48) × (length (now store) ≡ 2048) × (eventFits event ≡ true) ⌝ }
-    ensures { λ r. ⌜ (record { acted = r; store = now (store .exit) }) ≡ actOf plan model event time (now (store .entry)) ⌝ }
+// What a cycle of a Slow command does.
+fn slow(model: Model, plan: Plan, slow: SlowRequest, time: u64, store: &mut [u32]) -> Acted
+    requires { ⌜ (length (now store) ≡ storeLength) × (slowFits slow ≡ true) ⌝ }
+    ensures { λ r. ⌜ (record { acted = r; store = now (store .exit) }) ≡ slowOf plan model slow time (now (store .entry)) ⌝ }
 {
-    match event {
-        Event::Nothing => silent(model),
-        Event::Lv1 { flip } => lv1(model, plan, flip, time),
-        Event::Fast { body } => fast(model, body, time),
-        Event::BadFast { body } => bad_fast(model, body, time),
-        Event::SlowBegins => leave(model),
-        Event::Slow {
+    match slow {
+        SlowRequest::LeaveRunMode => leave(model),
+        SlowRequest::Command {
             command,
             address,
             value,
-        } => slow(model, plan, command, address, value, time, store),
-        Event::BadSlow { command } => bad_slow(model, command, time),
-        Event::FrameBit { place: _, bit: _ } => silent(model),
-        Event::FrameEnd { command, unsteady } => frame(model, plan, command, unsteady, time),
-        Event::FrameEndBit {
-            command,
-            unsteady,
-            place: _,
-            bit: _,
-        } => frame(model, plan, command, unsteady, time),
+        } => slow_command(model, plan, command, address, value, time, store),
+        SlowRequest::Bad { command } => bad_slow(model, command, time),
+        SlowRequest::Frame { command, unsteady } => frame(model, plan, command, unsteady, time),
+    }
+}
+
+// What a request does in its cycle. A body and Field 3 have four bits, which keeps a record's kind within its byte.
+pub fn act(model: Model, plan: Plan, request: Request, time: u64, store: &mut [u32]) -> Acted
+    requires { ⌜ (length (now store) ≡ storeLength) × (requestFits request ≡ true) ⌝ }
+    ensures { λ r. ⌜ (record { acted = r; store = now (store .exit) }) ≡ actOf plan model request time (now (store .entry)) ⌝ }
+{
+    match request {
+        Request::Nothing => silent(model),
+        Request::Lv1 { flip } => lv1(model, plan, flip, time),
+        Request::Fast { body } => fast(model, body, time),
+        Request::BadFast { body } => bad_fast(model, body, time),
+        Request::Slow { slow: s } => slow(model, plan, s, time, store),
     }
 }

@@ -1,9 +1,9 @@
 pub mod Computed
-pub mod Pins
-pub mod Trace
-pub mod Resume
-pub mod Inverted
-pub mod Recorded
-pub mod Alike
-pub mod Acts
-pub mod Third
+pub mod TablesWhole
+pub mod TraceLaws
+pub mod Recovery
+pub mod InvertedBit
+pub mod TraceRecords
+pub mod Comparison
+pub mod RunModeEffects
+pub mod CallLists

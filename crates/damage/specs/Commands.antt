@@ -5,8 +5,8 @@ use mathlib.Core.List.{List, [], _∷_, _++_}
 use Prim.Native.Nat.{ℕ}
 use lib.Dec.{eqb}
 use lib.ListN.{length}
-use Rattle.recogniser.specs.declared.Event.{Event}
-use Rattle.recogniser.specs.declared.Event.the-variants.{Lv1, Fast}
+use Rattle.recogniser.specs.declared.Request.{Request}
+use Rattle.recogniser.specs.declared.Request.the-variants.{Lv1, Fast}
 
 -- "Its commands are the exact LV1, BCR, ECR, CAL and SYNC".
 pub data Command : Type 0 where
@@ -50,9 +50,9 @@ isFastCommand cal = true
 isFastCommand sync = true
 
 -- What a whole command asks for at its last bit.
-abbrev pub eventOf : Command → Event
-eventOf lv1 = Lv1 false
-eventOf bcr = Fast 0b0001
-eventOf ecr = Fast 0b0010
-eventOf cal = Fast 0b0100
-eventOf sync = Fast 0b1000
+abbrev pub requestOf : Command → Request
+requestOf lv1 = Lv1 false
+requestOf bcr = Fast 0b0001
+requestOf ecr = Fast 0b0010
+requestOf cal = Fast 0b0100
+requestOf sync = Fast 0b1000

@@ -1,6 +1,6 @@
 pub mod Commands
-pub mod Streams
+pub mod CleanStreams
 pub mod Table
 pub mod Traces
 pub mod Records
-pub mod Alike
+pub mod Comparison

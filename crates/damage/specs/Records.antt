@@ -1,91 +1,77 @@
 -- The records of clean and damaged streams in RunMode, by their counters (document 01, "A record" and "The damage table").
 -- Assumes nothing.
-use mathlib.Core.Bool.{Bool, cond}
+use mathlib.Core.Bool.{Bool, true, false, cond}
 use mathlib.Core.List.{List, [], _∷_, _++_}
-use Prim.Native.Nat.{ℕ, _+_, _*_, _-_, _/_, _%_, _^_}
-use lib.Dec.{eqb, ltb}
-use Rattle.recogniser.specs.declared.Event.{Event}
-use Rattle.recogniser.specs.declared.Event.the-variants.{Nothing, Lv1, Fast, BadFast, SlowBegins, Slow, BadSlow, FrameBit, FrameEnd, FrameEndBit}
-use Rattle.registers.specs.Registers.{registerOf}
-use Rattle.controller.specs.Records.{kindLv1, kindFast, kindBadFast, flagFlip, flagSent}
+use Prim.Native.Nat.{ℕ, _+_, _-_}
+use lib.Dec.{ltb}
+use Rattle.recogniser.specs.declared.Request.{Request}
+use Rattle.recogniser.specs.declared.Request.the-variants.{Nothing, Lv1, Fast, BadFast, Slow}
+use Rattle.registers.specs.declared.Counters.{Counters}
+use Rattle.controller.specs.declared.Record.{Record}
+use Rattle.controller.specs.Commands.{sendsOf, lv1Record, lv1Counted, fastRecord, fastCounted, badFastRecord}
 use Rattle.decoder.specs.declared.Decoder.{Decoder}
-use Rattle.taking.specs.Entries.{Entry, entry}
-use Rattle.damage.specs.Commands.{widthOf, eventOf}
-use Rattle.damage.specs.Streams.{Item, itemSize}
-use Rattle.damage.specs.Table.{Instead, nothing, at, insteadOf}
+use Rattle.damage.specs.Commands.{widthOf, requestOf}
+use Rattle.damage.specs.CleanStreams.{Item, itemSize}
+use Rattle.damage.specs.Table.{Replacement, nothing, at, replacementOf}
 
--- The two counters: L1ID, the trigger number, and the base cycle of the bunch number.
-pub record Counters : Type 0 where
-  pub l1id : ℕ
-  pub base : ℕ
-
-abbrev pub counters : ℕ → ℕ → Counters
-counters l1id base = record { l1id = l1id; base = base }
-
--- The counters of a state, and whether its LV1s are sent to the front ends: "while CSR bit 6 is 0".
+-- The counters of a state, L1ID and the base cycle, and whether its LV1s are sent to the front ends.
 abbrev pub countersOf : Decoder → Counters
-countersOf d = counters (d .model .l1id) (d .model .base)
+countersOf d = d .model .counters
 
-abbrev pub sendsOf : Decoder → Bool
-sendsOf d = eqb (registerOf (d .model) (d .plan .csr) / 2 ^ 6 % 2) 0
+abbrev pub sends : Decoder → Bool
+sends d = sendsOf (d .plan) (d .model)
 
--- The record of an event at a cycle, RunMode on; LV1s are sent to the front ends or not. A clean or damaged stream brings no Slow command.
-abbrev pub entriesOf : Bool → Counters → ℕ → Event → List Entry
-entriesOf sent c time Nothing = []
-entriesOf sent c time (Lv1 flip) =
-    entry time kindLv1 (0x01 + flagFlip flip + flagSent sent) (c .l1id * 256 + (time - c .base) % 256) ∷ []
-entriesOf sent c time (Fast body) = entry time (kindFast body) 0x01 0 ∷ []
-entriesOf sent c time (BadFast body) = entry time kindBadFast 0x00 body ∷ []
-entriesOf sent c time SlowBegins = []
-entriesOf sent c time (Slow command address value) = []
-entriesOf sent c time (BadSlow command) = []
-entriesOf sent c time (FrameBit place bit) = []
-entriesOf sent c time (FrameEnd command unsteady) = []
-entriesOf sent c time (FrameEndBit command unsteady place bit) = []
+-- What a request at a cycle records, RunMode on, and the counters after it. A clean or damaged stream brings no Slow command.
+pub record Recording : Type 0 where
+  pub records : List Record
+  pub after : Counters
 
--- The counters after it: an LV1 adds 1 to L1ID, ECR sets it to 0, BCR moves the base.
-abbrev pub counted : Counters → ℕ → Event → Counters
-counted c time Nothing = c
-counted c time (Lv1 flip) = counters ((c .l1id + 1) % 256) (c .base)
-counted c time (Fast body) = counters (cond (eqb body 0b0010) 0 (c .l1id)) (cond (eqb body 0b0001) time (c .base))
-counted c time (BadFast body) = c
-counted c time SlowBegins = c
-counted c time (Slow command address value) = c
-counted c time (BadSlow command) = c
-counted c time (FrameBit place bit) = c
-counted c time (FrameEnd command unsteady) = c
-counted c time (FrameEndBit command unsteady place bit) = c
+abbrev pub recording : List Record → Counters → Recording
+recording records after = record { records = records; after = after }
+
+abbrev pub recordingOf : Bool → Counters → ℕ → Request → Recording
+recordingOf sent c time Nothing = recording [] c
+recordingOf sent c time (Lv1 flip) = recording (lv1Record true flip sent c time ∷ []) (lv1Counted c)
+recordingOf sent c time (Fast body) = recording (fastRecord true body time ∷ []) (fastCounted body time c)
+recordingOf sent c time (BadFast body) = recording (badFastRecord body time ∷ []) c
+recordingOf sent c time (Slow slow) = recording [] c
+
+abbrev pub requestRecords : Bool → Counters → ℕ → Request → List Record
+requestRecords sent c time q = recordingOf sent c time q .records
+
+abbrev pub countersAfter : Counters → ℕ → Request → Counters
+countersAfter c time q = recordingOf false c time q .after
 
 -- The cycle of a command's last bit, in a stream whose first bit is cycle n.
 abbrev pub lastCycle : ℕ → Item → ℕ
 lastCycle n i = n + i .ahead + (widthOf (i .command) - 1)
 
 -- The paper's record for one command, and for each command of a stream and no other.
-abbrev pub itemEntries : Bool → Counters → ℕ → Item → List Entry
-itemEntries sent c n i = entriesOf sent c (lastCycle n i) (eventOf (i .command))
+abbrev pub itemRecords : Bool → Counters → ℕ → Item → List Record
+itemRecords sent c n i = requestRecords sent c (lastCycle n i) (requestOf (i .command))
 
-abbrev pub itemCounted : Counters → ℕ → Item → Counters
-itemCounted c n i = counted c (lastCycle n i) (eventOf (i .command))
+abbrev pub itemCounters : Counters → ℕ → Item → Counters
+itemCounters c n i = countersAfter c (lastCycle n i) (requestOf (i .command))
 
-abbrev pub cleanEntries : Bool → Counters → ℕ → List Item → List Entry
-cleanEntries sent c n [] = []
-cleanEntries sent c n (i ∷ is) = itemEntries sent c n i ++ cleanEntries sent (itemCounted c n i) (n + itemSize i) is
+abbrev pub cleanRecords : Bool → Counters → ℕ → List Item → List Record
+cleanRecords sent c n [] = []
+cleanRecords sent c n (i ∷ is) = itemRecords sent c n i ++ cleanRecords sent (itemCounters c n i) (n + itemSize i) is
 
 -- What the table puts in a command's place: "The new one's time is that bit's cycle, its kind, flags and value those of 'A record', by the clean counters
 -- ahead of that command." n is the cycle of the command's first bit.
-abbrev pub insteadEntries : Bool → Counters → ℕ → Instead → List Entry
-insteadEntries sent c n nothing = []
-insteadEntries sent c n (at p e) = entriesOf sent c (n + (p - 1)) e
+abbrev pub replacementRecords : Bool → Counters → ℕ → Replacement → List Record
+replacementRecords sent c n nothing = []
+replacementRecords sent c n (at p e) = requestRecords sent c (n + (p - 1)) e
 
-abbrev pub insteadCounted : Counters → ℕ → Instead → Counters
-insteadCounted c n nothing = c
-insteadCounted c n (at p e) = counted c (n + (p - 1)) e
+abbrev pub replacementCounters : Counters → ℕ → Replacement → Counters
+replacementCounters c n nothing = c
+replacementCounters c n (at p e) = countersAfter c (n + (p - 1)) e
 
 -- "The damaged records are the clean ones with the affected one replaced, or left out at 'none'."
-abbrev pub damagedEntries : Bool → Counters → ℕ → List Item → ℕ → List Entry
-damagedEntries sent c n [] k = []
-damagedEntries sent c n (i ∷ is) k =
+abbrev pub damagedRecords : Bool → Counters → ℕ → List Item → ℕ → List Record
+damagedRecords sent c n [] k = []
+damagedRecords sent c n (i ∷ is) k =
     cond (ltb k (itemSize i))
-    (insteadEntries sent c (n + i .ahead) (insteadOf i k)
-    ++ cleanEntries sent (insteadCounted c (n + i .ahead) (insteadOf i k)) (n + itemSize i) is)
-    (itemEntries sent c n i ++ damagedEntries sent (itemCounted c n i) (n + itemSize i) is (k - itemSize i))
+    (replacementRecords sent c (n + i .ahead) (replacementOf i k)
+    ++ cleanRecords sent (replacementCounters c (n + i .ahead) (replacementOf i k)) (n + itemSize i) is)
+    (itemRecords sent c n i ++ damagedRecords sent (itemCounters c n i) (n + itemSize i) is (k - itemSize i))

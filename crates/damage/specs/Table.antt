@@ -6,10 +6,10 @@ use Prim.Native.Nat.{ℕ, suc, _+_, _-_}
 use lib.Dec.{ltb, leb}
 use lib.ListN.{drop}
 use Rattle.bits.specs.Bits.{numberOf}
-use Rattle.recogniser.specs.declared.Event.{Event}
-use Rattle.recogniser.specs.declared.Event.the-variants.{Lv1, BadFast}
-use Rattle.damage.specs.Commands.{Command, lv1, bcr, ecr, cal, sync, fasts, among, codeOf, widthOf, isFastCommand, eventOf}
-use Rattle.damage.specs.Streams.{Item, inverted}
+use Rattle.recogniser.specs.declared.Request.{Request}
+use Rattle.recogniser.specs.declared.Request.the-variants.{Lv1, BadFast}
+use Rattle.damage.specs.Commands.{Command, lv1, bcr, ecr, cal, sync, fasts, among, codeOf, widthOf, isFastCommand, requestOf}
+use Rattle.damage.specs.CleanStreams.{Item, inverted}
 
 -- What the table's right column says: "flip at 5" and the like, "bad Fast, at 9", or "none".
 pub data Outcome : Type 0 where
@@ -52,34 +52,34 @@ abbrev pub lookUp : List Row → Command → ℕ → Outcome
 lookUp [] c bit = none
 lookUp (r ∷ rs) c bit = cond (speaksOf r c bit) (r .outcome) (lookUp rs c bit)
 
--- What stands in a command's place: nothing, or an event at one of its bits, counted from 1.
-pub data Instead : Type 0 where
-  nothing : Instead
-  at : ℕ → Event → Instead
+-- What stands in a command's place: nothing, or a request at one of its bits, countersAfter from 1.
+pub data Replacement : Type 0 where
+  nothing : Replacement
+  at : ℕ → Request → Replacement
 
 -- A bad Fast has the damaged body.
 abbrev pub damagedBody : Command → ℕ → ℕ
 damagedBody c bit = numberOf 0 (drop 5 (inverted (bit - 1) (codeOf c)))
 
-abbrev pub asInstead : Command → ℕ → Outcome → Instead
-asInstead c bit none = nothing
-asInstead c bit (flipAt p) = at p (Lv1 true)
-asInstead c bit (exactAt p) = at p (Lv1 false)
-asInstead c bit (badFastAt p) = at p (BadFast (damagedBody c bit))
+abbrev pub asReplacement : Command → ℕ → Outcome → Replacement
+asReplacement c bit none = nothing
+asReplacement c bit (flipAt p) = at p (Lv1 true)
+asReplacement c bit (exactAt p) = at p (Lv1 false)
+asReplacement c bit (badFastAt p) = at p (BadFast (damagedBody c bit))
 
 -- The command itself, at its last bit.
-abbrev pub itself : Command → Instead
-itself c = at (widthOf c) (eventOf c)
+abbrev pub itself : Command → Replacement
+itself c = at (widthOf c) (requestOf c)
 
--- A bit of the command inverted, counted from 1; bit 0 is a zero ahead of it.
-abbrev pub damage : Command → ℕ → Instead
-damage c bit = asInstead c bit (lookUp table c bit)
+-- A bit of the command inverted, countersAfter from 1; bit 0 is a zero ahead of it.
+abbrev pub damage : Command → ℕ → Replacement
+damage c bit = asReplacement c bit (lookUp table c bit)
 
 -- "an inverted zero that no command holds, one or two cycles ahead of a Fast"
 abbrev pub hitsFast : Command → ℕ → Bool
 hitsFast c distance = isFastCommand c && leb distance 2
 
--- "Affected: the command holding the inverted bit; or .. that Fast; otherwise none": of an item whose bit k is inverted, counted from 0 at the first of
+-- "Affected: the command holding the inverted bit; or .. that Fast; otherwise none": of an item whose bit k is inverted, countersAfter from 0 at the first of
 -- its zeros.
 abbrev pub affected : Item → ℕ → Bool
 affected i k = cond (ltb k (i .ahead)) (hitsFast (i .command) (i .ahead - k)) true
@@ -88,8 +88,8 @@ affected i k = cond (ltb k (i .ahead)) (hitsFast (i .command) (i .ahead - k)) tr
 abbrev pub bitHit : Item → ℕ → ℕ
 bitHit i k = cond (ltb k (i .ahead)) 0 (suc (k - i .ahead))
 
-abbrev pub insteadOf : Item → ℕ → Instead
-insteadOf i k = cond (affected i k) (damage (i .command) (bitHit i k)) (itself (i .command))
+abbrev pub replacementOf : Item → ℕ → Replacement
+replacementOf i k = cond (affected i k) (damage (i .command) (bitHit i k)) (itself (i .command))
 
 -- How many rows speak of a command's bit.
 abbrev pub rowsFor : List Row → Command → ℕ → ℕ

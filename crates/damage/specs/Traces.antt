@@ -1,50 +1,50 @@
--- A trace: one event for each bit, so that its place is its time. What clean and damaged streams ask for, cycle by cycle.
+-- A trace: one request for each bit, so that its place is its time. What clean and damaged streams ask for, cycle by cycle.
 -- Assumes nothing.
 use mathlib.Core.Bool.{cond}
 use mathlib.Core.List.{List, [], _∷_, _++_}
 use Prim.Native.Nat.{ℕ, _-_}
 use lib.Dec.{ltb}
 use lib.ListN.{replicate}
-use Rattle.recogniser.specs.declared.Event.{Event}
-use Rattle.recogniser.specs.declared.Event.the-variants.{Nothing}
+use Rattle.recogniser.specs.declared.Request.{Request}
+use Rattle.recogniser.specs.declared.Request.the-variants.{Nothing}
 use Rattle.recogniser.specs.declared.Recogniser.{Recogniser}
 use Rattle.recogniser.specs.Step.{stepOf}
 use Rattle.damage.specs.Commands.{Command, widthOf}
-use Rattle.damage.specs.Streams.{Item, itemSize}
-use Rattle.damage.specs.Table.{Instead, nothing, at, itself, insteadOf}
+use Rattle.damage.specs.CleanStreams.{Item, itemSize}
+use Rattle.damage.specs.Table.{Replacement, nothing, at, itself, replacementOf}
 
--- The events of a recogniser over some bits, and where it stands after them. CNT is 0: no Slow command is about.
-unfoldable pub eventsOf : Recogniser → List ℕ → List Event
-eventsOf r [] = []
-eventsOf r (bit ∷ bits) = stepOf r bit 0 .event ∷ eventsOf (stepOf r bit 0 .next) bits
+-- The requests of a recogniser over some bits, and where it stands after them. CNT is 0: no Slow command is about.
+unfoldable pub requestsOf : Recogniser → List ℕ → List Request
+requestsOf r [] = []
+requestsOf r (bit ∷ bits) = stepOf r bit 0 .event .request ∷ requestsOf (stepOf r bit 0 .next) bits
 
-unfoldable pub standsAfter : Recogniser → List ℕ → Recogniser
-standsAfter r [] = r
-standsAfter r (bit ∷ bits) = standsAfter (stepOf r bit 0 .next) bits
+unfoldable pub recogniserAfter : Recogniser → List ℕ → Recogniser
+recogniserAfter r [] = r
+recogniserAfter r (bit ∷ bits) = recogniserAfter (stepOf r bit 0 .next) bits
 
-abbrev pub quiet : ℕ → List Event
+abbrev pub quiet : ℕ → List Request
 quiet n = replicate n Nothing
 
--- Over the bits of a command: nothing, or one event at one of them.
-abbrev pub spread : ℕ → Instead → List Event
+-- Over the bits of a command: nothing, or one request at one of them.
+abbrev pub spread : ℕ → Replacement → List Request
 spread width nothing = quiet width
 spread width (at p e) = quiet (p - 1) ++ (e ∷ quiet (width - p))
 
-abbrev pub commandTrace : Command → List Event
+abbrev pub commandTrace : Command → List Request
 commandTrace c = spread (widthOf c) (itself c)
 
-abbrev pub itemTrace : Item → List Event
+abbrev pub itemTrace : Item → List Request
 itemTrace i = quiet (i .ahead) ++ commandTrace (i .command)
 
-abbrev pub cleanTrace : List Item → ℕ → List Event
+abbrev pub cleanTrace : List Item → ℕ → List Request
 cleanTrace [] trailing = quiet trailing
 cleanTrace (i ∷ is) trailing = itemTrace i ++ cleanTrace is trailing
 
 -- An item whose bit k is inverted.
-abbrev pub damagedItem : Item → ℕ → List Event
-damagedItem i k = quiet (i .ahead) ++ spread (widthOf (i .command)) (insteadOf i k)
+abbrev pub damagedItem : Item → ℕ → List Request
+damagedItem i k = quiet (i .ahead) ++ spread (widthOf (i .command)) (replacementOf i k)
 
-abbrev pub damagedTrace : List Item → ℕ → ℕ → List Event
+abbrev pub damagedTrace : List Item → ℕ → ℕ → List Request
 damagedTrace [] trailing k = quiet trailing
 damagedTrace (i ∷ is) trailing k =
     cond (ltb k (itemSize i)) (damagedItem i k ++ cleanTrace is trailing) (itemTrace i ++ damagedTrace is trailing (k - itemSize i))

@@ -13,7 +13,7 @@ use Rattle.recogniser.specs.declared.Meaning.{Meaning}
 use Rattle.recogniser.specs.declared.Meaning.the-variants.{Quiet, Trigger, Header}
 use Rattle.recogniser.specs.declared.Recogniser.{Recogniser}
 use Rattle.recogniser.specs.declared.Group.{Group}
-use Rattle.recogniser.specs.declared.Heard.{Heard}
+use Rattle.recogniser.specs.declared.Transition.{Transition}
 use Rattle.recogniser.specs.Parts.{shifted, startOf, gatheredOf}
 use Rattle.recogniser.specs.Hunting.{isFast, meaningOf, huntBy, bodyOf}
 use Rattle.recogniser.specs.Fields.{isFrame, lengthOf, endsOf, keptOf, field3Of, field4Of}
@@ -69,7 +69,7 @@ further r held group unsteady = record {
   unsteady = unsteady;
 }
 
-abbrev pub Fit : ℕ → Heard → Type 0
+abbrev pub Fit : ℕ → Transition → Type 0
 Fit cnt h = T (fitOf (h .next) cnt)
 
 pub hunt-fits : (w cnt : ℕ) → w < 32 → (m : Meaning) → Fit cnt (huntBy w m)

@@ -11,7 +11,7 @@ use Rattle.registers.specs.Registers.{cntOf}
 use Rattle.registers.specs.Sound.{pointersFit, missingZero}
 use Rattle.decoder.specs.Fit.{fitOf}
 use Rattle.decoder.specs.declared.Decoder.{Decoder}
-use Rattle.decoder.specs.Limits.{clockLimit}
+use Rattle.limits.specs.Limits.{clockLimit}
 use Rattle.decoder.specs.Sound.{insideSlow, soundOf}
 
 -- A test that fails wherever another passes.
@@ -27,9 +27,9 @@ where-off false b e t = absurd t
 pub record Sound (d : Decoder) : Type 0 where
   pub plan : planFits (d .plan) ≡ true
   pub next : d .next ≤ clockLimit
-  pub base : d .model .base ≤ d .next
-  pub writes : pointersFit (d .model .writes) ≡ true
-  pub reads : pointersFit (d .model .reads) ≡ true
+  pub base : d .model .counters .base ≤ d .next
+  pub writes : pointersFit (d .model .pointers .writes) ≡ true
+  pub reads : pointersFit (d .model .pointers .reads) ≡ true
   pub missing : missingZero (d .plan) (d .model) ≡ true
   pub stopped : T (insideSlow (d .recogniser .phase)) → d .model .running ≡ false
   pub fits : T (fitOf (d .recogniser) (cntOf (d .plan) (d .model)))
@@ -41,7 +41,7 @@ module _ (d : Decoder) where
       rw (
         s .plan,
         le-leb (d .next) clockLimit (s .next),
-        le-leb (d .model .base) (d .next) (s .base),
+        le-leb (d .model .counters .base) (d .next) (s .base),
         s .writes,
         s .reads,
         s .missing,

@@ -6,12 +6,12 @@ use lib.Dec.{leb}
 use Rattle.recogniser.specs.Parts.{idle}
 use Rattle.registers.specs.declared.Plan.{Plan}
 use Rattle.registers.specs.Plan.{planFits, defaultPlan}
-use Rattle.registers.specs.Registers.{zeros16}
+use Rattle.registers.specs.Parts.{cleared}
 use Rattle.decoder.specs.declared.Decoder.{Decoder}
 use Rattle.decoder.specs.declared.Opened.{Opened}
 use Rattle.decoder.specs.declared.Opening.{Opening}
 use Rattle.decoder.specs.declared.Opening.the-variants.{Accepted, WrongPlan, WrongCycle}
-use Rattle.decoder.specs.Limits.{clockLimit}
+use Rattle.limits.specs.Limits.{clockLimit}
 
 -- "a state that hunts, with window 00000, RunMode off, and registers, pointers, L1ID and warnings 0". "The base is the opening cycle".
 abbrev pub openedAt : Plan → ℕ → Decoder
@@ -19,17 +19,7 @@ openedAt plan cycle = record {
   plan = plan;
   next = cycle;
   recogniser = idle;
-  model = record {
-    running = false;
-    l1id = 0;
-    base = cycle;
-    wlv1 = false;
-    wfst = false;
-    wslw = false;
-    registers = zeros16;
-    writes = zeros16;
-    reads = zeros16;
-  };
+  model = cleared false cycle;
 }
 
 abbrev pub opened : Decoder → Opening → Opened

@@ -9,7 +9,7 @@ use Rattle.registers.specs.Registers.{cntOf}
 use Rattle.registers.specs.Sound.{pointersFit, missingZero}
 use Rattle.decoder.specs.Fit.{fitOf}
 use Rattle.decoder.specs.declared.Decoder.{Decoder}
-use Rattle.decoder.specs.Limits.{clockLimit}
+use Rattle.limits.specs.Limits.{clockLimit}
 
 -- "RunMode is off inside a Slow command".
 abbrev pub insideSlow : Phase → Bool
@@ -25,9 +25,9 @@ unfoldable pub soundOf : Decoder → Bool
 soundOf d =
     planFits (d .plan)
     && (leb (d .next) clockLimit
-    && (leb (d .model .base) (d .next)
-    && (pointersFit (d .model .writes)
-    && (pointersFit (d .model .reads)
+    && (leb (d .model .counters .base) (d .next)
+    && (pointersFit (d .model .pointers .writes)
+    && (pointersFit (d .model .pointers .reads)
     && (missingZero (d .plan) (d .model)
     && (not (insideSlow (d .recogniser .phase) && d .model .running)
     && fitOf (d .recogniser) (cntOf (d .plan) (d .model))))))))

@@ -158,17 +158,7 @@ impl Decoder {
             plan: plan,
             next: cycle,
             recogniser: Recogniser::start(Phase::Hunt, 0, 0, 0),
-            model: Model {
-                running: false,
-                l1id: 0,
-                base: cycle,
-                wlv1: false,
-                wfst: false,
-                wslw: false,
-                registers: [0u16; 16],
-                writes: [0u8; 16],
-                reads: [0u8; 16],
-            },
+            model: Model::cleared(false, cycle),
         }
     }
 
@@ -201,11 +191,13 @@ impl Decoder {
         let plan = self.plan;
         let model = self.model;
         let recogniser = self.recogniser;
-        let writes = model.writes;
-        let reads = model.reads;
+        let counters = model.counters;
+        let pointers = model.pointers;
+        let writes = pointers.writes;
+        let reads = pointers.reads;
         let opens = plan.fits();
         let clock = self.next <= Decoder::CLOCK_LIMIT;
-        let base = model.base <= self.next;
+        let base = counters.base <= self.next;
         let writes_fit = registers::pointers_fit(writes);
         let reads_fit = registers::pointers_fit(reads);
         let missing = model.missing_zero(plan);

@@ -5,8 +5,8 @@ use mathlib.Core.List.{List, []}
 use Prim.Native.Nat.{ℕ, _+_, _*_, _-_, _/_, _%_, _^_}
 use lib.Dec.{leb, eqb}
 use lib.ListN.{length, getD, set, take}
-use Rattle.recogniser.specs.declared.Event.{Event}
-use Rattle.recogniser.specs.declared.Event.the-variants.{Nothing, Lv1, Fast, BadFast, SlowBegins, Slow, BadSlow, FrameBit, FrameEnd, FrameEndBit}
+use Rattle.recogniser.specs.declared.FrameBit.{FrameBit}
+use Rattle.recogniser.specs.declared.FrameBit.the-variants.{None, At}
 
 -- A byte in which the bit at a place, counted from the highest, is the frame's bit.
 abbrev pub withBit : ℕ → ℕ → ℕ → ℕ
@@ -20,18 +20,10 @@ storedOf tray place bit =
     let byte = cond (eqb (place % 8) 0) 0 (getD tray (place / 8) 0) in
     set tray (place / 8) (withBit byte (place % 8) bit)
 
--- What an event does to the tray.
-unfoldable pub trayOf : List ℕ → Event → List ℕ
-trayOf tray Nothing = tray
-trayOf tray (Lv1 flip) = tray
-trayOf tray (Fast body) = tray
-trayOf tray (BadFast body) = tray
-trayOf tray SlowBegins = tray
-trayOf tray (Slow command address value) = tray
-trayOf tray (BadSlow command) = tray
-trayOf tray (FrameBit place bit) = storedOf tray place bit
-trayOf tray (FrameEnd command unsteady) = tray
-trayOf tray (FrameEndBit command unsteady place bit) = storedOf tray place bit
+-- What a cycle's frame bit does to the tray.
+unfoldable pub trayOf : List ℕ → FrameBit → List ℕ
+trayOf tray None = tray
+trayOf tray (At place bit) = storedOf tray place bit
 
 -- "The frame is handed back as the part of the tray that it fills"; "a count beyond the tray's bits gives the empty part".
 abbrev pub partOf : List ℕ → ℕ → List ℕ

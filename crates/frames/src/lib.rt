@@ -2,7 +2,7 @@
 ghost use mathlib.Core.Path.{_≡_};
 ghost use Prim.Native.Nat.{_<_};
 ghost use Rattle.frames.specs.Tray.{withBit, storedOf, trayOf, partOf};
-use recogniser::Event;
+use recogniser::FrameBit;
 
 // A byte with one bit of it set to the frame's bit; places count from the highest.
 fn with_bit(byte: u8, place: u32, bit: u8) -> u8
@@ -34,33 +34,13 @@ pub fn store_bit(tray: &mut [u8], place: u32, bit: u8)
     tray[at] = with_bit(byte, k, bit);
 }
 
-// What an event does to the tray.
-pub fn keep(tray: &mut [u8], event: Event)
-    ensures { λ _. ⌜ now (tray .exit) ≡ trayOf (now (tray .entry)) event ⌝ }
+// What a cycle's frame bit does to the tray.
+pub fn keep(tray: &mut [u8], frame: FrameBit)
+    ensures { λ _. ⌜ now (tray .exit) ≡ trayOf (now (tray .entry)) frame ⌝ }
 {
-    match event {
-        Event::FrameBit { place, bit } => store_bit(tray, place, bit),
-        Event::FrameEndBit {
-            command: _,
-            unsteady: _,
-            place,
-            bit,
-        } => store_bit(tray, place, bit),
-        Event::Nothing => {}
-        Event::Lv1 { flip: _ } => {}
-        Event::Fast { body: _ } => {}
-        Event::BadFast { body: _ } => {}
-        Event::SlowBegins => {}
-        Event::Slow {
-            command: _,
-            address: _,
-            value: _,
-        } => {}
-        Event::BadSlow { command: _ } => {}
-        Event::FrameEnd {
-            command: _,
-            unsteady: _,
-        } => {}
+    match frame {
+        FrameBit::None => {}
+        FrameBit::At { place, bit } => store_bit(tray, place, bit),
     }
 }
 

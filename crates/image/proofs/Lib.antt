@@ -1,4 +1,8 @@
-pub mod Images
-pub mod Puts
-mod Words
-pub mod Forms
+mod CompareLoop
+mod LowWords
+mod ReadLoop
+pub mod RoundTrip
+mod Stored
+pub mod WellFormed
+mod Widths
+pub mod WriteLoop

@@ -1,100 +1,80 @@
--- The state as plain words: what a state is written as, what words are read as, and which words are an image.
+-- The state as plain words: what a state is written as, what words are read as, and which words are an image. All of it follows from the table of
+-- fields.
 -- Assumes nothing.
-use mathlib.Core.Bool.{Bool, true, false, cond, _&&_}
+use mathlib.Core.Bool.{Bool, true, false, _&&_}
 use mathlib.Core.List.{List, [], _∷_, _++_}
-use mathlib.Core.Path.{_≡_}
-use Prim.Native.Nat.{ℕ, _%_, _^_, _<_}
+use mathlib.Core.Path.{_≡_, refl}
+use Prim.Native.Nat.{ℕ, suc, _+_, _%_, _^_, _≤_, _<_}
+use Prim.Native.String.{String}
 use lib.Dec.{eqb}
-use lib.ListN.{length, getD, take, drop}
-use Rattle.recogniser.specs.declared.Phase.{Phase}
-use Rattle.recogniser.specs.declared.Phase.the-variants.{Hunt, Body, Field3, Field4, Field5}
-use Rattle.recogniser.specs.declared.Recogniser.{Recogniser}
-use Rattle.registers.specs.declared.Plan.{Plan}
-use Rattle.registers.specs.declared.Model.{Model}
+use lib.ListN.{length, getD, replicate}
+use lib.Text.{eqt}
 use Rattle.decoder.specs.declared.Decoder.{Decoder}
-
-abbrev pub imageLength : ℕ
-imageLength = 68
+use Rattle.image.specs.Fields.{Limit, whole, bits, upTo, Field, number, flag, phase, array, scalars, fields}
+use Rattle.image.specs.Fields.{nameOf, size, limitOf, numbersIn, Numbers, stateFrom}
 
 -- The layout's number stands first, so that an image of another layout is not misread.
 abbrev pub layout : ℕ
 layout = 1
 
-abbrev pub phaseNumber : Phase → ℕ
-phaseNumber Hunt = 0
-phaseNumber Body = 1
-phaseNumber Field3 = 2
-phaseNumber Field4 = 3
-phaseNumber Field5 = 4
+-- The words of a state, field after field, and what each may be.
+abbrev pub wordsOf : List Field → Decoder → List ℕ
+wordsOf [] d = []
+wordsOf (f ∷ fs) d = numbersIn f d ++ wordsOf fs d
 
-abbrev pub bit : Bool → ℕ
-bit on = cond on 1 0
+abbrev pub limitsOf : List Field → List Limit
+limitsOf [] = []
+limitsOf (f ∷ fs) = replicate (size f) (limitOf f) ++ limitsOf fs
 
--- Words 0 to 19.
-abbrev pub scalarsOf : Decoder → List ℕ
-scalarsOf d =
-    let r = d .recogniser in
-    let m = d .model in
-    layout
-    ∷ d .plan .mask ∷ d .plan .csr ∷ d .plan .feen ∷ d .plan .cnt
-    ∷ d .next
-    ∷ phaseNumber (r .phase) ∷ r .shift ∷ r .command ∷ r .address ∷ r .count ∷ r .held ∷ bit (r .group .first) ∷ bit (r .unsteady)
-    ∷ bit (m .running) ∷ m .l1id ∷ m .base ∷ bit (m .wlv1) ∷ bit (m .wfst) ∷ bit (m .wslw)
-    ∷ []
+abbrev pub limits : List Limit
+limits = limitsOf fields
 
--- One word a number; then 16 words each of registers, write pointers and read pointers.
+abbrev pub imageLength : ℕ
+imageLength = suc (length limits)
+
+pub image-length-is : imageLength ≡ 68
+image-length-is = refl
+
 unfoldable pub imageOf : Decoder → List ℕ
-imageOf d = scalarsOf d ++ d .model .registers ++ d .model .writes ++ d .model .reads
+imageOf d = layout ∷ wordsOf fields d
 
-abbrev pub phaseOf : ℕ → Phase
-phaseOf n = cond (eqb n 0) Hunt (cond (eqb n 1) Body (cond (eqb n 2) Field3 (cond (eqb n 3) Field4 Field5)))
+-- Where the field of a name begins.
+abbrev pub placeFrom : List Field → ℕ → String → ℕ
+placeFrom [] at name = at
+placeFrom (f ∷ fs) at name = elim (eqt (nameOf f) name) [ true ↦ at | false ↦ placeFrom fs (at + size f) name ]
 
--- Words by their low bits, below a power of two.
-abbrev pub narrowed : ℕ → List ℕ → List ℕ
-narrowed limit [] = []
-narrowed limit (w ∷ ws) = w % limit ∷ narrowed limit ws
+abbrev pub placeOf : String → ℕ
+placeOf = placeFrom fields 1
 
--- What words read as, each by as many low bits as its field has.
-abbrev pub planAt : List ℕ → Plan
-planAt image = record {
-  mask = getD image 1 0 % 2 ^ 16;
-  csr = getD image 2 0 % 2 ^ 8;
-  feen = getD image 3 0 % 2 ^ 8;
-  cnt = getD image 4 0 % 2 ^ 8;
-}
+-- The image up to its arrays.
+abbrev pub scalarsOf : Decoder → List ℕ
+scalarsOf d = layout ∷ wordsOf scalars d
 
-abbrev pub recogniserAt : List ℕ → Recogniser
-recogniserAt image = record {
-  phase = phaseOf (getD image 6 0);
-  shift = getD image 7 0 % 2 ^ 8;
-  command = getD image 8 0 % 2 ^ 8;
-  address = getD image 9 0 % 2 ^ 8;
-  count = getD image 10 0 % 2 ^ 32;
-  held = getD image 11 0 % 2 ^ 32;
-  group = record { first = eqb (getD image 12 0) 1 };
-  unsteady = eqb (getD image 13 0) 1;
-}
+-- A number by its low part, which is within the limit.
+abbrev pub low : Limit → ℕ → ℕ
+low whole w = w
+low (bits n) w = w % 2 ^ n
+low (upTo m) w = w % suc m
 
-abbrev pub modelAt : List ℕ → Model
-modelAt image = record {
-  running = eqb (getD image 14 0) 1;
-  l1id = getD image 15 0 % 2 ^ 8;
-  base = getD image 16 0;
-  wlv1 = eqb (getD image 17 0) 1;
-  wfst = eqb (getD image 18 0) 1;
-  wslw = eqb (getD image 19 0) 1;
-  registers = narrowed (2 ^ 16) (take 16 (drop 20 image));
-  writes = narrowed (2 ^ 8) (take 16 (drop 36 image));
-  reads = narrowed (2 ^ 8) (take 16 (drop 52 image));
-}
+-- As many words as there are limits, from a place on, each by its low part.
+abbrev pub lowWords : List Limit → ℕ → List ℕ → List ℕ
+lowWords [] at image = []
+lowWords (l ∷ ls) at image = low l (getD image at 0) ∷ lowWords ls (suc at) image
+
+-- What words from a place on read as for the field of a name.
+abbrev pub numbersFrom : List Field → ℕ → List ℕ → Numbers
+numbersFrom [] at image name = []
+numbersFrom (f ∷ fs) at image name =
+    elim (eqt (nameOf f) name) [
+      | true ↦ lowWords (replicate (size f) (limitOf f)) at image
+      | false ↦ numbersFrom fs (at + size f) image name
+    ]
+
+abbrev pub numbersOf : List ℕ → Numbers
+numbersOf = numbersFrom fields 1
 
 unfoldable pub stateOf : List ℕ → Decoder
-stateOf image = record {
-  plan = planAt image;
-  next = getD image 5 0;
-  recogniser = recogniserAt image;
-  model = modelAt image;
-}
+stateOf image = stateFrom (numbersOf image)
 
 abbrev pub sameWords : List ℕ → List ℕ → Bool
 sameWords [] [] = true
@@ -106,46 +86,38 @@ sameWords (x ∷ xs) (y ∷ ys) = eqb x y && sameWords xs ys
 unfoldable pub imageFits : List ℕ → Bool
 imageFits image = eqb (length image) imageLength && sameWords (imageOf (stateOf image)) image
 
--- The widths of a state's fields. Every state of a program has them, by its types.
-pub record Widths (d : Decoder) : Type 0 where
-  pub mask : d .plan .mask < 2 ^ 16
-  pub csr : d .plan .csr < 2 ^ 8
-  pub feen : d .plan .feen < 2 ^ 8
-  pub cnt : d .plan .cnt < 2 ^ 8
-  pub shift : d .recogniser .shift < 2 ^ 8
-  pub command : d .recogniser .command < 2 ^ 8
-  pub address : d .recogniser .address < 2 ^ 8
-  pub count : d .recogniser .count < 2 ^ 32
-  pub held : d .recogniser .held < 2 ^ 32
-  pub l1id : d .model .l1id < 2 ^ 8
-  pub registers : length (d .model .registers) ≡ 16
-  pub writes : length (d .model .writes) ≡ 16
-  pub reads : length (d .model .reads) ≡ 16
-  pub register : (n : ℕ) → n < 16 → getD (d .model .registers) n 0 < 2 ^ 16
-  pub write : (n : ℕ) → n < 16 → getD (d .model .writes) n 0 < 2 ^ 8
-  pub read : (n : ℕ) → n < 16 → getD (d .model .reads) n 0 < 2 ^ 8
+-- A number within a limit.
+abbrev pub Keeps : Limit → ℕ → Type 0
+Keeps whole w = Unit {0}
+Keeps (bits n) w = w < 2 ^ n
+Keeps (upTo m) w = w ≤ m
 
--- The same by widths, word by word, as the header has it: what is well-formed is that and nothing else (promises, `Hosts`).
+-- Well-formed by widths, word by word, as the header has it: the same words and no others (promises, `Hosts`).
 pub record Formed (image : List ℕ) : Type 0 where
   pub long : length image ≡ imageLength
   pub layout-is : getD image 0 0 ≡ layout
-  pub mask : getD image 1 0 < 2 ^ 16
-  pub csr : getD image 2 0 < 2 ^ 8
-  pub feen : getD image 3 0 < 2 ^ 8
-  pub cnt : getD image 4 0 < 2 ^ 8
-  pub phase : getD image 6 0 < 5
-  pub shift : getD image 7 0 < 2 ^ 8
-  pub command : getD image 8 0 < 2 ^ 8
-  pub address : getD image 9 0 < 2 ^ 8
-  pub count : getD image 10 0 < 2 ^ 32
-  pub held : getD image 11 0 < 2 ^ 32
-  pub first : getD image 12 0 < 2
-  pub unsteady : getD image 13 0 < 2
-  pub running : getD image 14 0 < 2
-  pub l1id : getD image 15 0 < 2 ^ 8
-  pub wlv1 : getD image 17 0 < 2
-  pub wfst : getD image 18 0 < 2
-  pub wslw : getD image 19 0 < 2
-  pub registers : (n : ℕ) → n < 16 → getD (take 16 (drop 20 image)) n 0 < 2 ^ 16
-  pub writes : (n : ℕ) → n < 16 → getD (take 16 (drop 36 image)) n 0 < 2 ^ 8
-  pub reads : (n : ℕ) → n < 16 → getD (take 16 (drop 52 image)) n 0 < 2 ^ 8
+  pub keeps : (n : ℕ) → n < length limits → Keeps (getD limits n whole) (getD image (1 + n) 0)
+
+-- The numbers of a state within their limits, and its arrays too, each of 16. A flag or a phase always is.
+abbrev pub NumbersKeep : List Field → Decoder → Type 0
+NumbersKeep [] d = Unit {0}
+NumbersKeep (number name limit get ∷ fs) d = Keeps limit (get d) × NumbersKeep fs d
+NumbersKeep (flag name get ∷ fs) d = NumbersKeep fs d
+NumbersKeep (phase name get ∷ fs) d = NumbersKeep fs d
+NumbersKeep (array name limit get ∷ fs) d = NumbersKeep fs d
+
+pub record ArrayKeeps (limit : Limit) (numbers : List ℕ) : Type 0 where
+  pub long : length numbers ≡ 16
+  pub keeps : (n : ℕ) → n < 16 → Keeps limit (getD numbers n 0)
+
+abbrev pub ArraysKeep : List Field → Decoder → Type 0
+ArraysKeep [] d = Unit {0}
+ArraysKeep (number name limit get ∷ fs) d = ArraysKeep fs d
+ArraysKeep (flag name get ∷ fs) d = ArraysKeep fs d
+ArraysKeep (phase name get ∷ fs) d = ArraysKeep fs d
+ArraysKeep (array name limit get ∷ fs) d = ArrayKeeps limit (get d) × ArraysKeep fs d
+
+-- The widths of a state's fields. Every state of a program has them, by its types.
+pub record Widths (d : Decoder) : Type 0 where
+  pub numbers : NumbersKeep fields d
+  pub arrays : ArraysKeep fields d

@@ -1,29 +1,70 @@
 // The state as plain 64-bit words, for hosts that are not written in Rattle and for storing it.
 ghost use mathlib.Core.Path.{_≡_};
-ghost use mathlib.Core.Bool.{cond};
 ghost use Prim.Native.Nat.{_+_, _≤_};
-ghost use lib.ListN.{length};
+ghost use lib.ListN.{length, set, replicate};
 ghost use lib.Seq.{sets};
-ghost use Rattle.image.specs.Image.{imageLength, phaseNumber, phaseOf, scalarsOf, imageOf, narrowed, planAt, recogniserAt, modelAt, stateOf, sameWords, imageFits};
+ghost use Rattle.image.specs.Fields.{bits, phaseNumber, phaseOf, planFrom, recogniserFrom, modelFrom};
+ghost use Rattle.image.specs.Image.{imageLength, placeOf, scalarsOf, imageOf, lowWords, numbersOf, stateOf, sameWords, imageFits};
 use decoder::Decoder;
 use recogniser::Group;
 use recogniser::Phase;
 use recogniser::Recogniser;
+use registers::Counters;
 use registers::Model;
 use registers::Plan;
-
-// The words of an image.
-pub const WORDS: usize = 68;
+use registers::Pointers;
+use registers::Warnings;
 
 // The number of this layout; another layout takes another.
 const LAYOUT: u64 = 1;
 
-// Where the arrays stand.
-const REGISTERS: usize = 20;
+// Where each field stands, by the order of the fields.
+const MASK: usize = 1;
 
-const WRITES: usize = 36;
+const CSR: usize = MASK + 1;
 
-const READS: usize = 52;
+const FEEN: usize = CSR + 1;
+
+const CNT: usize = FEEN + 1;
+
+const NEXT: usize = CNT + 1;
+
+const PHASE: usize = NEXT + 1;
+
+const SHIFT: usize = PHASE + 1;
+
+const COMMAND: usize = SHIFT + 1;
+
+const ADDRESS: usize = COMMAND + 1;
+
+const COUNT: usize = ADDRESS + 1;
+
+const HELD: usize = COUNT + 1;
+
+const FIRST: usize = HELD + 1;
+
+const UNSTEADY: usize = FIRST + 1;
+
+const RUNNING: usize = UNSTEADY + 1;
+
+const L1ID: usize = RUNNING + 1;
+
+const BASE: usize = L1ID + 1;
+
+const WLV1: usize = BASE + 1;
+
+const WFST: usize = WLV1 + 1;
+
+const WSLW: usize = WFST + 1;
+
+const REGISTERS: usize = WSLW + 1;
+
+const WRITES: usize = REGISTERS + 16;
+
+const READS: usize = WRITES + 16;
+
+// The words of an image.
+pub const WORDS: usize = READS + 16;
 
 fn phase_number(phase: Phase) -> u64
     ensures { λ r. ⌜ r ≡ phaseNumber phase ⌝ }
@@ -49,21 +90,16 @@ fn phase_of(number: u64) -> Phase
     }
 }
 
-fn bit(on: bool) -> u64
-    ensures { λ r. ⌜ r ≡ cond on 1 0 ⌝ }
-{
-    if on { 1 } else { 0 }
-}
-
-// Everything but the arrays.
-fn scalars(d: Decoder) -> [u64; 20]
-    ensures { λ r. ⌜ r ≡ scalarsOf d ⌝ }
+// Everything but the arrays, with the number for the phase.
+fn scalars(d: Decoder, phase: u64) -> [u64; REGISTERS]
+    ensures { λ r. ⌜ r ≡ set (scalarsOf d) (placeOf "phase") phase ⌝ }
 {
     let plan = d.plan;
     let recogniser = d.recogniser;
-    let phase = recogniser.phase;
     let group = recogniser.group;
     let model = d.model;
+    let counters = model.counters;
+    let warnings = model.warnings;
     [
         LAYOUT,
         plan.mask as u64,
@@ -71,54 +107,54 @@ fn scalars(d: Decoder) -> [u64; 20]
         plan.feen as u64,
         plan.cnt as u64,
         d.next,
-        phase_number(phase),
+        phase,
         recogniser.shift as u64,
         recogniser.command as u64,
         recogniser.address as u64,
         recogniser.count as u64,
         recogniser.held as u64,
-        bit(group.first),
-        bit(recogniser.unsteady),
-        bit(model.running),
-        model.l1id as u64,
-        model.base,
-        bit(model.wlv1),
-        bit(model.wfst),
-        bit(model.wslw),
+        group.first as u64,
+        recogniser.unsteady as u64,
+        model.running as u64,
+        counters.l1id as u64,
+        counters.base,
+        warnings.wlv1 as u64,
+        warnings.wfst as u64,
+        warnings.wslw as u64,
     ]
 }
 
 // The scalars, from word 0 on.
-fn put_scalars(image: &mut [u64], numbers: [u64; 20])
-    requires { ⌜ 20 ≤ length (now image) ⌝ }
+fn put_scalars(image: &mut [u64], numbers: [u64; REGISTERS])
+    requires { ⌜ length numbers ≤ length (now image) ⌝ }
     ensures { λ _. ⌜ now (image .exit) ≡ sets (now (image .entry)) 0 numbers ⌝ }
 {
     let mut n: usize = 0;
-    while n < 20 {
+    while n < REGISTERS {
         image[n] = numbers[n];
         n += 1;
     }
 }
 
 // Sixteen numbers from a place on, one a word.
-fn put_registers(image: &mut [u64], at: usize, registers: [u16; 16])
+fn put_u16(image: &mut [u64], at: usize, numbers: [u16; 16])
     requires { ⌜ at + 16 ≤ length (now image) ⌝ }
-    ensures { λ _. ⌜ now (image .exit) ≡ sets (now (image .entry)) at registers ⌝ }
+    ensures { λ _. ⌜ now (image .exit) ≡ sets (now (image .entry)) at numbers ⌝ }
 {
     let mut n: usize = 0;
     while n < 16 {
-        image[at + n] = registers[n] as u64;
+        image[at + n] = numbers[n] as u64;
         n += 1;
     }
 }
 
-fn put_pointers(image: &mut [u64], at: usize, pointers: [u8; 16])
+fn put_u8(image: &mut [u64], at: usize, numbers: [u8; 16])
     requires { ⌜ at + 16 ≤ length (now image) ⌝ }
-    ensures { λ _. ⌜ now (image .exit) ≡ sets (now (image .entry)) at pointers ⌝ }
+    ensures { λ _. ⌜ now (image .exit) ≡ sets (now (image .entry)) at numbers ⌝ }
 {
     let mut n: usize = 0;
     while n < 16 {
-        image[at + n] = pointers[n] as u64;
+        image[at + n] = numbers[n] as u64;
         n += 1;
     }
 }
@@ -129,91 +165,93 @@ pub fn write(d: Decoder, image: &mut [u64])
     ensures { λ _. ⌜ now (image .exit) ≡ imageOf d ⌝ }
     ensures { λ _. ⌜ stateOf (now (image .exit)) ≡ d ⌝ }
 {
-    put_scalars(image, scalars(d));
+    let recogniser = d.recogniser;
+    let phase = recogniser.phase;
     let model = d.model;
     let registers = model.registers;
-    let writes = model.writes;
-    let reads = model.reads;
-    put_registers(image, REGISTERS, registers);
-    put_pointers(image, WRITES, writes);
-    put_pointers(image, READS, reads);
+    let pointers = model.pointers;
+    let writes = pointers.writes;
+    let reads = pointers.reads;
+    put_scalars(image, scalars(d, phase_number(phase)));
+    put_u16(image, REGISTERS, registers);
+    put_u8(image, WRITES, writes);
+    put_u8(image, READS, reads);
 }
 
-// The numbers of 16 words, each by its low bits.
-fn registers_at(words: &[u64]) -> [u16; 16]
-    requires { ⌜ length (now words) ≡ 16 ⌝ }
-    ensures { λ r. ⌜ r ≡ narrowed 65536 (now (words .entry)) ⌝ }
+// The numbers of 16 words from a place on, each by its low bits.
+fn u16_at(image: &[u64], at: usize) -> [u16; 16]
+    requires { ⌜ at + 16 ≤ length (now image) ⌝ }
+    ensures { λ r. ⌜ r ≡ lowWords (replicate 16 (bits 16)) at (now (image .entry)) ⌝ }
 {
-    let mut registers = [0u16; 16];
+    let mut numbers = [0u16; 16];
     let mut n: usize = 0;
     while n < 16 {
-        registers[n] = (words[n] % 65536) as u16;
+        numbers[n] = (image[at + n] % 65536) as u16;
         n += 1;
     }
-    registers
+    numbers
 }
 
-fn pointers_at(words: &[u64]) -> [u8; 16]
-    requires { ⌜ length (now words) ≡ 16 ⌝ }
-    ensures { λ r. ⌜ r ≡ narrowed 256 (now (words .entry)) ⌝ }
+fn u8_at(image: &[u64], at: usize) -> [u8; 16]
+    requires { ⌜ at + 16 ≤ length (now image) ⌝ }
+    ensures { λ r. ⌜ r ≡ lowWords (replicate 16 (bits 8)) at (now (image .entry)) ⌝ }
 {
-    let mut pointers = [0u8; 16];
+    let mut numbers = [0u8; 16];
     let mut n: usize = 0;
     while n < 16 {
-        pointers[n] = (words[n] % 256) as u8;
+        numbers[n] = (image[at + n] % 256) as u8;
         n += 1;
     }
-    pointers
+    numbers
 }
 
 fn plan_at(image: &[u64]) -> Plan
     requires { ⌜ length (now image) ≡ imageLength ⌝ }
-    ensures { λ r. ⌜ r ≡ planAt (now (image .entry)) ⌝ }
+    ensures { λ r. ⌜ r ≡ planFrom (numbersOf (now (image .entry))) ⌝ }
 {
     Plan {
-        mask: (image[1] % 65536) as u16,
-        csr: (image[2] % 256) as u8,
-        feen: (image[3] % 256) as u8,
-        cnt: (image[4] % 256) as u8,
+        mask: (image[MASK] % 65536) as u16,
+        csr: (image[CSR] % 256) as u8,
+        feen: (image[FEEN] % 256) as u8,
+        cnt: (image[CNT] % 256) as u8,
     }
 }
 
-fn recogniser_at(image: &[u64]) -> Recogniser
+fn recogniser_at(image: &[u64], phase: Phase) -> Recogniser
     requires { ⌜ length (now image) ≡ imageLength ⌝ }
-    ensures { λ r. ⌜ r ≡ recogniserAt (now (image .entry)) ⌝ }
+    ensures { λ r. ⌜ r ≡ recogniserFrom phase (numbersOf (now (image .entry))) ⌝ }
 {
-    let phase = phase_of(image[6]);
     Recogniser {
         phase: phase,
-        shift: (image[7] % 256) as u8,
-        command: (image[8] % 256) as u8,
-        address: (image[9] % 256) as u8,
-        count: (image[10] % 4294967296) as u32,
-        held: (image[11] % 4294967296) as u32,
+        shift: (image[SHIFT] % 256) as u8,
+        command: (image[COMMAND] % 256) as u8,
+        address: (image[ADDRESS] % 256) as u8,
+        count: (image[COUNT] % 4294967296) as u32,
+        held: (image[HELD] % 4294967296) as u32,
         group: Group {
-            first: image[12] == 1,
+            first: image[FIRST] % 2 == 1,
         },
-        unsteady: image[13] == 1,
+        unsteady: image[UNSTEADY] % 2 == 1,
     }
 }
 
-fn model_at(image: &[u64]) -> Model
+fn model_at(image: &[u64], registers: [u16; 16], pointers: Pointers) -> Model
     requires { ⌜ length (now image) ≡ imageLength ⌝ }
-    ensures { λ r. ⌜ r ≡ modelAt (now (image .entry)) ⌝ }
+    ensures { λ r. ⌜ r ≡ modelFrom registers pointers (numbersOf (now (image .entry))) ⌝ }
 {
-    let registers = registers_at(&image[REGISTERS..WRITES]);
-    let writes = pointers_at(&image[WRITES..READS]);
-    let reads = pointers_at(&image[READS..WORDS]);
     Model {
-        running: image[14] == 1,
-        l1id: (image[15] % 256) as u8,
-        base: image[16],
-        wlv1: image[17] == 1,
-        wfst: image[18] == 1,
-        wslw: image[19] == 1,
+        running: image[RUNNING] % 2 == 1,
+        counters: Counters {
+            l1id: (image[L1ID] % 256) as u8,
+            base: image[BASE],
+        },
+        warnings: Warnings {
+            wlv1: image[WLV1] % 2 == 1,
+            wfst: image[WFST] % 2 == 1,
+            wslw: image[WSLW] % 2 == 1,
+        },
         registers: registers,
-        writes: writes,
-        reads: reads,
+        pointers: pointers,
     }
 }
 
@@ -222,14 +260,18 @@ pub fn read(image: &[u64]) -> Decoder
     requires { ⌜ length (now image) ≡ imageLength ⌝ }
     ensures { λ r. ⌜ r ≡ stateOf (now (image .entry)) ⌝ }
 {
-    let plan = plan_at(image);
-    let recogniser = recogniser_at(image);
-    let model = model_at(image);
+    let next = image[NEXT];
+    let phase = phase_of(image[PHASE] % 5);
+    let registers = u16_at(image, REGISTERS);
+    let pointers = Pointers {
+        writes: u8_at(image, WRITES),
+        reads: u8_at(image, READS),
+    };
     Decoder {
-        plan: plan,
-        next: image[5],
-        recogniser: recogniser,
-        model: model,
+        plan: plan_at(image),
+        next: next,
+        recogniser: recogniser_at(image, phase),
+        model: model_at(image, registers, pointers),
     }
 }
 
@@ -254,7 +296,7 @@ pub fn fits(image: &[u64]) -> bool
     if image.len() != WORDS {
         return false;
     }
-    let mut words = [0u64; 68];
+    let mut words = [0u64; WORDS];
     write(read(image), &mut words);
     same(&words, image)
 }

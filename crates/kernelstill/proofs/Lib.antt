@@ -1,1 +1,3 @@
-mod Laws
+pub mod OpenCases
+pub mod TakeCases
+pub mod LineCases

@@ -22,7 +22,7 @@ planOf mask csr feen cnt =
     emptyPlan
 
 -- A refusal number, 0 for none, and the image's later contents.
-pub record OpenLeft : Type 0 where
+pub record OpenResult : Type 0 where
   pub number : ℕ
   pub image : List ℕ
 
@@ -30,12 +30,15 @@ pub record OpenLeft : Type 0 where
 abbrev pub numberOr3 : ℕ → ℕ
 numberOr3 number = cond (eqb number 0) 3 number
 
-abbrev pub openedInto : Opened → List ℕ → OpenLeft
+abbrev pub openResult : ℕ → List ℕ → OpenResult
+openResult number image = record { number = number; image = image }
+
+abbrev pub openedInto : Opened → List ℕ → OpenResult
 openedInto o image =
     cond (eqb (length image) imageLength)
-    (record { number = openingNumber (o .opening); image = imageOf (o .decoder) })
-    (record { number = numberOr3 (openingNumber (o .opening)); image = image })
+    (openResult (openingNumber (o .opening)) (imageOf (o .decoder)))
+    (openResult (numberOr3 (openingNumber (o .opening))) image)
 
 -- "A refused opening gives the default start state at cycle 0", here too. An image of another length stays as it is.
-unfoldable pub openLeftOf : ℕ → ℕ → ℕ → ℕ → ℕ → List ℕ → OpenLeft
-openLeftOf mask csr feen cnt cycle image = openedInto (openOf (planOf mask csr feen cnt) cycle) image
+unfoldable pub openResultOf : ℕ → ℕ → ℕ → ℕ → ℕ → List ℕ → OpenResult
+openResultOf mask csr feen cnt cycle image = openedInto (openOf (planOf mask csr feen cnt) cycle) image

@@ -10,18 +10,22 @@ use Rattle.decoder.specs.declared.Decoder.{Decoder}
 use Rattle.decoder.specs.Sound.{soundOf}
 use Rattle.taking.specs.declared.Ending.{Ending}
 use Rattle.taking.specs.declared.Ending.the-variants.{Done, Frame, ListFull, Unsound, WrongBuffers, WrongRange, ClockOver}
-use Rattle.taking.specs.declared.Told.{Told}
-use Rattle.taking.specs.Take.{Call, Left, takeOf, endingNumber}
+use Rattle.taking.specs.declared.Report.{Report}
+use Rattle.taking.specs.Take.{Call, CallResult, takeOf, endingNumber}
 use Rattle.image.specs.Image.{imageOf, stateOf, imageFits}
 
 -- A refusal number, 0 for none, and each buffer's later contents.
-pub record TakeLeft : Type 0 where
+pub record TakeResult : Type 0 where
   pub number : ℕ
   pub image : List ℕ
   pub result : List ℕ
   pub store : List ℕ
   pub tray : List ℕ
   pub list : List ℕ
+
+abbrev pub takeResult : ℕ → List ℕ → List ℕ → List ℕ → List ℕ → List ℕ → TakeResult
+takeResult number image result store tray list =
+    record { number = number; image = image; result = result; store = store; tray = tray; list = list }
 
 -- The three endings of a call that is not refused; a refusal has its number instead.
 abbrev pub endingCode : Ending → ℕ
@@ -37,35 +41,28 @@ abbrev pub resultLength : ℕ
 resultLength = 3
 
 -- The result: "bits taken, records written, and one ending".
-abbrev pub resultOf : Told → List ℕ
-resultOf t = t .bits ∷ t .records ∷ endingCode (t .ending) ∷ []
+abbrev pub resultWords : Report → List ℕ
+resultWords t = t .bits ∷ t .records ∷ endingCode (t .ending) ∷ []
 
 -- A refused call: every buffer as it was lent.
-abbrev pub refusedCall : ℕ → List ℕ → List ℕ → Call → TakeLeft
-refusedCall number image result c =
-    record { number = number; image = image; result = result; store = c .store; tray = c .tray; list = c .list }
+abbrev pub refusedCall : ℕ → List ℕ → List ℕ → Call → TakeResult
+refusedCall number image result c = takeResult number image result (c .store) (c .tray) (c .list)
 
--- What a call on the state left: where it is not refused, the next state as an image, and the result.
-abbrev pub answered : List ℕ → List ℕ → Left → TakeLeft
+-- What a call on the state leaves: where it is not refused, the next state as an image, and the result.
+abbrev pub answered : List ℕ → List ℕ → CallResult → TakeResult
 answered image result l =
-    let number = endingNumber (l .taken .told .ending) in
+    let number = endingNumber (l .taken .report .ending) in
     let fit = eqb number 0 in
-    record {
-      number = number;
-      image = cond fit (imageOf (l .taken .decoder)) image;
-      result = cond fit (resultOf (l .taken .told)) result;
-      store = l .store;
-      tray = l .tray;
-      list = l .list;
-    }
+    takeResult number (cond fit (imageOf (l .taken .decoder)) image) (cond fit (resultWords (l .taken .report)) result)
+    (l .store) (l .tray) (l .list)
 
 -- Number 3 does not apply: the words are the image of a sound state.
 abbrev pub soundImage : List ℕ → Bool
 soundImage image = imageFits image && soundOf (stateOf image)
 
 -- Number 3 also for an image that is malformed, number 4 also where the result has no three words.
-unfoldable pub takeLeftOf : List ℕ → List ℕ → Call → TakeLeft
-takeLeftOf image result c =
+unfoldable pub takeResultOf : List ℕ → List ℕ → Call → TakeResult
+takeResultOf image result c =
     cond (soundImage image)
     (cond (eqb (length result) resultLength) (answered image result (takeOf (stateOf image) c))
     (refusedCall 4 image result c))

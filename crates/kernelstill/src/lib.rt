@@ -6,15 +6,15 @@ ghost use lib.ListN.{length};
 ghost use Rattle.frames.specs.Tray.{partOf};
 ghost use Rattle.controller.specs.Records.{kindOf, isFrameHead, frameBitsOf};
 ghost use Rattle.decoder.specs.Opening.{openOf};
-ghost use Rattle.taking.specs.Take.{takeOf};
+ghost use Rattle.taking.specs.Take.{call, takeOf};
 ghost use Rattle.image.specs.Image.{imageLength, stateOf};
-ghost use Rattle.kernelstill.specs.Open.{emptyPlan, planOf, openLeftOf};
-ghost use Rattle.kernelstill.specs.Take.{endingCode, resultLength, resultOf, soundImage, takeLeftOf, Holds};
-ghost use Rattle.kernelstill.specs.Lines.{hexLeftOf, recordLeftOf};
+ghost use Rattle.kernelstill.specs.Open.{emptyPlan, planOf, openResult, openResultOf};
+ghost use Rattle.kernelstill.specs.Take.{endingCode, resultLength, resultWords, soundImage, takeResult, takeResultOf, Holds};
+ghost use Rattle.kernelstill.specs.Lines.{lineResult, hexResultOf, recordResultOf};
 use decoder::Decoder;
 use registers::Plan;
 use taking::Ending;
-use taking::Told;
+use taking::Report;
 
 // The words of a taking call's result: bits taken, records written, ending.
 const RESULT_WORDS: usize = 3;
@@ -87,7 +87,7 @@ pub extern "C" fn kernelstill_open(
     cycle: u64,
     image: &mut [u64],
 ) -> u64
-    ensures { λ r. ⌜ (record { number = r; image = now (image .exit) }) ≡ openLeftOf mask csr feen cnt cycle (now (image .entry)) ⌝ }
+    ensures { λ r. ⌜ openResult r (now (image .exit)) ≡ openResultOf mask csr feen cnt cycle (now (image .entry)) ⌝ }
     ensures { λ _. ⌜ (length (now (image .entry)) ≡ imageLength → Holds (now (image .exit)) (openOf (planOf mask csr feen cnt) cycle .decoder)) ⌝ }
 {
     let plan = plan_of(mask, csr, feen, cnt);
@@ -117,9 +117,9 @@ fn sound_image(image: &[u64]) -> bool
 }
 
 // A taking call's result, in three words.
-fn write_result(result: &mut [u64], answer: Told)
+fn write_result(result: &mut [u64], answer: Report)
     requires { ⌜ length (now result) ≡ resultLength ⌝ }
-    ensures { λ _. ⌜ now (result .exit) ≡ resultOf answer ⌝ }
+    ensures { λ _. ⌜ now (result .exit) ≡ resultWords answer ⌝ }
 {
     let ending = answer.ending;
     result[0] = answer.bits as u64;
@@ -141,8 +141,11 @@ pub extern "C" fn kernelstill_take(
     free: usize,
     result: &mut [u64],
 ) -> u64
-    ensures { λ r. ⌜ (record { number = r; image = now (image .exit); result = now (result .exit); store = now (store .exit); tray = now (tray .exit); list = now (list .exit) }) ≡ takeLeftOf (now (image .entry)) (now (result .entry)) (record { input = now (input .entry); first = first; count = count; store = now (store .entry); tray = now (tray .entry); list = now (list .entry); free = free }) ⌝ }
-    ensures { λ r. ⌜ (r ≡ 0 → Holds (now (image .exit)) (takeOf (stateOf (now (image .entry))) (record { input = now (input .entry); first = first; count = count; store = now (store .entry); tray = now (tray .entry); list = now (list .entry); free = free }) .taken .decoder)) ⌝ }
+    ensures { λ r. ⌜ takeResult r (now (image .exit)) (now (result .exit)) (now (store .exit)) (now (tray .exit)) (now (list .exit))
+        ≡ takeResultOf (now (image .entry)) (now (result .entry))
+        (call (now (input .entry)) first count (now (store .entry)) (now (tray .entry)) (now (list .entry)) free) ⌝ }
+    ensures { λ r. ⌜ (r ≡ 0 → Holds (now (image .exit)) (takeOf (stateOf (now (image .entry)))
+        (call (now (input .entry)) first count (now (store .entry)) (now (tray .entry)) (now (list .entry)) free) .taken .decoder)) ⌝ }
 {
     if !sound_image(image) {
         return UNSOUND;
@@ -152,7 +155,7 @@ pub extern "C" fn kernelstill_take(
     }
     let decoder = image::read(image);
     let taken = taking::take(decoder, input, first, count, store, tray, list, free);
-    let answer = taken.told;
+    let answer = taken.report;
     let ending = answer.ending;
     let number = ending.number();
     if number != 0 {
@@ -187,7 +190,7 @@ pub extern "C" fn kernelstill_frame_part(tray: &[u8], bits: usize) -> usize
 // A hexadecimal line's bytes, and the refusal number.
 #[no_mangle]
 pub extern "C" fn kernelstill_hex_line(line: &[u8], bytes: &mut [u8]) -> u64
-    ensures { λ r. ⌜ (record { number = r; bytes = now (bytes .exit) }) ≡ hexLeftOf (now (line .entry)) (now (bytes .entry)) ⌝ }
+    ensures { λ r. ⌜ lineResult r (now (bytes .exit)) ≡ hexResultOf (now (line .entry)) (now (bytes .entry)) ⌝ }
 {
     if bytes.len() < LINE_BYTES {
         return WRONG_BUFFERS;
@@ -199,7 +202,7 @@ pub extern "C" fn kernelstill_hex_line(line: &[u8], bytes: &mut [u8]) -> u64
 // The bytes of a record's line, and the refusal number.
 #[no_mangle]
 pub extern "C" fn kernelstill_record_line(line: &mut [u8], head: u64, value: u64) -> u64
-    ensures { λ r. ⌜ (record { number = r; bytes = now (line .exit) }) ≡ recordLeftOf head value (now (line .entry)) ⌝ }
+    ensures { λ r. ⌜ lineResult r (now (line .exit)) ≡ recordResultOf head value (now (line .entry)) ⌝ }
 {
     let end = layout::record_line(line, 0, head, value);
     if end == 0 {

@@ -10,7 +10,7 @@ use lib.ListN.{length, getD, length-append}
 use Rattle.bits.proofs.Truth.{choice}
 use Rattle.registers.specs.Plan.{existsAt}
 use Rattle.registers.specs.Registers.{readOf}
-use Rattle.decoder.specs.Limits.{storeLength}
+use Rattle.limits.specs.Limits.{storeLength}
 use Rattle.decoder.specs.declared.Decoder.{Decoder}
 use Rattle.output.specs.Ascii.{ascii}
 use Rattle.output.specs.Block.{blockLength, block, putIfFits}
@@ -58,10 +58,10 @@ module _ (d : Decoder) (store : List ℕ) (words : length store ≡ storeLength)
       (λ _. omega (arith, line-length (ascii "register ") (i ∷ readOf (d .plan) (d .model) i ∷ []) (1 ∷ 4 ∷ []) refl))
       (λ _. omega arith)
 
-  pointers-length : (i : ℕ) → length (pointersText (d .model .writes) (d .model .reads) i) ≤ 17
+  pointers-length : (i : ℕ) → length (pointersText (d .model .pointers .writes) (d .model .pointers .reads) i) ≤ 17
   pointers-length i =
       let m = d .model in
-      omega (arith, line-length (ascii "pointers ") (i ∷ getD (m .writes) i 0 ∷ getD (m .reads) i 0 ∷ []) (1 ∷ 2 ∷ 2 ∷ []) refl)
+      omega (arith, line-length (ascii "pointers ") (i ∷ getD (m .pointers .writes) i 0 ∷ getD (m .pointers .reads) i 0 ∷ []) (1 ∷ 2 ∷ 2 ∷ []) refl)
 
   fifo-word-length : (i : ℕ) → length (fifoWordText store i) ≤ 19
   fifo-word-length i =
@@ -76,10 +76,10 @@ module _ (d : Decoder) (store : List ℕ) (words : length store ≡ storeLength)
       (omega (
         arith,
         texts-length (registerText (d .plan) (d .model)) 16 register-length 16 0,
-        line-length (ascii "l1id ") (d .model .l1id ∷ []) (2 ∷ []) refl,
-        line-length (ascii "base ") (d .model .base ∷ []) (12 ∷ []) refl,
+        line-length (ascii "l1id ") (d .model .counters .l1id ∷ []) (2 ∷ []) refl,
+        line-length (ascii "base ") (d .model .counters .base ∷ []) (12 ∷ []) refl,
         line-length (ascii "runmode ") (cond (d .model .running) 1 0 ∷ []) (1 ∷ []) refl,
-        texts-length (pointersText (d .model .writes) (d .model .reads)) 17 pointers-length 16 0,
+        texts-length (pointersText (d .model .pointers .writes) (d .model .pointers .reads)) 17 pointers-length 16 0,
         texts-length (fifoWordText store) 19 fifo-word-length (length store) 0,
       ))
 

@@ -42,7 +42,7 @@ allFifoWordsText store = textsFrom (length store) 0 (fifoWordText store)
 unfoldable pub stateText : Decoder → List ℕ → List ℕ
 stateText d store =
     allRegistersText (d .plan) (d .model)
-    ++ (l1idLine (d .model .l1id)
-    ++ (baseLine (d .model .base)
+    ++ (l1idLine (d .model .counters .l1id)
+    ++ (baseLine (d .model .counters .base)
     ++ (runmodeLine (d .model .running)
-    ++ (allPointersText (d .model .writes) (d .model .reads) ++ allFifoWordsText store))))
+    ++ (allPointersText (d .model .pointers .writes) (d .model .pointers .reads) ++ allFifoWordsText store))))

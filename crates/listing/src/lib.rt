@@ -2,7 +2,7 @@
 ghost use mathlib.Core.Path.{_≡_};
 ghost use Prim.Native.Nat.{_+_, _≤_};
 ghost use lib.ListN.{length};
-ghost use Rattle.decoder.specs.Limits.{storeLength};
+ghost use Rattle.limits.specs.Limits.{storeLength};
 ghost use Rattle.output.specs.Block.{blockLength, block, putAll};
 ghost use Rattle.listing.specs.Records.{recordText, recordsText};
 ghost use Rattle.listing.specs.State.{allRegistersText, allPointersText, allFifoWordsText, stateText};
@@ -57,11 +57,12 @@ fn put_registers(out: &mut [u8], at: usize, plan: Plan, model: Model) -> usize
 
 // The FIFOs' pointers.
 fn put_pointers(out: &mut [u8], at: usize, model: Model) -> usize
-    requires { ⌜ at + length (allPointersText (model .writes) (model .reads)) ≤ length (now out) ⌝ }
-    ensures { λ r. ⌜ block (now (out .exit)) r ≡ putAll (now (out .entry)) at (allPointersText (model .writes) (model .reads)) ⌝ }
+    requires { ⌜ at + length (allPointersText (model .pointers .writes) (model .pointers .reads)) ≤ length (now out) ⌝ }
+    ensures { λ r. ⌜ block (now (out .exit)) r ≡ putAll (now (out .entry)) at (allPointersText (model .pointers .writes) (model .pointers .reads)) ⌝ }
 {
-    let writes = model.writes;
-    let reads = model.reads;
+    let pointers = model.pointers;
+    let writes = pointers.writes;
+    let reads = pointers.reads;
     let mut place = at;
     for i in 0..16 {
         place = layout::pointers_line(out, place, i, writes[i], reads[i]);
@@ -92,9 +93,10 @@ pub fn put_state(out: &mut [u8], decoder: Decoder, store: &[u32]) -> usize
 {
     let plan = decoder.plan;
     let model = decoder.model;
+    let counters = model.counters;
     let registers = put_registers(out, 0, plan, model);
-    let l1id = layout::l1id_line(out, registers, model.l1id);
-    let base = layout::base_line(out, l1id, model.base);
+    let l1id = layout::l1id_line(out, registers, counters.l1id);
+    let base = layout::base_line(out, l1id, counters.base);
     let runmode = layout::runmode_line(out, base, model.running);
     let pointers = put_pointers(out, runmode, model);
     put_fifo_words(out, pointers, store)

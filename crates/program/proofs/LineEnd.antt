@@ -21,7 +21,7 @@ use Rattle.hexlines.specs.Lines.{emptyLine, answerOf, meaningSoFar, meaningsFro
 use Rattle.layout.specs.ListingLines.{refusedLine}
 use Rattle.layout.proofs.LineLengths.{line-length}
 use Rattle.program.specs.Listing.{outcome, nextLineNumber, listingOf}
-use Rattle.program.specs.RunState.{Snapshot, snapshot, machineOf, stillToPrint, allPrinted, linesPrinted, StepReady, AfterLineEnd}
+use Rattle.program.specs.RunState.{Snapshot, snapshot, systemAt, stillToPrint, allPrinted, linesPrinted, StepReady, AfterLineEnd}
 use Rattle.program.proofs.OutputBlock.{put-then}
 use Rattle.program.proofs.WellFormed.{well-formed-with}
 
@@ -103,7 +103,7 @@ module _ (frames : Bool) {g : Snapshot} {line : LineSoFar} {lines number : ℕ} 
       ≡ linesPrinted frames g (meaningSoFar (g .state .line) ∷ meaningsFrom emptyLine characters)
   unfolding stillToPrint listingOf meaningSoFar
   refusal-listed characters =
-      put-then (g .out) (refusedLine number lines) out (g .state .filled) place refusal-put refusal-fits (outcome [] (machineOf g))
+      put-then (g .out) (refusedLine number lines) out (g .state .filled) place refusal-put refusal-fits (outcome [] (systemAt g))
       ∙ rw (← e .numbered, ne-eqb number 0 wrong, append-nil, e .counted)
 
   pub line-refused : AfterLineEnd frames g refusedState

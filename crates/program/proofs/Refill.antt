@@ -8,8 +8,8 @@ use native.Mathlib.Omega.{arith}
 use lib.ListN.{length, set, take}
 use Rattle.bits.proofs.Truth.{clash}
 use Rattle.registers.specs.Plan.{defaultPlan}
-use Rattle.decoder.specs.Limits.{storeLength, trayLength}
-use Rattle.taking.proofs.Stays.{start-sound}
+use Rattle.limits.specs.Limits.{storeLength, trayLength}
+use Rattle.taking.proofs.SoundnessKept.{start-sound}
 use Rattle.output.specs.Ascii.{lineFeed}
 use Rattle.output.specs.Block.{blockLength}
 use Rattle.hexlines.specs.declared.LineSoFar.{LineSoFar}

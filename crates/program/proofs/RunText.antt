@@ -11,12 +11,13 @@ use borrow.Author.Tests.{le-ltb}
 use Rattle.bits.proofs.Truth.{choice}
 use Rattle.frames.specs.Tray.{partOf}
 use Rattle.controller.specs.declared.Cycle.{Cycle}
-use Rattle.controller.specs.declared.Cycle.the-variants.{Nothing, Record}
-use Rattle.controller.specs.Records.{kindOf, isFrameHead, frameBitsOf}
+use Rattle.controller.specs.declared.Cycle.the-variants.{Silent, Recorded}
+use Rattle.controller.specs.declared.Record.{Record}
+use Rattle.controller.specs.Records.{headOf, kindOf, isFrameHead, frameBitsOf}
 use Rattle.taking.specs.declared.Ending.{Ending}
 use Rattle.taking.specs.declared.Ending.the-variants.{Frame, ListFull, Done}
 use Rattle.taking.specs.Run.{Run, ended, oneBit, oneRecord, afterCycle, runOf, stateAfter}
-use Rattle.taking.specs.Turn.{World, turnOf}
+use Rattle.taking.specs.Turn.{System, turnOf}
 use Rattle.layout.specs.ListingLines.{recordLine}
 use Rattle.layout.proofs.LineLengths.{line-length, frame-length}
 use Rattle.listing.specs.Records.{frameText, recordText, recordsText}
@@ -44,78 +45,78 @@ unfolding recordText
 text-without-frame frames tray head value e = simp (e, and-false frames, append-nil)
 
 -- What holds of a run of some bits from a state into a room.
-pub record RunPrints (frames : Bool) (w : World) (bits : List ℕ) (room : ℕ) (r : Run World) : Type 0 where
-  pub text : bitsText frames w bits ≡ recordsText frames (r .state .tray) (r .words) ++ bitsText frames (r .state) (drop (r .bits) bits)
+pub record RunPrints (frames : Bool) (w : System) (bits : List ℕ) (room : ℕ) (r : Run System) : Type 0 where
+  pub text : bitsText frames w bits ≡ recordsText frames (r .state .machine .tray) (r .words) ++ bitsText frames (r .state) (drop (r .bits) bits)
   pub state : stateAfter turnOf w bits ≡ stateAfter turnOf (r .state) (drop (r .bits) bits)
-  pub next : r .state .decoder .next ≡ w .decoder .next + r .bits
-  pub short : length (recordsText frames (r .state .tray) (r .words)) ≤ 14 * room + (2 * length (r .state .tray) + 2)
+  pub next : r .state .machine .next ≡ w .machine .next + r .bits
+  pub short : length (recordsText frames (r .state .machine .tray) (r .words)) ≤ 14 * room + (2 * length (r .state .machine .tray) + 2)
 
 module _ (frames : Bool) where
-  stopped : (w : World) (bits : List ℕ) (room : ℕ) (e : Ending) → RunPrints frames w bits room (ended w e)
+  stopped : (w : System) (bits : List ℕ) (room : ℕ) (e : Ending) → RunPrints frames w bits room (ended w e)
   unfolding recordsText
   stopped w bits room e = record { text = refl; state = refl; next = omega arith; short = omega arith }
 
-  module _ (w : World) (bit : ℕ) (bits : List ℕ) (room : ℕ) (enough : 2 ≤ room) (rest : World → ℕ → Run World)
-      (each : (v : World) (left : ℕ) → RunPrints frames v bits left (rest v left)) where
-    abbrev v : World
+  module _ (w : System) (bit : ℕ) (bits : List ℕ) (room : ℕ) (enough : 2 ≤ room) (rest : System → ℕ → Run System)
+      (each : (v : System) (left : ℕ) → RunPrints frames v bits left (rest v left)) where
+    abbrev v : System
     v = turnOf w bit .state
 
-    later : v .decoder .next ≡ w .decoder .next + 1
+    later : v .machine .next ≡ w .machine .next + 1
     unfolding turnOf
     later = refl
 
     -- a record's line ahead of what the rest of the run prints
-    with-record : (head value : ℕ) → turnOf w bit .cycle ≡ Record head value → (r : Run World) → RunPrints frames v bits (room - 2) r
-        → recordText frames (v .tray) head value ≡ recordText frames (r .state .tray) head value
-        → length (recordText frames (r .state .tray) head value) ≡ 28
-        → RunPrints frames w (bit ∷ bits) room (oneBit (oneRecord head value r))
+    with-record : (x : Record) → turnOf w bit .cycle ≡ Recorded x → (r : Run System) → RunPrints frames v bits (room - 2) r
+        → recordText frames (v .machine .tray) (headOf x) (x .value) ≡ recordText frames (r .state .machine .tray) (headOf x) (x .value)
+        → length (recordText frames (r .state .machine .tray) (headOf x) (x .value)) ≡ 28
+        → RunPrints frames w (bit ∷ bits) room (oneBit (oneRecord x r))
     unfolding bitsText recordsText
-    with-record head value e r p same long = record {
-      text = rw (e, same, p .text) (sym (append-assoc (recordText frames (r .state .tray) head value) _ _));
+    with-record x e r p same long = record {
+      text = rw (e, same, p .text) (sym (append-assoc (recordText frames (r .state .machine .tray) (headOf x) (x .value)) _ _));
       state = p .state;
       next = let n = p .next in let l = later in omega arith;
       short = rw length-append (let s = p .short in omega arith);
     }
 
     -- a frame's record, after which the run stops
-    with-frame : (head value : ℕ) → turnOf w bit .cycle ≡ Record head value
-        → RunPrints frames w (bit ∷ bits) room (oneBit (oneRecord head value (ended v Frame)))
+    with-frame : (x : Record) → turnOf w bit .cycle ≡ Recorded x
+        → RunPrints frames w (bit ∷ bits) room (oneBit (oneRecord x (ended v Frame)))
     unfolding bitsText recordsText recordText
-    with-frame head value e = record {
+    with-frame x e = record {
       text = rw (e, append-nil);
       state = refl;
       next = later;
-      short = rw (append-nil, length-append) (omega (arith, record-line-length head value, frame-text-length frames (v .tray) head value));
+      short = rw (append-nil, length-append) (omega (arith, record-line-length (headOf x) (x .value), frame-text-length frames (v .machine .tray) (headOf x) (x .value)));
     }
 
-    by-frame : (head value : ℕ) → turnOf w bit .cycle ≡ Record head value → (b : Bool) → isFrameHead head ≡ b
-        → RunPrints frames w (bit ∷ bits) room (oneBit (oneRecord head value (cond b (ended v Frame) (rest v (room - 2)))))
-    by-frame head value e true f = with-frame head value e
-    by-frame head value e false f =
+    by-frame : (x : Record) → turnOf w bit .cycle ≡ Recorded x → (b : Bool) → isFrameHead (headOf x) ≡ b
+        → RunPrints frames w (bit ∷ bits) room (oneBit (oneRecord x (cond b (ended v Frame) (rest v (room - 2)))))
+    by-frame x e true f = with-frame x e
+    by-frame x e false f =
         let r = rest v (room - 2) in
-        let line = text-without-frame frames (r .state .tray) head value f in
-        with-record head value e r (each v (room - 2)) (text-without-frame frames (v .tray) head value f ∙ sym line)
-        (ap length line ∙ record-line-length head value)
+        let line = text-without-frame frames (r .state .machine .tray) (headOf x) (x .value) f in
+        with-record x e r (each v (room - 2)) (text-without-frame frames (v .machine .tray) (headOf x) (x .value) f ∙ sym line)
+        (ap length line ∙ record-line-length (headOf x) (x .value))
 
     by-cycle : (c : Cycle) → turnOf w bit .cycle ≡ c → RunPrints frames w (bit ∷ bits) room (oneBit (afterCycle rest v c room))
     unfolding bitsText
-    by-cycle Nothing e =
+    by-cycle Silent e =
         let p = each v room in
         record { text = rw e (p .text); state = p .state; next = let n = p .next in let l = later in omega arith; short = p .short }
-    by-cycle (Record head value) e = by-frame head value e (isFrameHead head) refl
+    by-cycle (Recorded x) e = by-frame x e (isFrameHead (headOf x)) refl
 
-  by-room : (w : World) (bit : ℕ) (bits : List ℕ) (room : ℕ) → ((v : World) (left : ℕ) → RunPrints frames v bits left (runOf turnOf bits v left))
+  by-room : (w : System) (bit : ℕ) (bits : List ℕ) (room : ℕ) → ((v : System) (left : ℕ) → RunPrints frames v bits left (runOf turnOf bits v left))
       → (b : Bool) → (T (not b) → 2 ≤ room)
       → RunPrints frames w (bit ∷ bits) room
       (cond b (ended w ListFull) (oneBit (afterCycle (runOf turnOf bits) (turnOf w bit .state) (turnOf w bit .cycle) room)))
   by-room w bit bits room each true h = stopped w (bit ∷ bits) room ListFull
   by-room w bit bits room each false h = by-cycle w bit bits room (h tt) (runOf turnOf bits) each (turnOf w bit .cycle) refl
 
-  pub run-prints : (bits : List ℕ) (w : World) (room : ℕ) → RunPrints frames w bits room (runOf turnOf bits w room)
+  pub run-prints : (bits : List ℕ) (w : System) (room : ℕ) → RunPrints frames w bits room (runOf turnOf bits w room)
   run-prints [] w room = stopped w [] room Done
   run-prints (bit ∷ bits) w room = by-room w bit bits room (run-prints bits) (ltb room 2) (nltb→le room 2)
 
 -- A run with room for a record takes a bit.
-pub run-takes : (bits : List ℕ) (w : World) (room : ℕ) → 1 ≤ length bits → 2 ≤ room → 1 ≤ runOf turnOf bits w room .bits
+pub run-takes : (bits : List ℕ) (w : System) (room : ℕ) → 1 ≤ length bits → 2 ≤ room → 1 ≤ runOf turnOf bits w room .bits
 run-takes [] w room some enough = absurd (omega arith)
 run-takes (bit ∷ bits) w room some enough = simp (le-ltb room 2 enough) (omega arith)

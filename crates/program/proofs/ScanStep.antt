@@ -8,7 +8,7 @@ use native.Mathlib.Omega.{arith}
 use lib.ListN.{length, drop}
 use borrow.Author.Tests.{le-leb}
 use Rattle.bits.proofs.Truth.{choice}
-use Rattle.decoder.specs.Limits.{clockLimit}
+use Rattle.limits.specs.Limits.{clockLimit}
 use Rattle.decoder.proofs.Soundness.{sound-parts}
 use Rattle.hexlines.specs.declared.Scanned.{Scanned}
 use Rattle.hexlines.specs.Lines.{emptyLine, scanOf, meaningSoFar, meaningsFrom}

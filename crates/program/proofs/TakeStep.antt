@@ -10,9 +10,9 @@ use lib.ListN.{length}
 use borrow.Author.Tests.{eqb-false}
 use Rattle.bits.proofs.Truth.{choice}
 use Rattle.decoder.specs.Sound.{soundOf}
-use Rattle.taking.specs.Turn.{World}
-use Rattle.taking.specs.Take.{Call, Left, takeOf}
-use Rattle.taking.proofs.Stays.{take-sound}
+use Rattle.taking.specs.Turn.{System}
+use Rattle.taking.specs.Take.{Call, CallResult, takeOf}
+use Rattle.taking.proofs.SoundnessKept.{take-sound}
 use Rattle.output.specs.Block.{block, putAll}
 use Rattle.output.proofs.Pieces.{put-end-within}
 use Rattle.hexlines.specs.Line.{lineBytes}
@@ -36,10 +36,10 @@ callOf g list = record {
   free = 0;
 }
 
-abbrev pub afterCallOf : Snapshot → Left → ℕ → List ℕ → Snapshot
+abbrev pub afterCallOf : Snapshot → CallResult → ℕ → List ℕ → Snapshot
 afterCallOf g l place out =
     let s = g .state in
-    let bits = l .taken .told .bits in
+    let bits = l .taken .report .bits in
     snapshot (record {
       decoder = l .taken .decoder;
       line = s .line;
@@ -55,14 +55,14 @@ afterCallOf g l place out =
     }) (l .store) (l .tray) out
 
 -- What is known of the call, and of what it leaves.
-pub record CallMade (g : Snapshot) (list : List ℕ) (l : Left) : Type 0 where
+pub record CallMade (g : Snapshot) (list : List ℕ) (l : CallResult) : Type 0 where
   pub ready : StepReady g
   pub some : 0 < g .state .count
   pub bytes : length (g .state .bytes) ≡ lineBytes
   pub words : length list ≡ listWords
   pub result : l ≡ takeOf (g .state .decoder) (callOf g list)
 
-module _ (frames : Bool) {g : Snapshot} {list : List ℕ} {l : Left} (made : CallMade g list l) where
+module _ (frames : Bool) {g : Snapshot} {list : List ℕ} {l : CallResult} (made : CallMade g list l) where
   call-fits : CallFits (g .state .decoder) (callOf g list)
   call-fits = let w = made .ready .well-formed in record {
     sound = w .sound;
@@ -91,7 +91,7 @@ module _ (frames : Bool) {g : Snapshot} {list : List ℕ} {l : Left} (made : Cal
 
     well-formed : WellFormed h
     well-formed = let w = made .ready .well-formed in record {
-      sound = subst⁻¹ (λ (m : Left). T (soundOf (m .taken .decoder))) (made .result) (take-sound _ _ (w .sound));
+      sound = subst⁻¹ (λ (m : CallResult). T (soundOf (m .taken .decoder))) (made .result) (take-sound _ _ (w .sound));
       store = store ∙ w .store;
       tray = tray ∙ w .tray;
       range = omega (arith, call-printed .low, w .range);
@@ -101,13 +101,13 @@ module _ (frames : Bool) {g : Snapshot} {list : List ℕ} {l : Left} (made : Cal
     same-listing : (characters : List ℕ) → allPrinted frames h characters ≡ allPrinted frames g characters
     unfolding stillToPrint
     same-listing characters =
-        let lines : World → Outcome = λ w. listingOf frames w (g .state .lines) (meaningsFrom (g .state .line) characters) in
+        let lines : System → Outcome = λ w. listingOf frames w (g .state .lines) (meaningsFrom (g .state .line) characters) in
         put-then (g .out) (recordsText frames (l .tray) (wordsWritten l)) out (g .state .filled) place p (records-fit tray) (stillToPrint frames h characters)
         ∙ rw (made .ready .not-over) (ap (blockThen g) (call-printed .same lines))
 
     less-work : (input : ℕ) → workLeft input (h .state) < workLeft input (g .state)
     less-work input =
-        let bits = l .taken .told .bits in
+        let bits = l .taken .report .bits in
         let low = call-printed .low in
         let rest = (lineBits + 1) * (input - g .state .next) in
         rw (made .ready .not-over)

@@ -12,15 +12,15 @@ use borrow.Author.Tests.{le-leb, leb-true, ne-eqb}
 use Rattle.bits.specs.Bits.{bitsOf}
 use Rattle.bits.proofs.Truth.{holds-true}
 use Rattle.decoder.specs.declared.Decoder.{Decoder}
-use Rattle.decoder.specs.Limits.{clockLimit, storeLength, trayLength}
+use Rattle.limits.specs.Limits.{clockLimit, storeLength, trayLength}
 use Rattle.decoder.specs.Sound.{soundOf}
 use Rattle.taking.specs.declared.Ending.the-variants.{ClockOver}
 use Rattle.taking.specs.Run.{Run, runOf, stateAfter}
-use Rattle.taking.specs.Turn.{World, turnOf}
-use Rattle.taking.specs.Take.{Call, Left, refused, clockFits, takenOf, takeOf}
-use Rattle.taking.specs.Calls.{worldLeft}
-use Rattle.taking.proofs.Runs.{run-faithful}
-use Rattle.taking.proofs.Loop.{length-bits}
+use Rattle.taking.specs.Turn.{System, turnOf}
+use Rattle.taking.specs.Take.{Call, CallResult, lent, refused, clockFits, takenOf, takeOf}
+use Rattle.taking.specs.Calls.{systemAfter}
+use Rattle.taking.proofs.RunFaithful.{run-faithful}
+use Rattle.taking.proofs.LoopInvariant.{length-bits}
 use Rattle.taking.proofs.Refusals.{buffers, range, taken, clock-over}
 use Rattle.hexlines.specs.Line.{lineBytes}
 use Rattle.listing.specs.Records.{recordsText}
@@ -49,27 +49,27 @@ pub record CallFits (d : Decoder) (c : Call) : Type 0 where
   pub some : 0 < c .count
 
 -- What the lines of its records are made from.
-abbrev pub wordsWritten : Left → List ℕ
-wordsWritten l = take (l .taken .told .records * 2) (l .list)
+abbrev pub wordsWritten : CallResult → List ℕ
+wordsWritten l = take (l .taken .report .records * 2) (l .list)
 
 -- What is still to come after it: only a refused call takes no bits.
-abbrev pub afterCall : Bool → Call → Left → (World → Outcome) → Outcome
+abbrev pub afterCall : Bool → Call → CallResult → (System → Outcome) → Outcome
 afterCall frames c l rest =
-    let bits = l .taken .told .bits in
-    cond (eqb bits 0) (outcome [] (worldLeft l)) (bitsThen frames (worldLeft l) (bitsOf (c .input) (c .first + bits) (c .count - bits)) rest)
+    let bits = l .taken .report .bits in
+    cond (eqb bits 0) (outcome [] (systemAfter l)) (bitsThen frames (systemAfter l) (bitsOf (c .input) (c .first + bits) (c .count - bits)) rest)
 
-pub record CallPrints (frames : Bool) (d : Decoder) (c : Call) (l : Left) : Type 0 where
-  pub low : l .taken .told .bits ≤ c .count
-  pub fits : l .taken .told .records * 2 ≤ listWords
+pub record CallPrints (frames : Bool) (d : Decoder) (c : Call) (l : CallResult) : Type 0 where
+  pub low : l .taken .report .bits ≤ c .count
+  pub fits : l .taken .report .records * 2 ≤ listWords
   pub short : length (recordsText frames (l .tray) (wordsWritten l)) ≤ 14 * listWords + (2 * length (l .tray) + 2)
-  pub same : (rest : World → Outcome) → printFirst (recordsText frames (l .tray) (wordsWritten l)) (afterCall frames c l rest)
-      ≡ bitsThen frames (record { decoder = d; store = c .store; tray = c .tray }) (bitsOf (c .input) (c .first) (c .count)) rest
+  pub same : (rest : System → Outcome) → printFirst (recordsText frames (l .tray) (wordsWritten l)) (afterCall frames c l rest)
+      ≡ bitsThen frames (lent d c) (bitsOf (c .input) (c .first) (c .count)) rest
 
 -- a part of some bits, and then the rest of them
-bits-joined : (frames : Bool) (w v : World) (bits left text : List ℕ)
-    → clockFits (w .decoder .next) (length bits) ≡ true → clockFits (v .decoder .next) (length left) ≡ true
+bits-joined : (frames : Bool) (w v : System) (bits left text : List ℕ)
+    → clockFits (w .machine .next) (length bits) ≡ true → clockFits (v .machine .next) (length left) ≡ true
     → bitsText frames w bits ≡ text ++ bitsText frames v left → stateAfter turnOf w bits ≡ stateAfter turnOf v left
-    → (rest : World → Outcome) → printFirst text (bitsThen frames v left rest) ≡ bitsThen frames w bits rest
+    → (rest : System → Outcome) → printFirst text (bitsThen frames v left rest) ≡ bitsThen frames w bits rest
 bits-joined frames w v bits left text k k′ e s rest = rw (k, k′, e, s, append-assoc)
 
 -- the words of a run stand at the start of the list
@@ -80,8 +80,8 @@ words-at-start words list free e allPrinted fits =
     rw (n, e, sets-eq words list 0 (omega arith)) (take-at words (drop (0 + length words) list) (length words) refl)
 
 module _ (frames : Bool) (d : Decoder) (c : Call) (f : CallFits d c) where
-  abbrev w : World
-  w = record { decoder = d; store = c .store; tray = c .tray }
+  abbrev w : System
+  w = lent d c
 
   abbrev offered : List ℕ
   offered = bitsOf (c .input) (c .first) (c .count)
@@ -96,7 +96,7 @@ module _ (frames : Bool) (d : Decoder) (c : Call) (f : CallFits d c) where
     same = λ rest. simp (length-bits (c .input) (c .first) (c .count), k);
   }
 
-  abbrev r : Run World
+  abbrev r : Run System
   r = runOf turnOf offered w (length (c .list) - c .free)
 
   words-of-run : wordsWritten (takenOf d c) ≡ r .words
@@ -124,8 +124,8 @@ module _ (frames : Bool) (d : Decoder) (c : Call) (f : CallFits d c) where
         short = rw words-of-run (omega (arith, p .short, f .list, f .free));
         same = λ rest.
             rw (z, words-of-run, ne-eqb (r .bits) 0 (λ e. omega arith), ← left)
-            (bits-joined frames w (r .state) offered (drop (r .bits) offered) (recordsText frames (r .state .tray) (r .words)) (rw long k)
-            (le-leb (r .state .decoder .next + length (drop (r .bits) offered)) clockLimit (rw (p .next, left, length-bits) (omega arith)))
+            (bits-joined frames w (r .state) offered (drop (r .bits) offered) (recordsText frames (r .state .machine .tray) (r .words)) (rw long k)
+            (le-leb (r .state .machine .next + length (drop (r .bits) offered)) clockLimit (rw (p .next, left, length-bits) (omega arith)))
             (p .text) (p .state) rest);
       }
 

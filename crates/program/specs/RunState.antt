@@ -8,10 +8,10 @@ use lib.Dec.{T, ltb, leb, eqb}
 use lib.ListN.{length, take, drop, replicate}
 use Rattle.bits.specs.Bits.{bitsOf}
 use Rattle.registers.specs.Plan.{defaultPlan}
-use Rattle.decoder.specs.Limits.{storeLength, trayLength}
+use Rattle.limits.specs.Limits.{storeLength, trayLength}
 use Rattle.decoder.specs.Opening.{openOf}
 use Rattle.decoder.specs.Sound.{soundOf}
-use Rattle.taking.specs.Turn.{World}
+use Rattle.taking.specs.Turn.{System, systemOf}
 use Rattle.output.specs.Block.{blockLength}
 use Rattle.hexlines.specs.Line.{LineMeaning, lineBytes}
 use Rattle.hexlines.specs.Lines.{emptyLine, meaningSoFar, meaningsFrom}
@@ -56,16 +56,16 @@ pub record Snapshot : Type 0 where
 abbrev pub snapshot : RunState → List ℕ → List ℕ → List ℕ → Snapshot
 snapshot s store tray out = record { state = s; store = store; tray = tray; out = out }
 
-abbrev pub machineOf : Snapshot → World
-machineOf g = record { decoder = g .state .decoder; store = g .store; tray = g .tray }
+abbrev pub systemAt : Snapshot → System
+systemAt g = systemOf (g .state .decoder) (g .store) (g .tray)
 
 -- All that is still to be printed, given the characters of the input that are not scanned yet: for the bits left of the last line, and for the lines of
 -- those characters.
 unfoldable pub stillToPrint : Bool → Snapshot → List ℕ → Outcome
 stillToPrint frames g characters =
     let s = g .state in
-    cond (s .over) (outcome [] (machineOf g))
-    (bitsThen frames (machineOf g) (bitsOf (s .bytes) (s .first) (s .count)) (λ w. listingOf frames w (s .lines) (meaningsFrom (s .line) characters)))
+    cond (s .over) (outcome [] (systemAt g))
+    (bitsThen frames (systemAt g) (bitsOf (s .bytes) (s .first) (s .count)) (λ w. listingOf frames w (s .lines) (meaningsFrom (s .line) characters)))
 
 -- What stands in the block of output, and then a rest of the listing.
 abbrev pub blockThen : Snapshot → Outcome → Outcome
@@ -77,7 +77,7 @@ allPrinted frames g characters = blockThen g (stillToPrint frames g characters)
 
 -- The same with no bits left of the last line, given what the lines to come mean.
 abbrev pub linesPrinted : Bool → Snapshot → List LineMeaning → Outcome
-linesPrinted frames g meanings = blockThen g (listingOf frames (machineOf g) (g .state .lines) meanings)
+linesPrinted frames g meanings = blockThen g (listingOf frames (systemAt g) (g .state .lines) meanings)
 
 -- What a run under way has: no taking call is refused but at the clock's end.
 pub record WellFormed (g : Snapshot) : Type 0 where

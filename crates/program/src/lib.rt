@@ -76,7 +76,7 @@ impl RunState {
         let bytes = self.bytes;
         let mut list = [0u64; LIST_WORDS];
         let taken = taking::take(d, &bytes, self.first, self.count, store, tray, &mut list, 0);
-        let report = taken.told;
+        let report = taken.report;
         let n = report.records * 2;
         let decoder = taken.decoder;
         let mut next = self;

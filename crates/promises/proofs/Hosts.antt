@@ -11,13 +11,13 @@ use Rattle.registers.specs.Plan.{planFits}
 use Rattle.decoder.specs.declared.Decoder.{Decoder}
 use Rattle.decoder.specs.Sound.{soundOf}
 use Rattle.taking.specs.declared.Ending.{Ending}
-use Rattle.taking.specs.Take.{Call, Left, refused, takeOf, endingNumber}
+use Rattle.taking.specs.Take.{Call, CallResult, refused, takeOf, endingNumber}
 use Rattle.taking.proofs.Refusals.{unsound}
 use Rattle.image.specs.Image.{imageLength, imageOf, stateOf, Widths}
-use Rattle.image.proofs.Images.{image-fits, read-back}
-use Rattle.image.proofs.Forms.{formed, formed-fits}
-use Rattle.kernelstill.specs.Open.{emptyPlan, openLeftOf}
-use Rattle.kernelstill.specs.Take.{TakeLeft, resultLength, refusedCall, answered, soundImage, takeLeftOf}
+use Rattle.image.proofs.RoundTrip.{image-fits, read-back}
+use Rattle.image.proofs.WellFormed.{formed, formed-fits}
+use Rattle.kernelstill.specs.Open.{emptyPlan, openResultOf}
+use Rattle.kernelstill.specs.Take.{TakeResult, resultLength, refusedCall, answered, soundImage, takeResultOf}
 use Rattle.promises.specs.Hosts.{RoundTrip, SameOpening, Unchanged, HostPromise}
 use Rattle.promises.proofs.Refusals.{first-demand}
 
@@ -26,8 +26,8 @@ round-trip d w = record { fits = image-fits d w; back = read-back d w }
 
 module _ (d : Decoder) (w : Widths d) (result : List ℕ) (long : length result ≡ resultLength) (c : Call) where
   -- by the state's soundness: an unsound one is turned away on both sides
-  same-by : (b : Bool) → soundOf d ≡ b → takeLeftOf (imageOf d) result c ≡ answered (imageOf d) result (takeOf d c)
-  unfolding takeLeftOf
+  same-by : (b : Bool) → soundOf d ≡ b → takeResultOf (imageOf d) result c ≡ answered (imageOf d) result (takeOf d c)
+  unfolding takeResultOf
   same-by true s = rw (image-fits d w, read-back d w, s, eq-eqb (length result) resultLength long)
   same-by false s = rw (image-fits d w, read-back d w, s) (sym (ap (answered (imageOf d) result) (unsound d c s)))
 
@@ -37,28 +37,28 @@ module _ (image result : List ℕ) (c : Call) where
       → answered image result (refused d c ending) ≡ refusedCall (endingNumber ending) image result c
   turned d ending some = simp (ne-eqb (endingNumber ending) 0 some)
 
-  abbrev Kept : TakeLeft → Type 0
-  Kept left = (left .number ≡ 0 → ⊥) → left ≡ refusedCall (left .number) image result c
+  abbrev Kept : TakeResult → Type 0
+  Kept after = (after .number ≡ 0 → ⊥) → after ≡ refusedCall (after .number) image result c
 
   handed-kept : (d : Decoder) → Kept (answered image result (takeOf d c))
   handed-kept d some =
       let takes = first-demand .takes d c in
       let away = takes .away (ne-eqb _ 0 (λ z. some (takes .number ∙ z))) in
-      subst (λ (l : Left). Kept (answered image result l)) (sym (away .1)) (turned d (away .0)) some
+      subst (λ (l : CallResult). Kept (answered image result l)) (sym (away .1)) (turned d (away .0)) some
 
-  whole : soundImage image ≡ true → eqb (length result) resultLength ≡ true → takeLeftOf image result c ≡ answered image result (takeOf (stateOf image) c)
-  unfolding takeLeftOf
+  whole : soundImage image ≡ true → eqb (length result) resultLength ≡ true → takeResultOf image result c ≡ answered image result (takeOf (stateOf image) c)
+  unfolding takeResultOf
   whole e f = rw (e, f)
 
   unchanged-by : (s t : Bool) → soundImage image ≡ s → eqb (length result) resultLength ≡ t → Unchanged image result c
-  unfolding takeLeftOf
+  unfolding takeResultOf
   unchanged-by false t e f = λ some. rw e
   unchanged-by true false e f = λ some. rw (e, f)
   unchanged-by true true e f = subst Kept (sym (whole e f)) (handed-kept (stateOf image))
 
 module _ (mask csr feen cnt cycle : ℕ) (image : List ℕ) (long : length image ≡ imageLength) where
   same-opening : SameOpening mask csr feen cnt cycle image
-  unfolding openLeftOf
+  unfolding openResultOf
   same-opening =
       let e = eq-eqb (length image) imageLength long in
       record { number = rw e; written = rw e }

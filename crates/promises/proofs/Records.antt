@@ -6,27 +6,27 @@ use native.Mathlib.Omega.{arith}
 use lib.ListN.{length}
 use Rattle.decoder.specs.declared.Decoder.{Decoder}
 use Rattle.taking.specs.Run.{Run, runOf, stateAfter, wordsAfter}
-use Rattle.taking.specs.Turn.{World, turnOf}
-use Rattle.taking.specs.Take.{Call, offered, worldOf, takenOf}
-use Rattle.taking.proofs.Runs.{run-faithful}
-use Rattle.taking.proofs.Ends.{run-ended}
-use Rattle.taking.proofs.Calls.{call-kept, carried-words, carried-world}
-use Rattle.taking.proofs.Loop.{length-bits}
-use Rattle.taking.proofs.Stays.{start-sound, take-sound}
+use Rattle.taking.specs.Turn.{System, turnOf}
+use Rattle.taking.specs.Take.{Call, offered, lent, takenOf}
+use Rattle.taking.proofs.RunFaithful.{run-faithful}
+use Rattle.taking.proofs.RunEndings.{run-ended}
+use Rattle.taking.proofs.CallLists.{call-kept, carried-words, carried-system}
+use Rattle.taking.proofs.LoopInvariant.{length-bits}
+use Rattle.taking.proofs.SoundnessKept.{start-sound, take-sound}
 use Rattle.promises.specs.Records.{Exact, Ends, Cuts, SecondDemand}
 
 exact : (d : Decoder) (c : Call) → Exact d c
-exact d c = let k = call-kept d c in record { state = k .world; words = k .words }
+exact d c = let k = call-kept d c in record { state = k .system; words = k .words }
 
 module _ (d : Decoder) (c : Call) where
-  run : Run World
-  run = runOf turnOf (offered c) (worldOf d c) (length (c .list) - c .free)
+  run : Run System
+  run = runOf turnOf (offered c) (lent d c) (length (c .list) - c .free)
 
   ends : Ends d c
   unfolding takenOf run
   ends =
-      let e = run-ended turnOf (offered c) (worldOf d c) (length (c .list) - c .free) in
-      let f = run-faithful turnOf (offered c) (worldOf d c) (length (c .list) - c .free) in
+      let e = run-ended turnOf (offered c) (lent d c) (length (c .list) - c .free) in
+      let f = run-faithful turnOf (offered c) (lent d c) (length (c .list) - c .free) in
       let n : length (offered c) ≡ c .count = length-bits (c .input) (c .first) (c .count) in
       let z : 0 + run .bits ≡ run .bits = omega arith in
       record {
@@ -37,10 +37,10 @@ module _ (d : Decoder) (c : Call) where
             record { before = g .before; head = g .head; value = g .value; parts = rw z (sym (f .words) ∙ g .parts); frame = g .frame };
       }
 
-cuts : (w : World) → Cuts w
-cuts w ps qs e = (
-  carried-words w ps ∙ ap (wordsAfter turnOf w) e ∙ sym (carried-words w qs),
-  carried-world w ps ∙ ap (stateAfter turnOf w) e ∙ sym (carried-world w qs),
+cuts : (s : System) → Cuts s
+cuts s ps qs e = (
+  carried-words s ps ∙ ap (wordsAfter turnOf s) e ∙ sym (carried-words s qs),
+  carried-system s ps ∙ ap (stateAfter turnOf s) e ∙ sym (carried-system s qs),
 )
 
 pub second-demand : SecondDemand

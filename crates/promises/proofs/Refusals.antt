@@ -2,11 +2,12 @@
 -- Assumes nothing.
 use mathlib.Core.Path.{_≡_, _∙_, refl, sym, ap}
 use mathlib.Core.Bool.{Bool, true, false, cond, not, _&&_, _||_}
-use Prim.Native.Nat.{ℕ, _+_, _*_, _-_, _^_}
+use Prim.Native.Nat.{ℕ, _+_, _*_, _-_}
 use native.Mathlib.Omega.{arith}
 use lib.Dec.{leb, ltb, eqb}
 use lib.ListN.{length}
 use borrow.Author.Tests.{le-leb, lt-leb, ltb-true, ltb-false}
+use Rattle.limits.specs.Limits.{clockLimit, storeLength, trayLength, inputLimit}
 use Rattle.registers.specs.declared.Plan.{Plan}
 use Rattle.registers.specs.Plan.{existsAt, planFits}
 use Rattle.decoder.specs.declared.Decoder.{Decoder}
@@ -15,8 +16,8 @@ use Rattle.decoder.specs.Sound.{soundOf}
 use Rattle.taking.specs.declared.Ending.{Ending}
 use Rattle.taking.specs.declared.Ending.the-variants.{Unsound, WrongBuffers, WrongRange, ClockOver}
 use Rattle.taking.specs.Turn.{turnOf}
-use Rattle.taking.specs.Take.{Call, Left, offered, worldOf, refused, clockFits, takenOf, takeOf, endingNumber}
-use Rattle.taking.proofs.Ends.{run-ended}
+use Rattle.taking.specs.Take.{Call, CallResult, offered, lent, refused, clockFits, takenOf, takeOf, endingNumber}
+use Rattle.taking.proofs.RunEndings.{run-ended}
 use Rattle.taking.proofs.Refusals.{buffers, range, unsound, wrong-buffers, wrong-range, clock-over, taken}
 use Rattle.promises.specs.Refusals.{firstOf, threeInMask, threeDiffer, takingRows, Opens, Takes, FirstDemand}
 
@@ -46,14 +47,14 @@ unfolding planFits
 plan-row plan =
     plan-by (existsAt plan (plan .csr)) (existsAt plan (plan .feen)) (existsAt plan (plan .cnt)) (eqb (plan .csr) (plan .feen)) (eqb (plan .csr) (plan .cnt)) (eqb (plan .feen) (plan .cnt))
 
-opens-by : (plan : Plan) (cycle : ℕ) (p q : Bool) → planFits plan ≡ p → (threeInMask plan && threeDiffer plan) ≡ p → leb (2 ^ 48) cycle ≡ q → Opens plan cycle
+opens-by : (plan : Plan) (cycle : ℕ) (p q : Bool) → planFits plan ≡ p → (threeInMask plan && threeDiffer plan) ≡ p → leb clockLimit cycle ≡ q → Opens plan cycle
 unfolding openOf
 opens-by plan cycle false q e f g = record { number = rw (e, f); state = rw (e, f) }
 opens-by plan cycle true true e f g = record { number = rw (e, f, g); state = rw (e, f, g) }
 opens-by plan cycle true false e f g = record { number = rw (e, f, g); state = rw (e, f, g) }
 
 opens : (plan : Plan) (cycle : ℕ) → Opens plan cycle
-opens plan cycle = opens-by plan cycle (planFits plan) (leb (2 ^ 48) cycle) refl (sym (plan-row plan)) refl
+opens plan cycle = opens-by plan cycle (planFits plan) (leb clockLimit cycle) refl (sym (plan-row plan)) refl
 
 -- The taking call's rows, by the four tests.
 abbrev firstBy : Bool → Bool → Bool → Bool → ℕ
@@ -63,30 +64,30 @@ module _ (d : Decoder) (c : Call) where
   abbrev clock : Bool
   clock = clockFits (d .next) (c .count)
 
-  buffers-row : not (buffers c) ≡ (not (eqb (length (c .store)) 2048) || (not (eqb (length (c .tray)) 8192) || ltb (length (c .list)) (c .free)))
+  buffers-row : not (buffers c) ≡ (not (eqb (length (c .store)) storeLength) || (not (eqb (length (c .tray)) trayLength) || ltb (length (c .list)) (c .free)))
   buffers-row =
-      not-and (eqb (length (c .store)) 2048) _
-      ∙ ap (λ t. not (eqb (length (c .store)) 2048) || t)
-      (not-and (eqb (length (c .tray)) 8192) _ ∙ ap (λ t. not (eqb (length (c .tray)) 8192) || t) (not-leb (c .free) (length (c .list))))
+      not-and (eqb (length (c .store)) storeLength) _
+      ∙ ap (λ t. not (eqb (length (c .store)) storeLength) || t)
+      (not-and (eqb (length (c .tray)) trayLength) _ ∙ ap (λ t. not (eqb (length (c .tray)) trayLength) || t) (not-leb (c .free) (length (c .list))))
 
-  range-row : not (range c) ≡ (ltb 65536 (length (c .input)) || ltb (8 * length (c .input)) (c .first + c .count))
+  range-row : not (range c) ≡ (ltb inputLimit (length (c .input)) || ltb (8 * length (c .input)) (c .first + c .count))
   range-row =
-      not-and (leb (length (c .input)) 65536) _
-      ∙ ap (λ t. t || not (leb (c .first + c .count) (8 * length (c .input)))) (not-leb (length (c .input)) 65536)
-      ∙ ap (λ t. ltb 65536 (length (c .input)) || t) (not-leb (c .first + c .count) (8 * length (c .input)))
+      not-and (leb (length (c .input)) inputLimit) _
+      ∙ ap (λ t. t || not (leb (c .first + c .count) (8 * length (c .input)))) (not-leb (length (c .input)) inputLimit)
+      ∙ ap (λ t. ltb inputLimit (length (c .input)) || t) (not-leb (c .first + c .count) (8 * length (c .input)))
 
   rows : firstBy (soundOf d) (buffers c) (range c) clock ≡ firstOf (takingRows d c)
-  rows = λ i. cond (not (soundOf d)) 3 (cond (buffers-row i) 4 (cond (range-row i) 5 (cond (not-leb (d .next + c .count) (2 ^ 48) i) 6 0)))
+  rows = λ i. cond (not (soundOf d)) 3 (cond (buffers-row i) 4 (cond (range-row i) 5 (cond (not-leb (d .next + c .count) clockLimit i) 6 0)))
 
   record Says (n : ℕ) : Type 0 where
-    number : endingNumber (takeOf d c .taken .told .ending) ≡ n
+    number : endingNumber (takeOf d c .taken .report .ending) ≡ n
     away : eqb n 0 ≡ false → (ending : Ending) × (takeOf d c ≡ refused d c ending)
     through : n ≡ 0 → takeOf d c ≡ takenOf d c
 
   -- a refusal
   turned : (e : Ending) → eqb (endingNumber e) 0 ≡ false → takeOf d c ≡ refused d c e → Says (endingNumber e)
   turned e h t = record {
-    number = ap (λ (l : Left). endingNumber (l .taken .told .ending)) t;
+    number = ap (λ (l : CallResult). endingNumber (l .taken .report .ending)) t;
     away = λ _. (e, t);
     through = λ z. let f : true ≡ false = sym (ap (λ n. eqb n 0) z) ∙ h in absurd (true-false f);
   }
@@ -101,8 +102,8 @@ module _ (d : Decoder) (c : Call) where
   says true true false k es eb er ek = turned WrongRange refl (wrong-range d c es eb er)
   says true true true false es eb er ek = turned ClockOver refl (clock-over d c es eb er ek)
   says true true true true es eb er ek = record {
-    number = ap (λ (l : Left). endingNumber (l .taken .told .ending)) (taken d c es eb er ek)
-        ∙ run-ended turnOf (offered c) (worldOf d c) (length (c .list) - c .free) .fits;
+    number = ap (λ (l : CallResult). endingNumber (l .taken .report .ending)) (taken d c es eb er ek)
+        ∙ run-ended turnOf (offered c) (lent d c) (length (c .list) - c .free) .fits;
     away = λ h. let z : _≡_ {A = ℕ} 0 1 = cc in absurd (omega arith);
     through = λ _. taken d c es eb er ek;
   }
@@ -117,4 +118,8 @@ module _ (d : Decoder) (c : Call) where
       }
 
 pub first-demand : FirstDemand
-first-demand = record { opens = opens; takes = takes }
+first-demand = record {
+  limits = record { clock = refl; store = refl; tray = refl; input = refl; unit = refl };
+  opens = opens;
+  takes = takes;
+}

@@ -9,12 +9,12 @@ use lib.ListN.{length}
 use Rattle.recogniser.specs.declared.Phase.the-variants.{Hunt}
 use Rattle.decoder.specs.declared.Decoder.{Decoder}
 use Rattle.decoder.specs.Sound.{soundOf}
-use Rattle.taking.specs.Entries.{entryWords}
+use Rattle.controller.specs.Records.{recordWords}
 use Rattle.taking.specs.Take.{Call}
 use Rattle.taking.specs.Calls.{allBits, allWords}
-use Rattle.damage.specs.Streams.{Item, streamBits, timed, inverted}
-use Rattle.damage.specs.Records.{countersOf, sendsOf, cleanEntries, damagedEntries}
-use Rattle.damage.specs.Alike.{Replaced}
+use Rattle.damage.specs.CleanStreams.{Item, streamBits, timed, inverted}
+use Rattle.damage.specs.Records.{countersOf, sends, cleanRecords, damagedRecords}
+use Rattle.damage.specs.Comparison.{Replaced}
 
 -- Any sound state in RunMode, hunting, window 00000; a clean stream; a bit of it; and two lists of calls, any cuts, any buffers, refused calls
 -- included, of which one has taken the stream and the other the same bits with that one inverted.
@@ -29,12 +29,12 @@ pub record Runs (d : Decoder) (clean damaged : List Call) (items : List Item) (t
   pub took-damaged : allBits d damaged ≡ inverted k (streamBits items trailing)
 
 -- The clean run has written the paper's record for each command and no other. The damaged run has written exactly these but for the affected one, which
--- is exactly the damage table's (`damagedEntries`); in the paper's words (`Replaced`), the trigger numbers differ at most after the affected command up to
+-- is exactly the damage table's (`damagedRecords`); in the paper's words (`Replaced`), the trigger numbers differ at most after the affected command up to
 -- the first ECR after it, the bunch numbers up to the first BCR, and nowhere if no command is affected.
 pub record Wrote (d : Decoder) (clean damaged : List Call) (items : List Item) (k : ℕ) : Type 0 where
-  pub clean-words : allWords d clean ≡ entryWords (cleanEntries (sendsOf d) (countersOf d) (d .next) items)
-  pub damaged-words : allWords d damaged ≡ entryWords (damagedEntries (sendsOf d) (countersOf d) (d .next) items k)
-  pub replaced : Replaced (sendsOf d) (countersOf d) (d .next) items k (damagedEntries (sendsOf d) (countersOf d) (d .next) items k)
+  pub clean-words : allWords d clean ≡ recordWords (cleanRecords (sends d) (countersOf d) (d .next) items)
+  pub damaged-words : allWords d damaged ≡ recordWords (damagedRecords (sends d) (countersOf d) (d .next) items k)
+  pub replaced : Replaced (sends d) (countersOf d) (d .next) items k (damagedRecords (sends d) (countersOf d) (d .next) items k)
 
 abbrev pub ThirdDemand : Type 0
 ThirdDemand =

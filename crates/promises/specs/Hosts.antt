@@ -10,8 +10,8 @@ use Rattle.decoder.specs.declared.Decoder.{Decoder}
 use Rattle.decoder.specs.Opening.{openOf, openingNumber}
 use Rattle.taking.specs.Take.{Call, takeOf}
 use Rattle.image.specs.Image.{imageLength, imageOf, stateOf, imageFits, Widths, Formed}
-use Rattle.kernelstill.specs.Open.{emptyPlan, planOf, openLeftOf}
-use Rattle.kernelstill.specs.Take.{resultLength, refusedCall, answered, takeLeftOf}
+use Rattle.kernelstill.specs.Open.{emptyPlan, planOf, openResultOf}
+use Rattle.kernelstill.specs.Take.{resultLength, refusedCall, answered, takeResultOf}
 
 -- The image of a state is well-formed, and read back it is that state.
 pub record RoundTrip (d : Decoder) : Type 0 where
@@ -21,19 +21,19 @@ pub record RoundTrip (d : Decoder) : Type 0 where
 -- An opening writes the image of what the opening of its plan gives, refused or not, and answers its number. The empty plan, to which numbers too wide
 -- for a plan come, does not open.
 pub record SameOpening (mask csr feen cnt cycle : ℕ) (image : List ℕ) : Type 0 where
-  pub number : openLeftOf mask csr feen cnt cycle image .number ≡ openingNumber (openOf (planOf mask csr feen cnt) cycle .opening)
-  pub written : openLeftOf mask csr feen cnt cycle image .image ≡ imageOf (openOf (planOf mask csr feen cnt) cycle .decoder)
+  pub number : openResultOf mask csr feen cnt cycle image .number ≡ openingNumber (openOf (planOf mask csr feen cnt) cycle .opening)
+  pub written : openResultOf mask csr feen cnt cycle image .image ≡ imageOf (openOf (planOf mask csr feen cnt) cycle .decoder)
 
 -- A call on the image of a state, whatever the state and the call, answers what the call on that state leaves.
 abbrev pub SameCall : Decoder → Type 0
 SameCall d =
-    (result : List ℕ) → length result ≡ resultLength → (c : Call) → takeLeftOf (imageOf d) result c ≡ answered (imageOf d) result (takeOf d c)
+    (result : List ℕ) → length result ≡ resultLength → (c : Call) → takeResultOf (imageOf d) result c ≡ answered (imageOf d) result (takeOf d c)
 
 -- A call that answers a number but 0 leaves image, result, store, tray and list as they were, whatever words the image has.
 abbrev pub Unchanged : List ℕ → List ℕ → Call → Type 0
 Unchanged image result c =
-    let left = takeLeftOf image result c in
-    (left .number ≡ 0 → ⊥) → left ≡ refusedCall (left .number) image result c
+    let after = takeResultOf image result c in
+    (after .number ≡ 0 → ⊥) → after ≡ refusedCall (after .number) image result c
 
 -- What is well-formed by the round trip is well-formed by widths, and the other way round.
 pub record ByWidths (image : List ℕ) : Type 0 where

@@ -11,19 +11,19 @@ use lib.ListN.{length, take}
 use Rattle.registers.specs.declared.Plan.{Plan}
 use Rattle.controller.specs.Records.{isFrameHead}
 use Rattle.decoder.specs.declared.Decoder.{Decoder}
-use Rattle.decoder.specs.Limits.{listUnit}
+use Rattle.limits.specs.Limits.{listUnit}
 use Rattle.decoder.specs.Opening.{openOf}
 use Rattle.decoder.specs.Sound.{soundOf}
 use Rattle.taking.specs.declared.Ending.the-variants.{Done, Frame, ListFull}
 use Rattle.taking.specs.Run.{stateAfter, wordsAfter}
-use Rattle.taking.specs.Turn.{World, turnOf}
-use Rattle.taking.specs.Take.{Call, offered, worldOf, takenOf, takeOf}
-use Rattle.taking.specs.Calls.{bitsTaken, wordsStanding, worldLeft, Request, carriedBits, carriedWords, carriedWorld}
+use Rattle.taking.specs.Turn.{System, turnOf}
+use Rattle.taking.specs.Take.{Call, offered, lent, takenOf, takeOf}
+use Rattle.taking.specs.Calls.{bitsTaken, wordsStanding, systemAfter, Part, carriedBits, carriedWords, carriedSystem}
 
 -- A call, refused or not, leaves and writes what the bits that it took say, cycle by cycle: none missing and none added.
 pub record Exact (d : Decoder) (c : Call) : Type 0 where
-  pub state : worldLeft (takeOf d c) ≡ stateAfter turnOf (worldOf d c) (bitsTaken d c)
-  pub words : wordsStanding d c ≡ wordsAfter turnOf (worldOf d c) (bitsTaken d c)
+  pub state : systemAfter (takeOf d c) ≡ stateAfter turnOf (lent d c) (bitsTaken d c)
+  pub words : wordsStanding d c ≡ wordsAfter turnOf (lent d c) (bitsTaken d c)
 
 -- The last record of some words is a frame's.
 pub record LastIsFrame (words : List ℕ) : Type 0 where
@@ -36,22 +36,22 @@ pub record LastIsFrame (words : List ℕ) : Type 0 where
 -- Each ending of a call that is not refused has its condition: "'done' .. with every bit of its count taken", 'list full' "when bits remain and fewer than
 -- two words are free", 'frame' "after a record of kind 24, 25 or 26".
 pub record Ends (d : Decoder) (c : Call) : Type 0 where
-  pub done : takenOf d c .taken .told .ending ≡ Done → takenOf d c .taken .told .bits ≡ c .count
-  pub full : takenOf d c .taken .told .ending ≡ ListFull
-      → (takenOf d c .taken .told .bits < c .count) × (length (c .list) - c .free - listUnit * takenOf d c .taken .told .records < listUnit)
-  pub frame : takenOf d c .taken .told .ending ≡ Frame → LastIsFrame (wordsAfter turnOf (worldOf d c) (take (takenOf d c .taken .told .bits) (offered c)))
+  pub done : takenOf d c .taken .report .ending ≡ Done → takenOf d c .taken .report .bits ≡ c .count
+  pub full : takenOf d c .taken .report .ending ≡ ListFull
+      → (takenOf d c .taken .report .bits < c .count) × (length (c .list) - c .free - listUnit * takenOf d c .taken .report .records < listUnit)
+  pub frame : takenOf d c .taken .report .ending ≡ Frame → LastIsFrame (wordsAfter turnOf (lent d c) (take (takenOf d c .taken .report .bits) (offered c)))
 
 -- Two lists of calls from one state, store and tray carried over, refused calls among them: where the bits taken join to the same stream, so do the
 -- records, and the state, store and tray at the end are the same.
-abbrev pub Cuts : World → Type 0
-Cuts w =
-    (ps qs : List Request) → carriedBits w ps ≡ carriedBits w qs
-    → (carriedWords w ps ≡ carriedWords w qs) × (carriedWorld w ps ≡ carriedWorld w qs)
+abbrev pub Cuts : System → Type 0
+Cuts s =
+    (ps qs : List Part) → carriedBits s ps ≡ carriedBits s qs
+    → (carriedWords s ps ≡ carriedWords s qs) × (carriedSystem s ps ≡ carriedSystem s qs)
 
 pub record SecondDemand : Type 0 where
   pub exact : (d : Decoder) (c : Call) → Exact d c
   pub ends : (d : Decoder) (c : Call) → Ends d c
-  pub cuts : (w : World) → Cuts w
+  pub cuts : (s : System) → Cuts s
   -- Opening gives a sound state, and a sound state stays sound.
   pub opens-sound : (plan : Plan) (cycle : ℕ) → T (soundOf (openOf plan cycle .decoder))
   pub stays-sound : (d : Decoder) (c : Call) → T (soundOf d) → T (soundOf (takeOf d c .taken .decoder))

@@ -6,6 +6,7 @@ use mathlib.Core.List.{List, [], _∷_}
 use Prim.Native.Nat.{ℕ, _+_, _*_, _^_}
 use lib.Dec.{leb, ltb, eqb}
 use lib.ListN.{length}
+use Rattle.limits.specs.Limits.{clockLimit, storeLength, trayLength, inputLimit, listUnit}
 use Rattle.registers.specs.declared.Plan.{Plan}
 use Rattle.registers.specs.Plan.{existsAt, defaultPlan}
 use Rattle.decoder.specs.declared.Decoder.{Decoder}
@@ -27,6 +28,14 @@ abbrev pub firstOf : List Row → ℕ
 firstOf [] = 0
 firstOf (r ∷ rs) = cond (r .applies) (r .number) (firstOf rs)
 
+-- The limits that the rows name, in numbers.
+pub record Limits : Type 0 where
+  pub clock : clockLimit ≡ 2 ^ 48
+  pub store : storeLength ≡ 2048
+  pub tray : trayLength ≡ 8192
+  pub input : inputLimit ≡ 65536
+  pub unit : listUnit ≡ 2
+
 -- The rows checked at an opening.
 abbrev pub threeInMask : Plan → Bool
 threeInMask plan =
@@ -39,16 +48,16 @@ threeDiffer plan =
 abbrev pub openingRows : Plan → ℕ → List Row
 openingRows plan cycle =
     row 1 (not (threeInMask plan && threeDiffer plan))
-    ∷ row 2 (leb (2 ^ 48) cycle)
+    ∷ row 2 (leb clockLimit cycle)
     ∷ []
 
 -- The rows checked at a taking call.
 abbrev pub takingRows : Decoder → Call → List Row
 takingRows d c =
     row 3 (not (soundOf d))
-    ∷ row 4 (not (eqb (length (c .store)) 2048) || (not (eqb (length (c .tray)) 8192) || ltb (length (c .list)) (c .free)))
-    ∷ row 5 (ltb 65536 (length (c .input)) || ltb (8 * length (c .input)) (c .first + c .count))
-    ∷ row 6 (ltb (2 ^ 48) (d .next + c .count))
+    ∷ row 4 (not (eqb (length (c .store)) storeLength) || (not (eqb (length (c .tray)) trayLength) || ltb (length (c .list)) (c .free)))
+    ∷ row 5 (ltb inputLimit (length (c .input)) || ltb (8 * length (c .input)) (c .first + c .count))
+    ∷ row 6 (ltb clockLimit (d .next + c .count))
     ∷ []
 
 -- An opening answers the number of the first row that applies, "the default start state at cycle 0" at a refusal, else the start state asked for.
@@ -59,10 +68,11 @@ pub record Opens (plan : Plan) (cycle : ℕ) : Type 0 where
 -- A taking call answers the number of the first row that applies. "A refused taking gives 0 bits, 0 records and the state and buffers it came with";
 -- any other runs to its end, as `takenOf` says.
 pub record Takes (d : Decoder) (c : Call) : Type 0 where
-  pub number : endingNumber (takeOf d c .taken .told .ending) ≡ firstOf (takingRows d c)
+  pub number : endingNumber (takeOf d c .taken .report .ending) ≡ firstOf (takingRows d c)
   pub away : eqb (firstOf (takingRows d c)) 0 ≡ false → (ending : Ending) × (takeOf d c ≡ refused d c ending)
   pub through : firstOf (takingRows d c) ≡ 0 → takeOf d c ≡ takenOf d c
 
 pub record FirstDemand : Type 0 where
+  pub limits : Limits
   pub opens : (plan : Plan) (cycle : ℕ) → Opens plan cycle
   pub takes : (d : Decoder) (c : Call) → Takes d c

@@ -4,11 +4,12 @@ use mathlib.Core.Bool.{Bool, false, cond, _&&_, _||_}
 use Prim.Native.Nat.{ℕ, _+_, _*_, _/_, _%_, _^_}
 use lib.Dec.{ltb, leb, eqb}
 use Rattle.recogniser.specs.declared.Phase.the-variants.{Field4, Field5}
-use Rattle.recogniser.specs.declared.Event.{Event}
-use Rattle.recogniser.specs.declared.Event.the-variants.{Nothing, Slow, BadSlow, FrameEnd}
+use Rattle.recogniser.specs.declared.Request.{Request}
+use Rattle.recogniser.specs.declared.Request.the-variants.{Nothing, Slow}
+use Rattle.recogniser.specs.declared.SlowRequest.the-variants.{Command, Bad, Frame}
 use Rattle.recogniser.specs.declared.Recogniser.{Recogniser}
-use Rattle.recogniser.specs.declared.Heard.{Heard}
-use Rattle.recogniser.specs.Parts.{shifted, startOf, idle, heard, gatheredOf}
+use Rattle.recogniser.specs.declared.Transition.{Transition}
+use Rattle.recogniser.specs.Parts.{shifted, startOf, idle, moveTo, gatheredOf}
 
 -- The values of Field 3 that name a command: 0 to 6 and 8 to 10. "Other values of Field 3 are a bad Slow."
 abbrev pub isSlow : ℕ → Bool
@@ -44,34 +45,34 @@ abbrev pub keptOf : ℕ → ℕ → ℕ → ℕ
 keptOf command held bit = cond (eqb command 1 || eqb command 3) 0 (shifted 32 held bit)
 
 -- The end of a Slow command that carries no frame, or of a bad Slow.
-abbrev pub slowOf : ℕ → ℕ → ℕ → Event
-slowOf command address value = cond (isSlow command) (Slow command address value) (BadSlow command)
+abbrev pub slowRequestOf : ℕ → ℕ → ℕ → Request
+slowRequestOf command address value = cond (isSlow command) (Slow (Command command address value)) (Slow (Bad command))
 
-abbrev pub field3Of : Recogniser → ℕ → Heard
+abbrev pub field3Of : Recogniser → ℕ → Transition
 field3Of r bit =
     let command = shifted 4 (r .shift) bit in
     cond (ltb (r .count) 3) (gatheredOf r command)
-    (heard (startOf Field4 0 command 0) Nothing)
+    (moveTo (startOf Field4 0 command 0) Nothing)
 
 -- "A Field 5 of length 0 ends with Field 4." A bad Slow is "recorded after Field 4".
-abbrev pub field4Of : Recogniser → ℕ → ℕ → Heard
+abbrev pub field4Of : Recogniser → ℕ → ℕ → Transition
 field4Of r bit cnt =
     let address = shifted 4 (r .shift) bit in
     cond (ltb (r .count) 3) (gatheredOf r address)
-    (cond (ltb 0 (lengthOf (r .command) cnt)) (heard (startOf Field5 0 (r .command) address) Nothing)
-    (cond (isFrame (r .command)) (heard idle (FrameEnd (r .command) false))
-    (heard idle (slowOf (r .command) address 0))))
+    (cond (ltb 0 (lengthOf (r .command) cnt)) (moveTo (startOf Field5 0 (r .command) address) Nothing)
+    (cond (isFrame (r .command)) (moveTo idle (Slow (Frame (r .command) false)))
+    (moveTo idle (slowRequestOf (r .command) address 0))))
 
 -- Whether the present bit is the last of Field 5, by the present CNT.
 abbrev pub endsOf : Recogniser → ℕ → Bool
 endsOf r cnt = leb (lengthOf (r .command) cnt) (r .count + 1)
 
 -- Field 5 of a command that carries no frame.
-abbrev pub keptFieldOf : Recogniser → ℕ → ℕ → Heard
+abbrev pub keptFieldOf : Recogniser → ℕ → ℕ → Transition
 keptFieldOf r bit cnt =
     let value = keptOf (r .command) (r .held) bit in
-    cond (endsOf r cnt) (heard idle (slowOf (r .command) (r .address) value))
-    (heard (record {
+    cond (endsOf r cnt) (moveTo idle (slowRequestOf (r .command) (r .address) value))
+    (moveTo (record {
       phase = r .phase;
       shift = r .shift;
       count = r .count + 1;

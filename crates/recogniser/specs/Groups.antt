@@ -3,12 +3,14 @@
 use mathlib.Core.Bool.{Bool, true, false, cond, not}
 use Prim.Native.Nat.{ℕ, _+_, _/_, _%_}
 use lib.Dec.{eqb}
-use Rattle.recogniser.specs.declared.Event.{Event}
-use Rattle.recogniser.specs.declared.Event.the-variants.{Nothing, FrameBit, FrameEnd, FrameEndBit}
+use Rattle.recogniser.specs.declared.FrameBit.{FrameBit}
+use Rattle.recogniser.specs.declared.FrameBit.the-variants.{None, At}
+use Rattle.recogniser.specs.declared.Request.the-variants.{Nothing, Slow}
+use Rattle.recogniser.specs.declared.SlowRequest.the-variants.{Frame}
 use Rattle.recogniser.specs.declared.Group.{Group}
 use Rattle.recogniser.specs.declared.Recogniser.{Recogniser}
-use Rattle.recogniser.specs.declared.Heard.{Heard}
-use Rattle.recogniser.specs.Parts.{idle, heard}
+use Rattle.recogniser.specs.declared.Transition.{Transition}
+use Rattle.recogniser.specs.Parts.{idle, transition}
 use Rattle.recogniser.specs.Fields.{endsOf}
 
 -- "WrFrontEnd and RdFrontEnd carry each bit for eight cycles." What is held of a group once a cycle's bit has arrived: its first bit.
@@ -34,19 +36,15 @@ unsteadyOf r bit =
     (cond (r .unsteady) true
     (differ (eqb bit 1) (groupOf (r .group) (r .count) bit .first)))
 
--- What a cycle of a frame asks for: its bit, its record, both or nothing.
-abbrev pub frameEventOf : Recogniser → ℕ → Bool → Event
-frameEventOf r bit ends =
-    cond (storesOf (r .command) (r .count))
-    (cond ends (FrameEndBit (r .command) (unsteadyOf r bit) (placeOf (r .command) (r .count)) bit)
-    (FrameBit (placeOf (r .command) (r .count)) bit))
-    (cond ends (FrameEnd (r .command) (unsteadyOf r bit)) Nothing)
+-- The frame bit of a cycle.
+abbrev pub frameBitOf : Recogniser → ℕ → FrameBit
+frameBitOf r bit = cond (storesOf (r .command) (r .count)) (At (placeOf (r .command) (r .count)) bit) None
 
 -- Field 5 of a frame.
-abbrev pub frameFieldOf : Recogniser → ℕ → ℕ → Heard
+abbrev pub frameFieldOf : Recogniser → ℕ → ℕ → Transition
 frameFieldOf r bit cnt =
-    cond (endsOf r cnt) (heard idle (frameEventOf r bit true))
-    (heard (record {
+    cond (endsOf r cnt) (transition idle (record { frame = frameBitOf r bit; request = Slow (Frame (r .command) (unsteadyOf r bit)) }))
+    (transition (record {
       phase = r .phase;
       shift = r .shift;
       count = r .count + 1;
@@ -55,4 +53,4 @@ frameFieldOf r bit cnt =
       held = r .held;
       group = groupOf (r .group) (r .count) bit;
       unsteady = unsteadyOf r bit;
-    }) (frameEventOf r bit false))
+    }) (record { frame = frameBitOf r bit; request = Nothing }))

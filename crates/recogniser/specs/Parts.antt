@@ -4,10 +4,12 @@ use mathlib.Core.Bool.{false}
 use Prim.Native.Nat.{ℕ, _+_, _*_, _%_, _^_}
 use Rattle.recogniser.specs.declared.Phase.{Phase}
 use Rattle.recogniser.specs.declared.Phase.the-variants.{Hunt}
+use Rattle.recogniser.specs.declared.FrameBit.the-variants.{None}
+use Rattle.recogniser.specs.declared.Request.{Request}
+use Rattle.recogniser.specs.declared.Request.the-variants.{Nothing}
 use Rattle.recogniser.specs.declared.Event.{Event}
-use Rattle.recogniser.specs.declared.Event.the-variants.{Nothing}
 use Rattle.recogniser.specs.declared.Recogniser.{Recogniser}
-use Rattle.recogniser.specs.declared.Heard.{Heard}
+use Rattle.recogniser.specs.declared.Transition.{Transition}
 
 -- "Hunting": a register of so many bits "takes each new bit at its low end and drops its oldest bit".
 abbrev pub shifted : ℕ → ℕ → ℕ → ℕ
@@ -30,12 +32,23 @@ startOf phase shift command address = record {
 abbrev pub idle : Recogniser
 idle = startOf Hunt 0 0 0
 
-abbrev pub heard : Recogniser → Event → Heard
-heard next event = record { next = next; event = event }
+abbrev pub transition : Recogniser → Event → Transition
+transition next event = record { next = next; event = event }
+
+-- An event with a request and no frame bit; and one with neither.
+abbrev pub requesting : Request → Event
+requesting request = record { frame = None; request = request }
+
+abbrev pub noEvent : Event
+noEvent = requesting Nothing
+
+-- The recogniser moves on, with a request and no frame bit.
+abbrev pub moveTo : Recogniser → Request → Transition
+moveTo next request = transition next (requesting request)
 
 -- One bit more of a body, Field 3 or Field 4 that is not whole yet.
-abbrev pub gatheredOf : Recogniser → ℕ → Heard
-gatheredOf r nibble = heard (record {
+abbrev pub gatheredOf : Recogniser → ℕ → Transition
+gatheredOf r nibble = moveTo (record {
   phase = r .phase;
   shift = nibble;
   count = r .count + 1;

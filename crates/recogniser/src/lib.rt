@@ -2,11 +2,11 @@
 // It owns only what the chip triplicates; registers, counters and RunMode belong to the model.
 ghost use mathlib.Core.Path.{_≡_};
 ghost use Prim.Native.Nat.{_<_};
-ghost use Rattle.recogniser.specs.Parts.{shifted, startOf, heard, gatheredOf};
+ghost use Rattle.recogniser.specs.Parts.{shifted, startOf, moveTo, gatheredOf};
 ghost use Rattle.recogniser.specs.declared.Phase.the-variants.{Hunt};
 ghost use Rattle.recogniser.specs.Hunting.{meaningOf, isFast, huntBy, huntOf, bodyOf};
-ghost use Rattle.recogniser.specs.Fields.{lengthOf, isSlow, isFrame, keptOf, endsOf, slowOf, field3Of, field4Of, keptFieldOf};
-ghost use Rattle.recogniser.specs.Groups.{groupOf, unsteadyOf, storesOf, placeOf, frameEventOf, frameFieldOf};
+ghost use Rattle.recogniser.specs.Fields.{lengthOf, isSlow, isFrame, keptOf, endsOf, slowRequestOf, field3Of, field4Of, keptFieldOf};
+ghost use Rattle.recogniser.specs.Groups.{groupOf, unsteadyOf, storesOf, placeOf, frameBitOf, frameFieldOf};
 ghost use Rattle.recogniser.specs.Step.{field5Of, stepOf};
 
 // Where the recogniser stands.
@@ -30,41 +30,50 @@ pub struct Group {
     pub first: bool,
 }
 
-// What one cycle asks for: a record with its effect, a frame bit at its place, both, leaving RunMode, or nothing.
-pub enum Event {
-    Nothing,
-    Lv1 {
-        flip: bool,
-    },
-    Fast {
-        body: u8,
-    },
-    BadFast {
-        body: u8,
-    },
-    SlowBegins,
-    Slow {
+// What one cycle does to the frame: nothing, or a bit at its place.
+pub enum FrameBit {
+    None,
+    At { place: u32, bit: u8 },
+}
+
+// What one cycle of a Slow command asks of the controller: leaving RunMode, or a record with its effect.
+pub enum SlowRequest {
+    LeaveRunMode,
+    Command {
         command: u8,
         address: u8,
         value: u32,
     },
-    BadSlow {
+    Bad {
         command: u8,
     },
-    FrameBit {
-        place: u32,
-        bit: u8,
-    },
-    FrameEnd {
+    Frame {
         command: u8,
         unsteady: bool,
     },
-    FrameEndBit {
-        command: u8,
-        unsteady: bool,
-        place: u32,
-        bit: u8,
-    },
+}
+
+// What one cycle asks of the controller: nothing, a record with its effect, or what a Slow command asks.
+pub enum Request {
+    Nothing,
+    Lv1 { flip: bool },
+    Fast { body: u8 },
+    BadFast { body: u8 },
+    Slow { slow: SlowRequest },
+}
+
+// What one cycle asks for.
+pub struct Event {
+    pub frame: FrameBit,
+    pub request: Request,
+}
+
+impl Event {
+    // Nothing at all.
+    pub const NOTHING: Event = Event {
+        frame: FrameBit::None,
+        request: Request::Nothing,
+    };
 }
 
 pub struct Recogniser {
@@ -84,7 +93,7 @@ pub struct Recogniser {
 }
 
 // One cycle's answer: the recogniser after it, and what it asks for.
-pub struct Heard {
+pub struct Transition {
     pub next: Recogniser,
     pub event: Event,
 }
@@ -188,17 +197,21 @@ fn kept(command: u8, held: u32, bit: u8) -> u32
 }
 
 // The end of a Slow command that carries no frame.
-fn slow(command: u8, address: u8, value: u32) -> Event
-    ensures { λ r. ⌜ r ≡ slowOf command address value ⌝ }
+fn slow(command: u8, address: u8, value: u32) -> Request
+    ensures { λ r. ⌜ r ≡ slowRequestOf command address value ⌝ }
 {
     if is_slow(command) {
-        return Event::Slow {
-            command: command,
-            address: address,
-            value: value,
+        return Request::Slow {
+            slow: SlowRequest::Command {
+                command: command,
+                address: address,
+                value: value,
+            },
         };
     }
-    Event::BadSlow { command: command }
+    Request::Slow {
+        slow: SlowRequest::Bad { command: command },
+    }
 }
 
 impl Group {
@@ -233,14 +246,17 @@ fn place(command: u8, count: u32) -> u32
     count / 8
 }
 
-impl Heard {
-    // What was heard, and hunting on with this window.
-    pub fn hunting(window: u8, event: Event) -> Self
-        ensures { λ r. ⌜ r ≡ heard (startOf Hunt window 0 0) event ⌝ }
+impl Transition {
+    // A request, and hunting on with this window.
+    pub fn hunting(window: u8, request: Request) -> Self
+        ensures { λ r. ⌜ r ≡ moveTo (startOf Hunt window 0 0) request ⌝ }
     {
-        Heard {
+        Transition {
             next: Recogniser::start(Phase::Hunt, window, 0, 0),
-            event: event,
+            event: Event {
+                frame: FrameBit::None,
+                request: request,
+            },
         }
     }
 
@@ -250,11 +266,11 @@ impl Heard {
     {
         let m = classify(window);
         match m {
-            Meaning::Quiet => Heard::hunting(window, Event::Nothing),
-            Meaning::Trigger { flip } => Heard::hunting(0, Event::Lv1 { flip: flip }),
-            Meaning::Header => Heard {
+            Meaning::Quiet => Transition::hunting(window, Request::Nothing),
+            Meaning::Trigger { flip } => Transition::hunting(0, Request::Lv1 { flip: flip }),
+            Meaning::Header => Transition {
                 next: Recogniser::start(Phase::Body, 0, 0, 0),
-                event: Event::Nothing,
+                event: Event::NOTHING,
             },
         }
     }
@@ -278,26 +294,26 @@ impl Recogniser {
     }
 
     // One bit more of a body or a field of four.
-    fn gather(mut self, nibble: u8) -> Heard
+    fn gather(mut self, nibble: u8) -> Transition
         requires { ⌜ self .count < 3 ⌝ }
         ensures { λ r. ⌜ r ≡ gatheredOf self nibble ⌝ }
     {
         self.shift = nibble;
         self.count = self.count + 1;
-        Heard {
+        Transition {
             next: self,
-            event: Event::Nothing,
+            event: Event::NOTHING,
         }
     }
 
-    fn hunt(self, bit: u8) -> Heard
+    fn hunt(self, bit: u8) -> Transition
         requires { ⌜ bit < 2 ⌝ }
         ensures { λ r. ⌜ r ≡ huntOf self bit ⌝ }
     {
-        Heard::hunted(window_with(self.shift, bit))
+        Transition::hunted(window_with(self.shift, bit))
     }
 
-    pub fn body(self, bit: u8) -> Heard
+    pub fn body(self, bit: u8) -> Transition
         requires { ⌜ bit < 2 ⌝ }
         ensures { λ r. ⌜ r ≡ bodyOf self bit ⌝ }
     {
@@ -306,18 +322,23 @@ impl Recogniser {
             return self.gather(body);
         }
         if is_fast(body) {
-            return Heard::hunting(0, Event::Fast { body: body });
+            return Transition::hunting(0, Request::Fast { body: body });
         }
         if body == 0b1011 {
-            return Heard {
+            return Transition {
                 next: Recogniser::start(Phase::Field3, 0, 0, 0),
-                event: Event::SlowBegins,
+                event: Event {
+                    frame: FrameBit::None,
+                    request: Request::Slow {
+                        slow: SlowRequest::LeaveRunMode,
+                    },
+                },
             };
         }
-        Heard::hunting(0, Event::BadFast { body: body })
+        Transition::hunting(0, Request::BadFast { body: body })
     }
 
-    fn field3(self, bit: u8) -> Heard
+    fn field3(self, bit: u8) -> Transition
         requires { ⌜ bit < 2 ⌝ }
         ensures { λ r. ⌜ r ≡ field3Of self bit ⌝ }
     {
@@ -325,13 +346,13 @@ impl Recogniser {
         if self.count < 3 {
             return self.gather(command);
         }
-        Heard {
+        Transition {
             next: Recogniser::start(Phase::Field4, 0, command, 0),
-            event: Event::Nothing,
+            event: Event::NOTHING,
         }
     }
 
-    fn field4(self, bit: u8, cnt: u16) -> Heard
+    fn field4(self, bit: u8, cnt: u16) -> Transition
         requires { ⌜ bit < 2 ⌝ }
         ensures { λ r. ⌜ r ≡ field4Of self bit cnt ⌝ }
     {
@@ -341,21 +362,23 @@ impl Recogniser {
         }
         let command = self.command;
         if 0 < length(command, cnt) {
-            return Heard {
+            return Transition {
                 next: Recogniser::start(Phase::Field5, 0, command, address),
-                event: Event::Nothing,
+                event: Event::NOTHING,
             };
         }
         if is_frame(command) {
-            return Heard::hunting(
+            return Transition::hunting(
                 0,
-                Event::FrameEnd {
-                    command: command,
-                    unsteady: false,
+                Request::Slow {
+                    slow: SlowRequest::Frame {
+                        command: command,
+                        unsteady: false,
+                    },
                 },
             );
         }
-        Heard::hunting(0, slow(command, address, 0))
+        Transition::hunting(0, slow(command, address, 0))
     }
 
     // Whether the present bit is the last of Field 5; in 64 bits, so that the sum fits.
@@ -366,20 +389,20 @@ impl Recogniser {
     }
 
     // Field 5 of a command that carries no frame.
-    fn kept_field(self, bit: u8, cnt: u16) -> Heard
+    fn kept_field(self, bit: u8, cnt: u16) -> Transition
         requires { ⌜ bit < 2 ⌝ }
         ensures { λ r. ⌜ r ≡ keptFieldOf self bit cnt ⌝ }
     {
         let value = kept(self.command, self.held, bit);
         if self.ends(cnt) {
-            return Heard::hunting(0, slow(self.command, self.address, value));
+            return Transition::hunting(0, slow(self.command, self.address, value));
         }
         let mut next = self;
         next.held = value;
         next.count = self.count + 1;
-        Heard {
+        Transition {
             next: next,
-            event: Event::Nothing,
+            event: Event::NOTHING,
         }
     }
 
@@ -398,54 +421,55 @@ impl Recogniser {
         (bit == 1) != now.first
     }
 
-    fn frame_event(self, bit: u8, ends: bool) -> Event
-        ensures { λ r. ⌜ r ≡ frameEventOf self bit ends ⌝ }
+    // The frame bit that this cycle stores.
+    fn frame_bit(self, bit: u8) -> FrameBit
+        ensures { λ r. ⌜ r ≡ frameBitOf self bit ⌝ }
     {
-        let command = self.command;
-        let at = place(command, self.count);
-        if stores(command, self.count) {
-            if ends {
-                return Event::FrameEndBit {
-                    command: command,
-                    unsteady: self.unsteady_with(bit),
-                    place: at,
-                    bit: bit,
-                };
-            }
-            return Event::FrameBit {
-                place: at,
+        if stores(self.command, self.count) {
+            return FrameBit::At {
+                place: place(self.command, self.count),
                 bit: bit,
             };
         }
-        if ends {
-            return Event::FrameEnd {
-                command: command,
-                unsteady: self.unsteady_with(bit),
-            };
-        }
-        Event::Nothing
+        FrameBit::None
     }
 
     // Field 5 of a frame.
-    fn frame_field(self, bit: u8, cnt: u16) -> Heard
+    fn frame_field(self, bit: u8, cnt: u16) -> Transition
         ensures { λ r. ⌜ r ≡ frameFieldOf self bit cnt ⌝ }
     {
+        let frame = self.frame_bit(bit);
+        let unsteady = self.unsteady_with(bit);
         if self.ends(cnt) {
-            return Heard::hunting(0, self.frame_event(bit, true));
+            return Transition {
+                next: Recogniser::start(Phase::Hunt, 0, 0, 0),
+                event: Event {
+                    frame: frame,
+                    request: Request::Slow {
+                        slow: SlowRequest::Frame {
+                            command: self.command,
+                            unsteady: unsteady,
+                        },
+                    },
+                },
+            };
         }
         let g = self.group;
         let group = g.with(self.count, bit);
         let mut next = self;
-        next.unsteady = self.unsteady_with(bit);
+        next.unsteady = unsteady;
         next.group = group;
         next.count = self.count + 1;
-        Heard {
+        Transition {
             next: next,
-            event: self.frame_event(bit, false),
+            event: Event {
+                frame: frame,
+                request: Request::Nothing,
+            },
         }
     }
 
-    fn field5(self, bit: u8, cnt: u16) -> Heard
+    fn field5(self, bit: u8, cnt: u16) -> Transition
         requires { ⌜ bit < 2 ⌝ }
         ensures { λ r. ⌜ r ≡ field5Of self bit cnt ⌝ }
     {
@@ -456,7 +480,7 @@ impl Recogniser {
     }
 
     // One cycle, by the present contents of the CNT register.
-    pub fn step(self, bit: u8, cnt: u16) -> Heard
+    pub fn step(self, bit: u8, cnt: u16) -> Transition
         requires { ⌜ bit < 2 ⌝ }
         ensures { λ r. ⌜ r ≡ stepOf self bit cnt ⌝ }
     {

@@ -1,4 +1,5 @@
 pub mod Plan
 pub mod Registers
+pub mod Parts
 pub mod Fifos
 pub mod Sound

@@ -6,6 +6,7 @@ use Prim.Native.Nat.{ℕ, _+_, _*_, _/_, _%_}
 use lib.Dec.{eqb}
 use lib.ListN.{getD, set, replicate}
 use Rattle.registers.specs.declared.Plan.{Plan}
+use Rattle.registers.specs.declared.Warnings.{Warnings}
 use Rattle.registers.specs.declared.Model.{Model}
 
 -- All sixteen registers or pointers at 0.
@@ -23,8 +24,8 @@ abbrev pub feenOf : Plan → Model → ℕ
 feenOf plan m = registerOf m (plan .feen)
 
 -- The warnings as a number: WLV1, WFST and WSLW from the lowest bit.
-abbrev pub warningsOf : Model → ℕ
-warningsOf m = cond (m .wlv1) 1 0 + cond (m .wfst) 2 0 + cond (m .wslw) 4 0
+abbrev pub warningBits : Warnings → ℕ
+warningBits w = cond (w .wlv1) 1 0 + cond (w .wfst) 2 0 + cond (w .wslw) 4 0
 
 -- A number with its bits 8, 9 and 10 replaced.
 abbrev pub withWarnings : ℕ → ℕ → ℕ
@@ -33,7 +34,7 @@ withWarnings value warnings = value % 256 + warnings * 256 + value / 2048 * 2048
 -- "CSR bits 8, 9, 10 read as the warnings".
 abbrev pub readOf : Plan → Model → ℕ → ℕ
 readOf plan m address =
-    cond (eqb address (plan .csr)) (withWarnings (registerOf m address) (warningsOf m)) (registerOf m address)
+    cond (eqb address (plan .csr)) (withWarnings (registerOf m address) (warningBits (m .warnings))) (registerOf m address)
 
 -- The registers after a write; CSR's warning bits "are not writable" and are stored as 0.
 abbrev pub writtenOf : Plan → Model → ℕ → ℕ → List ℕ

@@ -6,7 +6,9 @@ ghost use Prim.Native.Nat.{_<_, _≤_};
 ghost use lib.Dec.{eqb};
 ghost use lib.ListN.{length};
 ghost use Rattle.registers.specs.Plan.{existsAt, planFits, defaultPlan};
-ghost use Rattle.registers.specs.Registers.{registerOf, cntOf, warningsOf, withWarnings, readOf};
+ghost use Rattle.limits.specs.Limits.{storeLength};
+ghost use Rattle.registers.specs.Registers.{registerOf, cntOf, warningBits, withWarnings, readOf};
+ghost use Rattle.registers.specs.Parts.{cleared};
 ghost use Rattle.registers.specs.Fifos.{movedOn, writeOf, readWordOf};
 ghost use Rattle.registers.specs.Sound.{pointersFit, missingZero};
 
@@ -18,21 +20,33 @@ pub struct Plan {
     pub cnt: u8,
 }
 
+// L1ID, the trigger number, and the cycle from which the bunch number counts.
+pub struct Counters {
+    pub l1id: u8,
+    pub base: u64,
+}
+
+// The warnings, CSR bits 8, 9 and 10.
+pub struct Warnings {
+    pub wlv1: bool,
+    pub wfst: bool,
+    pub wslw: bool,
+}
+
+// The FIFOs' write and read pointers.
+pub struct Pointers {
+    pub writes: [u8; 16],
+    pub reads: [u8; 16],
+}
+
 // The controller as the commands left it.
 pub struct Model {
     // RunMode.
     pub running: bool,
-    pub l1id: u8,
-    // The cycle from which the bunch number counts.
-    pub base: u64,
-    // The warnings, CSR bits 8, 9 and 10.
-    pub wlv1: bool,
-    pub wfst: bool,
-    pub wslw: bool,
+    pub counters: Counters,
+    pub warnings: Warnings,
     pub registers: [u16; 16],
-    // The FIFOs' write and read pointers.
-    pub writes: [u8; 16],
-    pub reads: [u8; 16],
+    pub pointers: Pointers,
 }
 
 // FIFO words have 27 bits: each is below this.
@@ -60,7 +74,7 @@ pub fn moved_on(pointer: u8) -> u8
 
 // The word goes to each FIFO whose bit in FEEN is set, at its write pointer, which then moves on. Answers the pointers.
 pub fn write_all(writes: [u8; 16], feen: u16, word: u32, store: &mut [u32]) -> [u8; 16]
-    requires { ⌜ length (now store) ≡ 2048 ⌝ }
+    requires { ⌜ length (now store) ≡ storeLength ⌝ }
     ensures { λ r. ⌜ (record { writes = r; store = now (store .exit) }) ≡ writeOf 16 0 feen word (record { writes = writes; store = now (store .entry) }) ⌝ }
 {
     let mut p = writes;
@@ -78,7 +92,7 @@ pub fn write_all(writes: [u8; 16], feen: u16, word: u32, store: &mut [u32]) -> [
 
 // The word of FIFO n at its read pointer.
 pub fn read_word(store: &[u32], n: usize, pointer: u8) -> u32
-    requires { ⌜ (n < 16) × (length (now store) ≡ 2048) ⌝ }
+    requires { ⌜ (n < 16) × (length (now store) ≡ storeLength) ⌝ }
     ensures { λ r. ⌜ r ≡ readWordOf (now (store .entry)) n pointer ⌝ }
 {
     store[n * 128 + (pointer % 128) as usize] % WORD
@@ -141,7 +155,42 @@ impl Plan {
     }
 }
 
+impl Warnings {
+    // The warnings as a number, WLV1 its lowest bit.
+    fn bits(self) -> u16
+        ensures { λ r. ⌜ (r ≡ warningBits self) × (r < 8) ⌝ }
+    {
+        let lv1 = flag(self.wlv1, 1);
+        let fst = flag(self.wfst, 2);
+        let slw = flag(self.wslw, 4);
+        (lv1 + fst + slw) as u16
+    }
+}
+
 impl Model {
+    // Registers, pointers, L1ID and warnings 0, with a base cycle.
+    pub fn cleared(running: bool, base: u64) -> Model
+        ensures { λ r. ⌜ r ≡ cleared running base ⌝ }
+    {
+        Model {
+            running: running,
+            counters: Counters {
+                l1id: 0,
+                base: base,
+            },
+            warnings: Warnings {
+                wlv1: false,
+                wfst: false,
+                wslw: false,
+            },
+            registers: [0u16; 16],
+            pointers: Pointers {
+                writes: [0u8; 16],
+                reads: [0u8; 16],
+            },
+        }
+    }
+
     // The register at an address, 0 where there is none.
     pub fn register(self, address: u8) -> u16
         ensures { λ r. ⌜ r ≡ registerOf self address ⌝ }
@@ -174,22 +223,14 @@ impl Model {
         true
     }
 
-    fn warnings(self) -> u16
-        ensures { λ r. ⌜ (r ≡ warningsOf self) × (r < 8) ⌝ }
-    {
-        let lv1 = flag(self.wlv1, 1);
-        let fst = flag(self.wfst, 2);
-        let slw = flag(self.wslw, 4);
-        (lv1 + fst + slw) as u16
-    }
-
     // A register as it reads: CSR with the warnings in it.
     pub fn read(self, plan: Plan, address: u8) -> u16
         ensures { λ r. ⌜ r ≡ readOf plan self address ⌝ }
     {
         let value = self.register(address);
         if address == plan.csr {
-            return with_warnings(value, self.warnings());
+            let warnings = self.warnings;
+            return with_warnings(value, warnings.bits());
         }
         value
     }

@@ -13,10 +13,10 @@ use Rattle.recogniser.specs.declared.Phase.{Phase}
 use Rattle.recogniser.specs.declared.Phase.the-variants.{Hunt, Body, Field3, Field4, Field5}
 use Rattle.recogniser.specs.declared.Meaning.{Meaning}
 use Rattle.recogniser.specs.declared.Meaning.the-variants.{Quiet, Trigger, Header}
-use Rattle.recogniser.specs.declared.Event.the-variants.{Nothing}
+use Rattle.recogniser.specs.declared.Request.the-variants.{Nothing}
 use Rattle.recogniser.specs.declared.Recogniser.{Recogniser}
-use Rattle.recogniser.specs.declared.Heard.{Heard}
-use Rattle.recogniser.specs.Parts.{shifted, startOf, heard, gatheredOf}
+use Rattle.recogniser.specs.declared.Transition.{Transition}
+use Rattle.recogniser.specs.Parts.{shifted, startOf, noEvent, moveTo, gatheredOf}
 use Rattle.recogniser.specs.Hunting.{meaningOf, huntBy, bodyOf}
 use Rattle.recogniser.specs.Step.{stepOf}
 use Rattle.recogniser.proofs.Phase.{the-type}
@@ -26,9 +26,9 @@ use Rattle.stretches.specs.Stretch.{stretched, oneMore, huntBeyond, hunt
 
 -- A stretch over the first of these bits: none, one cycle, or one that asks for nothing and a stretch from there.
 pub data Passes (cnt : ℕ) : Recogniser → List ℕ → Stretch → Type 0 where
-  ends : (r : Recogniser) → Passes cnt r [] (stretched 0 (heard r Nothing))
+  ends : (r : Recogniser) → Passes cnt r [] (stretched 0 (moveTo r Nothing))
   last : (r : Recogniser) (bit : ℕ) (bits : List ℕ) → Passes cnt r (bit ∷ bits) (stretched 1 (stepOf r bit cnt))
-  more : (r : Recogniser) (bit : ℕ) (bits : List ℕ) (s : Stretch) → stepOf r bit cnt .event ≡ Nothing →
+  more : (r : Recogniser) (bit : ℕ) (bits : List ℕ) (s : Stretch) → stepOf r bit cnt .event ≡ noEvent →
       Passes cnt (stepOf r bit cnt .next) bits s → Passes cnt r (bit ∷ bits) (oneMore s)
 
 -- A stretch by the phase.
@@ -49,10 +49,10 @@ unfolding stretchOf
 stretch-once r cnt bits = once-by r cnt bits (r .phase)
 
 module _ (cnt : ℕ) where
-  ending : (r : Recogniser) (bit : ℕ) (bits : List ℕ) (h : Heard) → stepOf r bit cnt ≡ h → Passes cnt r (bit ∷ bits) (stretched 1 h)
+  ending : (r : Recogniser) (bit : ℕ) (bits : List ℕ) (h : Transition) → stepOf r bit cnt ≡ h → Passes cnt r (bit ∷ bits) (stretched 1 h)
   ending r bit bits h e = rw (← e) (last r bit bits)
 
-  going : (r : Recogniser) (bit : ℕ) (bits : List ℕ) (next : Recogniser) {s : Stretch} → stepOf r bit cnt ≡ heard next Nothing →
+  going : (r : Recogniser) (bit : ℕ) (bits : List ℕ) (next : Recogniser) {s : Stretch} → stepOf r bit cnt ≡ moveTo next Nothing →
       Passes cnt next bits s → Passes cnt r (bit ∷ bits) (oneMore s)
   going r bit bits next {s} e p = more r bit bits s (rw e) (rw e p)
 

@@ -10,8 +10,8 @@ use Rattle.bits.specs.Bits.{bitOf, bitsOf}
 use Rattle.recogniser.specs.declared.Meaning.{Meaning}
 use Rattle.recogniser.specs.declared.Meaning.the-variants.{Quiet, Trigger, Header}
 use Rattle.recogniser.specs.declared.Recogniser.{Recogniser}
-use Rattle.recogniser.specs.declared.Heard.{Heard}
-use Rattle.recogniser.specs.Parts.{shifted, heard}
+use Rattle.recogniser.specs.declared.Transition.{Transition}
+use Rattle.recogniser.specs.Parts.{shifted, transition}
 use Rattle.recogniser.specs.Hunting.{meaningOf, huntBy, bodyOf}
 use Rattle.recogniser.specs.Step.{stepOf}
 use Rattle.stretches.specs.declared.Stretch.{Stretch}
@@ -19,7 +19,7 @@ use Rattle.stretches.specs.Stretch.{stretched, oneMore, isQuiet, standin
 
 -- So many cycles, and then a stretch.
 abbrev pub before : ℕ → Stretch → Stretch
-before walked s = stretched (walked + s .taken) (heard (s .next) (s .event))
+before walked s = stretched (walked + s .taken) (transition (s .next) (s .event))
 
 -- Walked from a place to another: the whole stretch, and what is left of it.
 pub record Walked (whole left : Stretch) (place at end : ℕ) : Type 0 where
@@ -31,7 +31,7 @@ pub begun : (s : Stretch) (place end : ℕ) → place < end → Walked s s place
 begun s place end h = record {
   low = omega arith;
   high = omega arith;
-  same = ap (λ (n : ℕ). stretched n (heard (s .next) (s .event))) (omega arith);
+  same = ap (λ (n : ℕ). stretched n (transition (s .next) (s .event))) (omega arith);
 }
 
 module _ {whole left : Stretch} {place at end : ℕ} (w : Walked whole left place at end) where
@@ -39,10 +39,10 @@ module _ {whole left : Stretch} {place at end : ℕ} (w : Walked whole left plac
   further rest e h = record {
     low = omega (arith, w .low);
     high = omega arith;
-    same = ap (λ (n : ℕ). stretched n (heard (rest .next) (rest .event))) (omega (arith, w .low)) ∙ rw e at (w .same);
+    same = ap (λ (n : ℕ). stretched n (transition (rest .next) (rest .event))) (omega (arith, w .low)) ∙ rw e at (w .same);
   }
 
-  pub ended : (taken count : ℕ) (last : Heard) → left ≡ stretched count last → taken ≡ at - place + count → stretched taken last ≡ whole
+  pub ended : (taken count : ℕ) (last : Transition) → left ≡ stretched count last → taken ≡ at - place + count → stretched taken last ≡ whole
   ended taken count last e n = rw n (rw e at (w .same))
 
 -- A window that means nothing, and one that means something.
@@ -74,7 +74,7 @@ module _ (input : List ℕ) (at end : ℕ) where
     hunt-last q = rw (bits-left h, ← b, ← e) (loud-beyond v (meaningOf v) _ q)
 
   -- One cycle.
-  pub step-left : (r : Recogniser) (cnt bit : ℕ) (last : Heard) → at < end →
+  pub step-left : (r : Recogniser) (cnt bit : ℕ) (last : Transition) → at < end →
       bit ≡ bitOf input at → last ≡ stepOf r bit cnt → stretched 1 last ≡ stepOn r cnt (bitsOf input at (end - at))
   step-left r cnt bit last h b e = rw (bits-left h, e, b)
 

@@ -9,16 +9,16 @@ use Rattle.recogniser.specs.declared.Phase.{Phase}
 use Rattle.recogniser.specs.declared.Phase.the-variants.{Hunt, Body, Field3, Field4, Field5}
 use Rattle.recogniser.specs.declared.Meaning.{Meaning}
 use Rattle.recogniser.specs.declared.Meaning.the-variants.{Quiet, Trigger, Header}
-use Rattle.recogniser.specs.declared.Event.the-variants.{Nothing, Lv1}
+use Rattle.recogniser.specs.declared.Request.the-variants.{Nothing, Lv1}
 use Rattle.recogniser.specs.declared.Recogniser.{Recogniser}
-use Rattle.recogniser.specs.declared.Heard.{Heard}
-use Rattle.recogniser.specs.Parts.{shifted, startOf, idle, heard}
+use Rattle.recogniser.specs.declared.Transition.{Transition}
+use Rattle.recogniser.specs.Parts.{shifted, startOf, idle, moveTo}
 use Rattle.recogniser.specs.Hunting.{meaningOf, bodyOf}
 use Rattle.recogniser.specs.Step.{stepOf}
 use Rattle.stretches.specs.declared.Stretch.{Stretch}
 
 -- So many cycles, where the recogniser stands after them, and what the last of them asks for.
-abbrev pub stretched : ℕ → Heard → Stretch
+abbrev pub stretched : ℕ → Transition → Stretch
 stretched taken h = record { taken = taken; next = h .next; event = h .event }
 
 abbrev pub oneMore : Stretch → Stretch
@@ -46,21 +46,21 @@ isQuiet Header = false
 -- Hunting with a window.
 abbrev pub huntBeyond : ℕ → Meaning → Stretch → Stretch
 huntBeyond w Quiet rest = oneMore rest
-huntBeyond w (Trigger flip) rest = stretched 1 (heard idle (Lv1 flip))
-huntBeyond w Header rest = stretched 1 (heard (startOf Body 0 0 0) Nothing)
+huntBeyond w (Trigger flip) rest = stretched 1 (moveTo idle (Lv1 flip))
+huntBeyond w Header rest = stretched 1 (moveTo (startOf Body 0 0 0) Nothing)
 
 abbrev pub huntOn : ℕ → List ℕ → Stretch
-huntOn w [] = stretched 0 (heard (startOf Hunt w 0 0) Nothing)
+huntOn w [] = stretched 0 (moveTo (startOf Hunt w 0 0) Nothing)
 huntOn w (bit ∷ bits) = let v = shifted 5 w bit in huntBeyond v (meaningOf v) (huntOn v bits)
 
 -- A body.
 abbrev pub bodyOn : Recogniser → List ℕ → Stretch
-bodyOn r [] = stretched 0 (heard r Nothing)
+bodyOn r [] = stretched 0 (moveTo r Nothing)
 bodyOn r (bit ∷ bits) = cond (ltb (r .count) 3) (oneMore (bodyOn (bodyOf r bit .next) bits)) (stretched 1 (bodyOf r bit))
 
 -- One cycle.
 abbrev pub stepOn : Recogniser → ℕ → List ℕ → Stretch
-stepOn r cnt [] = stretched 0 (heard r Nothing)
+stepOn r cnt [] = stretched 0 (moveTo r Nothing)
 stepOn r cnt (bit ∷ bits) = stretched 1 (stepOf r bit cnt)
 
 abbrev pub stretchBy : Phase → Recogniser → ℕ → List ℕ → Stretch

@@ -2,14 +2,16 @@
 ghost use mathlib.Core.Path.{_≡_};
 ghost use Prim.Native.Nat.{_*_, _-_, _<_, _≤_};
 ghost use lib.ListN.{length};
+ghost use Rattle.limits.specs.Limits.{inputLimit};
 ghost use Rattle.bits.specs.Bits.{bitsOf};
 ghost use Rattle.recogniser.specs.Hunting.{meaningOf};
 ghost use Rattle.stretches.specs.Stretch.{isQuiet, stretched, standing, huntOn, bodyOn, stretchOf};
 use recogniser::Event;
-use recogniser::Heard;
 use recogniser::Meaning;
 use recogniser::Phase;
 use recogniser::Recogniser;
+use recogniser::Request;
+use recogniser::Transition;
 
 // How many cycles, the recogniser after them, and what the last of them asks for.
 pub struct Stretch {
@@ -19,8 +21,8 @@ pub struct Stretch {
 }
 
 impl Stretch {
-    // So many cycles, of which the last was heard so.
-    fn of(taken: usize, last: Heard) -> Self
+    // So many cycles, of which the last was transition so.
+    fn of(taken: usize, last: Transition) -> Self
         ensures { λ r. ⌜ r ≡ stretched taken last ⌝ }
     {
         let next = last.next;
@@ -47,7 +49,7 @@ fn is_quiet(window: u8) -> bool
 
 // Hunting on with a window, up to the first that means something or to the end.
 fn hunt_on(shift: u8, input: &[u8], place: usize, end: usize) -> Stretch
-    requires { ⌜ (place < end) × (end ≤ 8 * length (now input)) × (length (now input) ≤ 1048576) ⌝ }
+    requires { ⌜ (place < end) × (end ≤ 8 * length (now input)) × (length (now input) ≤ inputLimit) ⌝ }
     ensures { λ r. ⌜ r ≡ huntOn shift (bitsOf (now (input .entry)) place (end - place)) ⌝ }
 {
     let mut window = shift;
@@ -58,9 +60,9 @@ fn hunt_on(shift: u8, input: &[u8], place: usize, end: usize) -> Stretch
         if is_quiet(window) {
             continue;
         }
-        return Stretch::of(at - place, Heard::hunted(window));
+        return Stretch::of(at - place, Transition::hunted(window));
     }
-    Stretch::of(at - place, Heard::hunting(window, Event::Nothing))
+    Stretch::of(at - place, Transition::hunting(window, Request::Nothing))
 }
 
 // The same phase, with these bits of it received.
@@ -74,7 +76,7 @@ fn standing(mut r: Recogniser, shift: u8, count: u32) -> Recogniser
 
 // A body, up to its fourth bit or to the end.
 fn body_on(r: Recogniser, input: &[u8], place: usize, end: usize) -> Stretch
-    requires { ⌜ (place < end) × (end ≤ 8 * length (now input)) × (length (now input) ≤ 1048576) ⌝ }
+    requires { ⌜ (place < end) × (end ≤ 8 * length (now input)) × (length (now input) ≤ inputLimit) ⌝ }
     ensures { λ o. ⌜ o ≡ bodyOn r (bitsOf (now (input .entry)) place (end - place)) ⌝ }
 {
     let mut nibble = r.shift;
@@ -92,13 +94,13 @@ fn body_on(r: Recogniser, input: &[u8], place: usize, end: usize) -> Stretch
     Stretch {
         taken: at - place,
         next: standing(r, nibble, count),
-        event: Event::Nothing,
+        event: Event::NOTHING,
     }
 }
 
 // One cycle or more of the input, up to the end at most, by the present contents of the CNT register; all but the last ask for nothing.
 pub fn advance(r: Recogniser, input: &[u8], place: usize, end: usize, cnt: u16) -> Stretch
-    requires { ⌜ (place < end) × (end ≤ 8 * length (now input)) × (length (now input) ≤ 1048576) ⌝ }
+    requires { ⌜ (place < end) × (end ≤ 8 * length (now input)) × (length (now input) ≤ inputLimit) ⌝ }
     ensures { λ o. ⌜ o ≡ stretchOf r cnt (bitsOf (now (input .entry)) place (end - place)) ⌝ }
 {
     let phase = r.phase;

@@ -1,9 +1,10 @@
 pub mod Ranges
-pub mod Runs
-pub mod Ends
-pub mod Calls
+pub mod RunFaithful
+pub mod RunEndings
+pub mod CallLists
 pub mod Refusals
-pub mod Stretched
-pub mod Loop
-pub mod Slows
-pub mod Stays
+pub mod RunStretch
+pub mod PerformCases
+pub mod LoopInvariant
+pub mod SlowSteps
+pub mod SoundnessKept

@@ -9,12 +9,12 @@ use lib.ListN.{length}
 use borrow.Author.Tests.{le-leb, lt-leb, leb-true, eqb-true}
 use Rattle.bits.proofs.Truth.{both}
 use Rattle.decoder.specs.declared.Decoder.{Decoder}
-use Rattle.decoder.specs.Limits.{clockLimit, storeLength, trayLength, inputLimit}
+use Rattle.limits.specs.Limits.{clockLimit, storeLength, trayLength, inputLimit}
 use Rattle.decoder.specs.Sound.{soundOf}
 use Rattle.decoder.proofs.Soundness.{sound-parts}
 use Rattle.taking.specs.declared.Ending.{Ending}
 use Rattle.taking.specs.declared.Ending.the-variants.{Unsound, WrongBuffers, WrongRange, ClockOver}
-use Rattle.taking.specs.Take.{Call, Left, refused, buffersFit, rangeFits, clockFits, takenOf, takeOf}
+use Rattle.taking.specs.Take.{Call, CallResult, refused, buffersFit, rangeFits, clockFits, takenOf, takeOf}
 
 -- The tests of a call.
 abbrev pub buffers : Call → Bool
@@ -25,10 +25,10 @@ range c = rangeFits (length (c .input)) (c .first) (c .count)
 
 -- a choice by a test that is known
 module _ (d : Decoder) (c : Call) where
-  turned-away : (b : Bool) (e : Ending) (l : Left) → b ≡ false → cond (not b) (refused d c e) l ≡ refused d c e
+  turned-away : (b : Bool) (e : Ending) (l : CallResult) → b ≡ false → cond (not b) (refused d c e) l ≡ refused d c e
   turned-away b e l h = ap (λ b. cond (not b) (refused d c e) l) h
 
-  let-through : (b : Bool) (e : Ending) (l : Left) → b ≡ true → cond (not b) (refused d c e) l ≡ l
+  let-through : (b : Bool) (e : Ending) (l : CallResult) → b ≡ true → cond (not b) (refused d c e) l ≡ l
   let-through b e l h = ap (λ b. cond (not b) (refused d c e) l) h
 
   pub unsound : soundOf d ≡ false → takeOf d c ≡ refused d c Unsound

@@ -1,5 +1,5 @@
-pub mod Entries
 pub mod Run
 pub mod Turn
 pub mod Take
+pub mod Perform
 pub mod Calls

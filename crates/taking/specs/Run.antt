@@ -5,54 +5,55 @@ use mathlib.Core.List.{List, [], _∷_, _++_}
 use Prim.Native.Nat.{ℕ, suc, _-_}
 use lib.Dec.{ltb}
 use Rattle.controller.specs.declared.Cycle.{Cycle}
-use Rattle.controller.specs.declared.Cycle.the-variants.{Nothing, Record}
-use Rattle.controller.specs.Records.{wordsOf, isFrameHead}
-use Rattle.decoder.specs.Limits.{listUnit}
+use Rattle.controller.specs.declared.Cycle.the-variants.{Silent, Recorded}
+use Rattle.controller.specs.declared.Record.{Record}
+use Rattle.controller.specs.Records.{headOf, wordsOf, isFrameHead}
+use Rattle.limits.specs.Limits.{listUnit}
 use Rattle.taking.specs.declared.Ending.{Ending}
 use Rattle.taking.specs.declared.Ending.the-variants.{Done, Frame, ListFull}
 
 -- A state after a cycle, and what the cycle answers.
-pub record Turned (W : Type 0) : Type 0 where
-  pub state : W
+pub record Turned (S : Type 0) : Type 0 where
+  pub state : S
   pub cycle : Cycle
 
 -- The state after a run, the bits taken, the words written, and how it ended.
-pub record Run (W : Type 0) : Type 0 where
-  pub state : W
+pub record Run (S : Type 0) : Type 0 where
+  pub state : S
   pub bits : ℕ
   pub words : List ℕ
   pub ending : Ending
 
-module _ {W : Type 0} where
-  abbrev pub ended : W → Ending → Run W
-  ended w ending = record { state = w; bits = 0; words = []; ending = ending }
+module _ {S : Type 0} where
+  abbrev pub ended : S → Ending → Run S
+  ended s ending = record { state = s; bits = 0; words = []; ending = ending }
 
   -- One bit ahead of a run, and one record ahead of it.
-  abbrev pub oneBit : Run W → Run W
+  abbrev pub oneBit : Run S → Run S
   oneBit r = record { state = r .state; bits = suc (r .bits); words = r .words; ending = r .ending }
 
-  abbrev pub oneRecord : ℕ → ℕ → Run W → Run W
-  oneRecord head value r = record { state = r .state; bits = r .bits; words = head ∷ value ∷ r .words; ending = r .ending }
+  abbrev pub oneRecord : Record → Run S → Run S
+  oneRecord e r = record { state = r .state; bits = r .bits; words = headOf e ∷ e .value ∷ r .words; ending = r .ending }
 
   -- "'frame' after a record of kind 24, 25 or 26, where it stops at once"; else the rest of the run follows, given at each state and room.
-  abbrev pub afterCycle : (W → ℕ → Run W) → W → Cycle → ℕ → Run W
-  afterCycle rest w Nothing room = rest w room
-  afterCycle rest w (Record head value) room =
-      oneRecord head value (cond (isFrameHead head) (ended w Frame) (rest w (room - listUnit)))
+  abbrev pub afterCycle : (S → ℕ → Run S) → S → Cycle → ℕ → Run S
+  afterCycle rest s Silent room = rest s room
+  afterCycle rest s (Recorded e) room =
+      oneRecord e (cond (isFrameHead (headOf e)) (ended s Frame) (rest s (room - listUnit)))
 
-  module _ (turn : W → ℕ → Turned W) where
+  module _ (turn : S → ℕ → Turned S) where
     -- "'list full' when bits remain and fewer than two words are free"; "'done' otherwise, with every bit of its count taken".
-    abbrev pub runOf : List ℕ → W → ℕ → Run W
-    runOf [] w room = ended w Done
-    runOf (bit ∷ bits) w room =
-        cond (ltb room listUnit) (ended w ListFull)
-        (oneBit (afterCycle (runOf bits) (turn w bit .state) (turn w bit .cycle) room))
+    abbrev pub runOf : List ℕ → S → ℕ → Run S
+    runOf [] s room = ended s Done
+    runOf (bit ∷ bits) s room =
+        cond (ltb room listUnit) (ended s ListFull)
+        (oneBit (afterCycle (runOf bits) (turn s bit .state) (turn s bit .cycle) room))
 
     -- What all of some bits lead to and write, with no list to fill and no stop at a frame.
-    abbrev pub stateAfter : W → List ℕ → W
-    stateAfter w [] = w
-    stateAfter w (bit ∷ bits) = stateAfter (turn w bit .state) bits
+    abbrev pub stateAfter : S → List ℕ → S
+    stateAfter s [] = s
+    stateAfter s (bit ∷ bits) = stateAfter (turn s bit .state) bits
 
-    abbrev pub wordsAfter : W → List ℕ → List ℕ
-    wordsAfter w [] = []
-    wordsAfter w (bit ∷ bits) = wordsOf (turn w bit .cycle) ++ wordsAfter (turn w bit .state) bits
+    abbrev pub wordsAfter : S → List ℕ → List ℕ
+    wordsAfter s [] = []
+    wordsAfter s (bit ∷ bits) = wordsOf (turn s bit .cycle) ++ wordsAfter (turn s bit .state) bits

@@ -8,13 +8,13 @@ use lib.ListN.{length}
 use lib.Seq.{sets}
 use Rattle.bits.specs.Bits.{bitsOf}
 use Rattle.decoder.specs.declared.Decoder.{Decoder}
-use Rattle.decoder.specs.Limits.{clockLimit, storeLength, trayLength, listUnit, inputLimit}
+use Rattle.limits.specs.Limits.{clockLimit, storeLength, trayLength, listUnit, inputLimit}
 use Rattle.decoder.specs.Sound.{soundOf}
 use Rattle.taking.specs.declared.Taken.{Taken}
 use Rattle.taking.specs.declared.Ending.{Ending}
 use Rattle.taking.specs.declared.Ending.the-variants.{Done, Frame, ListFull, Unsound, WrongBuffers, WrongRange, ClockOver}
 use Rattle.taking.specs.Run.{Run, runOf}
-use Rattle.taking.specs.Turn.{World, turnOf}
+use Rattle.taking.specs.Turn.{System, systemOf, decoderOf, turnOf}
 
 -- "It is lent input, a first bit and a bit count; a FIFO store ..; a tray ..; a record list and the number of its first free word."
 pub record Call : Type 0 where
@@ -25,6 +25,10 @@ pub record Call : Type 0 where
   pub tray : List ℕ
   pub list : List ℕ
   pub free : ℕ
+
+abbrev pub call : List ℕ → ℕ → ℕ → List ℕ → List ℕ → List ℕ → ℕ → Call
+call input first count store tray list free =
+    record { input = input; first = first; count = count; store = store; tray = tray; list = list; free = free }
 
 -- The bits of the call's range.
 abbrev pub offered : Call → List ℕ
@@ -43,42 +47,39 @@ abbrev pub clockFits : ℕ → ℕ → Bool
 clockFits next count = leb (next + count) clockLimit
 
 -- The answer, and each buffer's later contents.
-pub record Left : Type 0 where
+pub record CallResult : Type 0 where
   pub taken : Taken
   pub store : List ℕ
   pub tray : List ℕ
   pub list : List ℕ
 
+abbrev pub result : Taken → List ℕ → List ℕ → List ℕ → CallResult
+result taken store tray list = record { taken = taken; store = store; tray = tray; list = list }
+
+-- A state with what a call tells of itself.
+abbrev pub takenWith : Decoder → ℕ → ℕ → Ending → Taken
+takenWith d bits records ending = record { decoder = d; report = record { bits = bits; records = records; ending = ending } }
+
 -- "a refused taking gives 0 bits, 0 records and the state and buffers it came with"
-abbrev pub refused : Decoder → Call → Ending → Left
-refused d c ending = record {
-  taken = record { decoder = d; told = record { bits = 0; records = 0; ending = ending } };
-  store = c .store;
-  tray = c .tray;
-  list = c .list;
-}
+abbrev pub refused : Decoder → Call → Ending → CallResult
+refused d c ending = result (takenWith d 0 0 ending) (c .store) (c .tray) (c .list)
 
 -- A run as a call answers it: the words stand in the list from its first free word on, and "list, tray and store change nowhere else".
-abbrev pub finished : ℕ → ℕ → List ℕ → ℕ → Run World → Left
-finished bits records list free r = record {
-  taken = record {
-    decoder = r .state .decoder;
-    told = record { bits = bits + r .bits; records = records + length (r .words) / listUnit; ending = r .ending };
-  };
-  store = r .state .store;
-  tray = r .state .tray;
-  list = sets list free (r .words);
-}
+abbrev pub finished : ℕ → ℕ → List ℕ → ℕ → Run System → CallResult
+finished bits records list free r =
+    result (takenWith (decoderOf (r .state)) (bits + r .bits) (records + length (r .words) / listUnit) (r .ending))
+    (r .state .machine .store) (r .state .machine .tray) (sets list free (r .words))
 
-abbrev pub worldOf : Decoder → Call → World
-worldOf d c = record { decoder = d; store = c .store; tray = c .tray }
+-- The state with the store and the tray that the call is lent.
+abbrev pub lent : Decoder → Call → System
+lent d c = systemOf d (c .store) (c .tray)
 
 -- A call that is not refused.
-unfoldable pub takenOf : Decoder → Call → Left
-takenOf d c = finished 0 0 (c .list) (c .free) (runOf turnOf (offered c) (worldOf d c) (length (c .list) - c .free))
+unfoldable pub takenOf : Decoder → Call → CallResult
+takenOf d c = finished 0 0 (c .list) (c .free) (runOf turnOf (offered c) (lent d c) (length (c .list) - c .free))
 
 -- "The lowest number wins".
-unfoldable pub takeOf : Decoder → Call → Left
+unfoldable pub takeOf : Decoder → Call → CallResult
 takeOf d c =
     cond (not (soundOf d)) (refused d c Unsound)
     (cond (not (buffersFit (length (c .store)) (length (c .tray)) (length (c .list)) (c .free))) (refused d c WrongBuffers)

@@ -1,39 +1,68 @@
--- One cycle of the whole decoder: the recogniser hears the bit, the controller acts, the tray takes a frame bit.
+-- One cycle of the whole reader: the recogniser takes the bit, and the machine behind it responds to what it asks for.
 -- Assumes nothing.
 use mathlib.Core.List.{List}
 use Prim.Native.Nat.{ℕ, _+_}
-use Rattle.recogniser.specs.declared.Heard.{Heard}
+use Rattle.recogniser.specs.declared.Request.{Request}
+use Rattle.recogniser.specs.declared.Event.{Event}
+use Rattle.recogniser.specs.declared.Recogniser.{Recogniser}
+use Rattle.recogniser.specs.declared.Transition.{Transition}
 use Rattle.recogniser.specs.Step.{stepOf}
 use Rattle.frames.specs.Tray.{trayOf}
+use Rattle.registers.specs.declared.Plan.{Plan}
+use Rattle.registers.specs.declared.Model.{Model}
 use Rattle.registers.specs.Registers.{cntOf}
 use Rattle.controller.specs.Commands.{Effect, actOf}
 use Rattle.decoder.specs.declared.Decoder.{Decoder}
 use Rattle.taking.specs.Run.{Turned}
 
--- What a cycle reads and changes: the state, the store and the tray.
-pub record World : Type 0 where
-  pub decoder : Decoder
+-- All that an event acts on: the plan, the number of the next cycle, the model, the store and the tray.
+pub record Machine : Type 0 where
+  pub plan : Plan
+  pub next : ℕ
+  pub model : Model
   pub store : List ℕ
   pub tray : List ℕ
 
-abbrev pub heardOf : Decoder → ℕ → Heard
-heardOf d bit = stepOf (d .recogniser) bit (cntOf (d .plan) (d .model))
+-- The recogniser, and the machine behind it.
+pub record System : Type 0 where
+  pub recogniser : Recogniser
+  pub machine : Machine
 
-abbrev pub effectOf : Decoder → Heard → List ℕ → Effect
-effectOf d h store = actOf (d .plan) (d .model) (h .event) (d .next) store
+-- A decoder with the store and the tray that it is lent, and back.
+abbrev pub systemOf : Decoder → List ℕ → List ℕ → System
+systemOf d store tray = record {
+  recogniser = d .recogniser;
+  machine = record { plan = d .plan; next = d .next; model = d .model; store = store; tray = tray };
+}
 
--- "Each bit takes the next number. .. A record's time is the cycle of its command's last bit."
-abbrev pub turned : World → Heard → Effect → Turned World
-turned w h e = record {
-  state = record {
-    decoder = record { plan = w .decoder .plan; next = w .decoder .next + 1; recogniser = h .next; model = e .acted .model };
-    store = e .store;
-    tray = trayOf (w .tray) (h .event);
-  };
+abbrev pub decoderOf : System → Decoder
+decoderOf s = record { plan = s .machine .plan; next = s .machine .next; recogniser = s .recogniser; model = s .machine .model }
+
+-- CNT as it stands.
+abbrev pub cntAt : Machine → ℕ
+cntAt m = cntOf (m .plan) (m .model)
+
+-- What a request does at a cycle.
+abbrev pub effectAt : Machine → Request → ℕ → Effect
+effectAt m request time = actOf (m .plan) (m .model) request time (m .store)
+
+-- The machine after an event, given what its request did and the number of the next cycle.
+abbrev pub respondBy : Machine → Event → ℕ → Effect → Turned Machine
+respondBy m event next e = record {
+  state = record { plan = m .plan; next = next; model = e .acted .model; store = e .store; tray = trayOf (m .tray) (event .frame) };
   cycle = e .acted .cycle;
 }
 
-unfoldable pub turnOf : World → ℕ → Turned World
-turnOf w bit =
-    let h = heardOf (w .decoder) bit in
-    turned w h (effectOf (w .decoder) h (w .store))
+-- "Each bit takes the next number. .. A record's time is the cycle of its command's last bit."
+abbrev pub respondOf : Machine → Event → Turned Machine
+respondOf m event = respondBy m event (m .next + 1) (effectAt m (event .request) (m .next))
+
+-- The recogniser's transition, and the machine's response to its event.
+abbrev pub turnBy : Transition → Turned Machine → Turned System
+turnBy t r = record { state = record { recogniser = t .next; machine = r .state }; cycle = r .cycle }
+
+abbrev pub transitionOf : System → ℕ → Transition
+transitionOf s bit = stepOf (s .recogniser) bit (cntAt (s .machine))
+
+unfoldable pub turnOf : System → ℕ → Turned System
+turnOf s bit = turnBy (transitionOf s bit) (respondOf (s .machine) (transitionOf s bit .event))

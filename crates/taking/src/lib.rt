@@ -1,12 +1,18 @@
 // The taking call. It asks nothing of its caller: it refuses by number.
 ghost use mathlib.Core.Path.{_≡_};
-ghost use Prim.Native.Nat.{_+_, _*_, _/_, _≤_, _^_};
+ghost use mathlib.Core.Bool.{true};
+ghost use Prim.Native.Nat.{_+_, _*_, _-_, _/_, _<_, _≤_};
 ghost use lib.ListN.{length, set};
-ghost use Rattle.taking.specs.Take.{buffersFit, rangeFits, takenOf, takeOf, endingNumber};
+ghost use Rattle.limits.specs.Limits.{clockLimit, storeLength, inputLimit, listUnit};
+ghost use Rattle.controller.specs.Records.{headOf};
+ghost use Rattle.controller.specs.Requests.{requestFits};
+ghost use Rattle.taking.specs.Perform.{performResult, performOf};
+ghost use Rattle.taking.specs.Take.{call, result, takenWith, buffersFit, rangeFits, takenOf, takeOf, endingNumber};
 use controller::Cycle;
+use controller::Record;
 use decoder::Decoder;
-use recogniser::Event;
 use recogniser::Recogniser;
+use recogniser::Request;
 use registers::Model;
 use registers::Plan;
 
@@ -38,8 +44,8 @@ impl Ending {
     }
 }
 
-// What a taking call tells beside the state: bits taken, records written, and its ending.
-pub struct Told {
+// What a taking call reports beside the state: bits taken, records written, and its ending.
+pub struct Report {
     pub bits: usize,
     pub records: usize,
     pub ending: Ending,
@@ -47,16 +53,16 @@ pub struct Told {
 
 pub struct Taken {
     pub decoder: Decoder,
-    pub told: Told,
+    pub report: Report,
 }
 
 // A record's two words at the start of the rest of the list.
-fn write_record(rest: &mut [u64], head: u64, value: u64)
-    requires { ⌜ 2 ≤ length (now rest) ⌝ }
-    ensures { λ _. ⌜ now (rest .exit) ≡ set (set (now (rest .entry)) 0 head) 1 value ⌝ }
+fn write_record(rest: &mut [u64], entry: Record)
+    requires { ⌜ (entry .time < clockLimit) × (listUnit ≤ length (now rest)) ⌝ }
+    ensures { λ _. ⌜ now (rest .exit) ≡ set (set (now (rest .entry)) 0 (headOf entry)) 1 (entry .value) ⌝ }
 {
-    rest[0] = head;
-    rest[1] = value;
+    rest[0] = entry.head();
+    rest[1] = entry.value;
 }
 
 // Whether a call's store, tray and first free word are fit, by their lengths.
@@ -85,11 +91,11 @@ fn range_fits(input: &[u8], first: usize, count: usize) -> bool
 impl Taken {
     // A refused call: the state as it came, and nothing taken.
     fn refused(decoder: Decoder, ending: Ending) -> Taken
-        ensures { λ r. ⌜ r ≡ (record { decoder = decoder; told = record { bits = 0; records = 0; ending = ending } }) ⌝ }
+        ensures { λ r. ⌜ r ≡ takenWith decoder 0 0 ending ⌝ }
     {
         Taken {
             decoder: decoder,
-            told: Told {
+            report: Report {
                 bits: 0,
                 records: 0,
                 ending: ending,
@@ -97,34 +103,81 @@ impl Taken {
         }
     }
 
-    // What a call tells after so many bits, with the list filled up to a word.
-    fn told(decoder: Decoder, bits: usize, words: usize, ending: Ending) -> Taken
-        ensures { λ r. ⌜ r ≡ (record { decoder = decoder; told = record { bits = bits; records = words / 2; ending = ending } }) ⌝ }
+    // A call at its end: the state that the loop's locals make up, the bits taken, and the list filled up to a word.
+    fn ended(
+        plan: Plan,
+        start: u64,
+        recogniser: Recogniser,
+        model: Model,
+        taken: usize,
+        at: usize,
+        free: usize,
+        ending: Ending,
+    ) -> Taken
+        requires { ⌜ (start + taken ≤ clockLimit) × (free ≤ at) ⌝ }
+        ensures { λ r. ⌜ r ≡ takenWith (record { plan = plan; next = start + taken; recogniser = recogniser; model = model }) taken ((at - free) / listUnit) ending ⌝ }
     {
         Taken {
-            decoder: decoder,
-            told: Told {
-                bits: bits,
-                records: words / Decoder::LIST_UNIT,
+            decoder: Decoder {
+                plan: plan,
+                next: start + taken as u64,
+                recogniser: recogniser,
+                model: model,
+            },
+            report: Report {
+                bits: taken,
+                records: (at - free) / Decoder::LIST_UNIT,
                 ending: ending,
             },
         }
     }
 }
 
-// The state that the loop's locals make up.
-fn joined(plan: Plan, next: u64, recogniser: Recogniser, model: Model) -> Decoder
-    ensures { λ r. ⌜ r ≡ (record { plan = plan; next = next; recogniser = recogniser; model = model }) ⌝ }
+// What is left once a request is performed: the model with its CNT, the next free word of the list, and whether the call stops here.
+struct Performed {
+    model: Model,
+    cnt: u16,
+    at: usize,
+    stops: bool,
+}
+
+// Performs a request at its cycle: its effect, and its record in the list.
+fn perform(
+    model: Model,
+    plan: Plan,
+    request: Request,
+    time: u64,
+    store: &mut [u32],
+    list: &mut [u64],
+    at: usize,
+) -> Performed
+    requires { ⌜ (time < clockLimit) × (length (now store) ≡ storeLength) × (requestFits request ≡ true) × (listUnit ≤ length (now list) - at) ⌝ }
+    ensures { λ r. ⌜ performResult r (now (store .exit)) (now (list .exit))
+        ≡ performOf plan model request time (now (store .entry)) (now (list .entry)) at ⌝ }
 {
-    Decoder {
-        plan: plan,
-        next: next,
-        recogniser: recogniser,
-        model: model,
+    let acted = controller::act(model, plan, request, time, store);
+    let m = acted.model;
+    let cnt = m.cnt(plan);
+    let cycle = acted.cycle;
+    let Cycle::Recorded { entry } = cycle else {
+        return Performed {
+            model: m,
+            cnt: cnt,
+            at: at,
+            stops: false,
+        };
+    };
+    write_record(&mut list[at..], entry);
+    Performed {
+        model: m,
+        cnt: cnt,
+        at: at + Decoder::LIST_UNIT,
+        stops: entry.is_frame(),
     }
 }
 
-// A call that is not refused, stretch by stretch. The recogniser, CNT and the counts are locals; arrays are touched only when an event asks for it.
+// A call that is not refused, stretch by stretch. The recogniser, CNT and the counts are locals; arrays are touched only when a frame bit or a request
+// asks for it.
 fn run(
     decoder: Decoder,
     input: &[u8],
@@ -135,9 +188,10 @@ fn run(
     list: &mut [u64],
     free: usize,
 ) -> Taken
-    requires { ⌜ (decoder .next + count ≤ 2 ^ 48) × (length (now store) ≡ 2048) ⌝ }
-    requires { ⌜ (length (now input) ≤ 65536) × (first + count ≤ 8 * length (now input)) × (free ≤ length (now list)) ⌝ }
-    ensures { λ r. ⌜ (record { taken = r; store = now (store .exit); tray = now (tray .exit); list = now (list .exit) }) ≡ takenOf decoder (record { input = now (input .entry); first = first; count = count; store = now (store .entry); tray = now (tray .entry); list = now (list .entry); free = free }) ⌝ }
+    requires { ⌜ (decoder .next + count ≤ clockLimit) × (length (now store) ≡ storeLength) ⌝ }
+    requires { ⌜ (length (now input) ≤ inputLimit) × (first + count ≤ 8 * length (now input)) × (free ≤ length (now list)) ⌝ }
+    ensures { λ r. ⌜ result r (now (store .exit)) (now (tray .exit)) (now (list .exit))
+        ≡ takenOf decoder (call (now (input .entry)) first count (now (store .entry)) (now (tray .entry)) (now (list .entry)) free) ⌝ }
 {
     let plan = decoder.plan;
     let start = decoder.next;
@@ -148,35 +202,64 @@ fn run(
     let mut at = free;
     while taken < count {
         if list.len() - at < Decoder::LIST_UNIT {
-            let d = joined(plan, start + taken as u64, recogniser, model);
-            return Taken::told(d, taken, at - free, Ending::ListFull);
+            return Taken::ended(
+                plan,
+                start,
+                recogniser,
+                model,
+                taken,
+                at,
+                free,
+                Ending::ListFull,
+            );
         }
         let stretch = stretches::advance(recogniser, input, first + taken, first + count, cnt);
         let next = stretch.next;
         recogniser = next;
         taken = taken + stretch.taken;
         let event = stretch.event;
-        if let Event::Nothing = event {
+        let frame = event.frame;
+        frames::keep(tray, frame);
+        let request = event.request;
+        if let Request::Nothing = request {
             continue;
         }
-        frames::keep(tray, event);
-        let acted = controller::act(model, plan, event, start + taken as u64 - 1, store);
-        let m = acted.model;
+        let done = perform(
+            model,
+            plan,
+            request,
+            start + taken as u64 - 1,
+            store,
+            list,
+            at,
+        );
+        let m = done.model;
         model = m;
-        cnt = m.cnt(plan);
-        let cycle = acted.cycle;
-        let Cycle::Record { head, value } = cycle else {
-            continue;
-        };
-        write_record(&mut list[at..], head, value);
-        at = at + Decoder::LIST_UNIT;
-        if controller::is_frame_head(head) {
-            let d = joined(plan, start + taken as u64, recogniser, model);
-            return Taken::told(d, taken, at - free, Ending::Frame);
+        cnt = done.cnt;
+        at = done.at;
+        if done.stops {
+            return Taken::ended(
+                plan,
+                start,
+                recogniser,
+                model,
+                taken,
+                at,
+                free,
+                Ending::Frame,
+            );
         }
     }
-    let d = joined(plan, start + count as u64, recogniser, model);
-    Taken::told(d, taken, at - free, Ending::Done)
+    Taken::ended(
+        plan,
+        start,
+        recogniser,
+        model,
+        taken,
+        at,
+        free,
+        Ending::Done,
+    )
 }
 
 // Takes bits `first` to `first + count` of the input, one a cycle, and writes their records into the rest of the list from word `free` on. It stops
@@ -191,7 +274,8 @@ pub fn take(
     list: &mut [u64],
     free: usize,
 ) -> Taken
-    ensures { λ r. ⌜ (record { taken = r; store = now (store .exit); tray = now (tray .exit); list = now (list .exit) }) ≡ takeOf decoder (record { input = now (input .entry); first = first; count = count; store = now (store .entry); tray = now (tray .entry); list = now (list .entry); free = free }) ⌝ }
+    ensures { λ r. ⌜ result r (now (store .exit)) (now (tray .exit)) (now (list .exit))
+        ≡ takeOf decoder (call (now (input .entry)) first count (now (store .entry)) (now (tray .entry)) (now (list .entry)) free) ⌝ }
 {
     if !decoder.sound() {
         return Taken::refused(decoder, Ending::Unsound);

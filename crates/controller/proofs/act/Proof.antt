@@ -1,4 +1,4 @@
--- `act` does what `actOf` says: by the event, what the function for it ensures. A `Fast` or a frame that fits has a kind within a byte.
+-- `act` does what `actOf` says: by the request, what the function for it ensures. A Fast that fits has a kind within a byte.
 -- Assumes nothing.
 use borrow.Author.Tests.{ltb-true}
 use borrow.Author.Needs.{needs}
@@ -12,59 +12,31 @@ enum-told c = search needs
 silent-requires : tie.Need-silent-requires
 silent-requires c κs = search needs
 
-enum-known-event : tie.Need-enum-known-event
-enum-known-event c = search needs
+enum-known-request : tie.Need-enum-known-request
+enum-known-request c = search needs
 
 lv1-requires : tie.Need-lv1-requires
 lv1-requires c κs = search needs
 
-enum-known-event-2 : tie.Need-enum-known-event-2
-enum-known-event-2 c = search needs
+enum-known-request-2 : tie.Need-enum-known-request-2
+enum-known-request-2 c = search needs
 
 fast-requires : tie.Need-fast-requires
-fast-requires c κs = (c .before .before .before .before .pre .0, ltb-true _ _ (rw (c .before .event2 .given .1) at (c .before .before .before .before .pre .2)))
+fast-requires c κs = ltb-true _ _ (rw (c .before .request2 .given .1) at (c .before .before .before .before .pre .1))
 
-enum-known-event-3 : tie.Need-enum-known-event-3
-enum-known-event-3 c = search needs
+enum-known-request-3 : tie.Need-enum-known-request-3
+enum-known-request-3 c = search needs
 
 bad-fast-requires : tie.Need-bad-fast-requires
 bad-fast-requires c κs = search needs
 
-enum-told-2 : tie.Need-enum-told-2
-enum-told-2 c = search needs
-
-leave-requires : tie.Need-leave-requires
-leave-requires c κs = search needs
-
-enum-known-event-4 : tie.Need-enum-known-event-4
-enum-known-event-4 c = search needs
+enum-known-request-4 : tie.Need-enum-known-request-4
+enum-known-request-4 c = search needs
 
 slow-requires : tie.Need-slow-requires
-slow-requires c κs = search needs
-
-enum-known-event-5 : tie.Need-enum-known-event-5
-enum-known-event-5 c = search needs
-
-bad-slow-requires : tie.Need-bad-slow-requires
-bad-slow-requires c κs = search needs
-
-enum-told-3 : tie.Need-enum-told-3
-enum-told-3 c = search needs
-
-silent-requires-2 : tie.Need-silent-requires-2
-silent-requires-2 c κs = search needs
-
-enum-known-event-6 : tie.Need-enum-known-event-6
-enum-known-event-6 c = search needs
-
-frame-requires : tie.Need-frame-requires
-frame-requires c κs = (c .before .before .before .before .pre .0, ltb-true _ _ (rw (c .before .event6 .given .1) at (c .before .before .before .before .pre .2)))
-
-enum-known-event-7 : tie.Need-enum-known-event-7
-enum-known-event-7 c = search needs
-
-frame-requires-2 : tie.Need-frame-requires-2
-frame-requires-2 c κs = (c .before .before .before .before .pre .0, ltb-true _ _ (rw (c .before .event7 .given .1) at (c .before .before .before .before .pre .2)))
+slow-requires c κs =
+    let s = c .before .before .before .before in
+    (s .before .pre .0, rw (c .before .before .request4 .given .1) at (s .before .pre .1))
 
 returns : tie.Need-returns
 unfolding actOf
@@ -72,42 +44,24 @@ returns c = simp (c .before .enum-told .given .1, c .silent .ensures)
 
 returns-2 : tie.Need-returns-2
 unfolding actOf
-returns-2 c = simp (c .before .before .event .given .1, c .lv1 .ensures)
+returns-2 c = simp (c .before .before .request .given .1, c .lv1 .ensures)
 
 returns-3 : tie.Need-returns-3
 unfolding actOf
-returns-3 c = simp (c .before .before .event2 .given .1, c .fast .ensures)
+returns-3 c = simp (c .before .before .request2 .given .1, c .fast .ensures)
 
 returns-4 : tie.Need-returns-4
 unfolding actOf
-returns-4 c = simp (c .before .before .event3 .given .1, c .bad-fast .ensures)
-
-returns-5 : tie.Need-returns-5
-unfolding actOf
-returns-5 c = simp (c .before .enum-told2 .given .1, c .leave .ensures)
+returns-4 c = simp (c .before .before .request3 .given .1, c .bad-fast .ensures)
 
 same-length : tie.Need-same-length
 same-length c = search needs
 
-returns-6 : tie.Need-returns-6
+returns-5 : tie.Need-returns-5
 unfolding actOf
-returns-6 c = simp (c .before .before .before .before .before .event4 .given .1, c .before .before .slow .ensures)
-
-returns-7 : tie.Need-returns-7
-unfolding actOf
-returns-7 c = simp (c .before .before .event5 .given .1, c .bad-slow .ensures)
-
-returns-8 : tie.Need-returns-8
-unfolding actOf
-returns-8 c = simp (c .before .enum-told3 .given .1, c .silent2 .ensures)
-
-returns-9 : tie.Need-returns-9
-unfolding actOf
-returns-9 c = simp (c .before .before .event6 .given .1, c .frame .ensures)
-
-returns-10 : tie.Need-returns-10
-unfolding actOf
-returns-10 c = simp (c .before .before .event7 .given .1, c .frame2 .ensures)
+returns-5 c =
+    let did = c .before .before in
+    simp (did .before .before .before .request4 .given .1, did .slow .ensures)
 
 pub act-spec : {M : Type 1} → statement M
 act-spec =
@@ -115,32 +69,17 @@ act-spec =
     (tie.spec
     enum-told
     silent-requires
-    enum-known-event
+    enum-known-request
     lv1-requires
-    enum-known-event-2
+    enum-known-request-2
     fast-requires
-    enum-known-event-3
+    enum-known-request-3
     bad-fast-requires
-    enum-told-2
-    leave-requires
-    enum-known-event-4
+    enum-known-request-4
     slow-requires
-    enum-known-event-5
-    bad-slow-requires
-    enum-told-3
-    silent-requires-2
-    enum-known-event-6
-    frame-requires
-    enum-known-event-7
-    frame-requires-2
     returns
     returns-2
     returns-3
     returns-4
-    returns-5
     same-length
-    returns-6
-    returns-7
-    returns-8
-    returns-9
-    returns-10)
+    returns-5)

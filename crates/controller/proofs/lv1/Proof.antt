@@ -14,11 +14,11 @@ answer-requires c κs = search needs
 
 returns : tie.Need-returns
 returns c =
-    let d = c .before .before .before in
+    let f = c .before .before .before in
     simp (
-      not-true (d .before .before .args .model .running) (c .before .if1 .taken),
+      not-true (f .before .before .before .args .model .running) (c .before .if1 .taken),
       c .answer .ensures,
-      d .flag .ensures .0,
+      f .flag .ensures .0,
       zero-add,
       add-zero,
     )
@@ -41,14 +41,14 @@ bunch-requires c κs = search needs
 add-value : tie.Need-add-value
 add-value c = search needs
 
-cast-m : tie.Need-cast-m
-cast-m c = search needs
+cast-counters : tie.Need-cast-counters
+cast-counters c = search needs
 
-add-m : tie.Need-add-m
-add-m c = search needs
+add-counters : tie.Need-add-counters
+add-counters c = search needs
 
-cast-m-2 : tie.Need-cast-m-2
-cast-m-2 c = search needs
+cast-counters-2 : tie.Need-cast-counters-2
+cast-counters-2 c = search needs
 
 add-answer : tie.Need-add-answer
 add-answer c = search needs
@@ -61,14 +61,14 @@ answer-requires-2 c κs = search needs
 
 returns-2 : tie.Need-returns-2
 returns-2 c =
-    let d = c .before .before .before .before in
-    let s = d .before .before .before .before in
+    let sent = c .before .before .before .before .before in
+    let f = sent .before .before .before .before in
     simp (
-      not-false (s .before .before .args .model .running) (d .before .before .if1 .left),
+      not-false (f .before .before .before .args .model .running) (sent .before .before .if1 .left),
       c .answer2 .ensures,
-      s .flag .ensures .0,
-      d .flag2 .ensures .0,
-      d .before .register .ensures,
+      f .flag .ensures .0,
+      sent .flag2 .ensures .0,
+      sent .before .register .ensures,
       c .before .before .bunch .ensures,
     )
 
@@ -85,9 +85,9 @@ lv1-spec =
     mul-value
     bunch-requires
     add-value
-    cast-m
-    add-m
-    cast-m-2
+    cast-counters
+    add-counters
+    cast-counters-2
     add-answer
     add-answer-2
     answer-requires-2

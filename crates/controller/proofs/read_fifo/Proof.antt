@@ -16,8 +16,8 @@ read-word-requires c κs = search needs
 moved-on-requires : tie.Need-moved-on-requires
 moved-on-requires c κs = search needs
 
-element-write-m : tie.Need-element-write-m
-element-write-m c = search needs
+element-write-pointers : tie.Need-element-write-pointers
+element-write-pointers c = search needs
 
 cast-value : tie.Need-cast-value
 cast-value c = search needs
@@ -48,7 +48,7 @@ read-fifo-spec =
     element-copy-out-pointer
     read-word-requires
     moved-on-requires
-    element-write-m
+    element-write-pointers
     cast-value
     mul-value
     cast-value-2

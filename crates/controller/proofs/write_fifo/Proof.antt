@@ -1,7 +1,7 @@
 -- `write_fifo` does what `writeFifoOf` says, by what `write_all` ensures.
 -- Assumes nothing.
 use borrow.Author.Needs.{needs}
-use Rattle.controller.proofs.Wrote.{wrote}
+use Rattle.controller.proofs.FifoWrite.{wrote}
 use Rattle.controller.proofs.write_fifo.Statement.{statement}
 use Rattle.controller.proofs.write_fifo.Tie as tie
 
@@ -25,9 +25,11 @@ same-length c = search needs
 
 returns : tie.Need-returns
 returns c =
-    let a = c .before .before .before .before .before .before .before .before .args in
+    let w = c .before .before .before in
+    let f = w .before .before .before .before in
+    let a = f .before .before .args in
     rw (c .answer .ensures)
-    (wrote (a .plan) (a .model) (a .value) (a .time) _ _ _ (rw (c .before .before .before .before .before .before .register .ensures) at (c .before .before .before .write-all .ensures)))
+    (wrote (a .plan) (a .model) (a .value) (a .time) _ _ _ (rw (f .register .ensures) at (w .write-all .ensures)))
 
 pub write-fifo-spec : {M : Type 1} → statement M
 write-fifo-spec =

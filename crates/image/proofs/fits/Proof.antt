@@ -32,10 +32,11 @@ same-requires c κs = search needs
 returns-2 : tie.Need-returns-2
 unfolding imageFits
 returns-2 c =
-    let c5 = c .before .before .before .before .before in
-    let image = c5 .before .before .before .args .image .now in
-    simp (eq-eqb (length image) imageLength (c5 .before .if1 .left))
-    (c .same .ensures ∙ ap (λ (w : List ℕ). sameWords w image) (c .before .before .before .write .ensures .0 ∙ ap imageOf (c5 .read .ensures)))
+    let w = c .before .before .before in
+    let r = w .before .before in
+    let image = r .before .before .before .args .image .now in
+    simp (eq-eqb (length image) imageLength (r .before .if1 .left))
+    (c .same .ensures ∙ ap (λ (l : List ℕ). sameWords l image) (w .write .ensures .0 ∙ ap imageOf (r .read .ensures)))
 
 pub fits-spec : {M : Type 1} → statement M
 fits-spec =

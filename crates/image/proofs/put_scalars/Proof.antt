@@ -3,18 +3,18 @@
 use mathlib.Core.Path.{refl}
 use Prim.Native.Nat.{_-_}
 use borrow.Author.Needs.{needs}
-use Rattle.image.proofs.Puts.{Left, begun, again-first, over}
+use Rattle.image.proofs.WriteLoop.{Invariant, initially, again-first, over}
 use Rattle.image.proofs.put_scalars.Statement.{statement}
 use Rattle.image.proofs.put_scalars.Tie as tie
 
 abbrev Inv-loop : tie.InvT-loop
-Inv-loop image₀ numbers n₀ image n = Left image₀ 0 numbers image n
+Inv-loop image₀ numbers n₀ image n = Invariant image₀ 0 numbers image n
 
 abbrev μ-loop : tie.MeasureT-loop
 μ-loop image₀ numbers n₀ image n = 20 - n
 
 loop-holds : tie.Need-loop-holds Inv-loop μ-loop
-loop-holds c = begun _ _ _
+loop-holds c = initially _ _ _
 
 mul-image : tie.Need-mul-image Inv-loop μ-loop
 mul-image c = search needs

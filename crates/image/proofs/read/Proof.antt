@@ -1,7 +1,27 @@
-use Rattle.image.specs.Image.{stateOf}
+-- `read` makes the state of its parts, each as its own function reads it.
+-- Assumes nothing.
 use borrow.Author.Needs.{needs}
+use Rattle.image.specs.Image.{stateOf}
 use Rattle.image.proofs.read.Statement.{statement}
 use Rattle.image.proofs.read.Tie as tie
+
+shared-slice-read-next : tie.Need-shared-slice-read-next
+shared-slice-read-next c = search needs
+
+shared-slice-read-phase-of : tie.Need-shared-slice-read-phase-of
+shared-slice-read-phase-of c = search needs
+
+phase-of-requires : tie.Need-phase-of-requires
+phase-of-requires c κs = search needs
+
+u16-at-requires : tie.Need-u16-at-requires
+u16-at-requires c κs = search needs
+
+u8-at-requires : tie.Need-u8-at-requires
+u8-at-requires c κs = search needs
+
+u8-at-requires-2 : tie.Need-u8-at-requires-2
+u8-at-requires-2 c κs = search needs
 
 plan-at-requires : tie.Need-plan-at-requires
 plan-at-requires c κs = search needs
@@ -12,19 +32,31 @@ recogniser-at-requires c κs = search needs
 model-at-requires : tie.Need-model-at-requires
 model-at-requires c κs = search needs
 
-shared-slice-read-t6 : tie.Need-shared-slice-read-t6
-shared-slice-read-t6 c = search needs
-
 returns : tie.Need-returns
 unfolding stateOf
-returns c = rw (c .before .model-at .ensures, c .before .before .recogniser-at .ensures, c .before .before .before .plan-at .ensures)
+returns c =
+    let p = c .before .before in
+    rw (
+      c .model-at .ensures,
+      c .before .recogniser-at .ensures,
+      p .plan-at .ensures,
+      p .before .u8-at2 .ensures,
+      p .before .before .u8-at .ensures,
+      p .before .before .before .u16-at .ensures,
+      p .before .before .before .before .phase-of .ensures,
+    )
 
 pub read-spec : {M : Type 1} → statement M
 read-spec =
     tie.close
     (tie.spec
+    shared-slice-read-next
+    shared-slice-read-phase-of
+    phase-of-requires
+    u16-at-requires
+    u8-at-requires
+    u8-at-requires-2
     plan-at-requires
     recogniser-at-requires
     model-at-requires
-    shared-slice-read-t6
     returns)

@@ -3,18 +3,18 @@
 use Prim.Native.Nat.{_-_}
 use lib.ListN.{length}
 use borrow.Author.Needs.{needs}
-use Rattle.image.proofs.Words.{Left, begun, differ, again, over}
+use Rattle.image.proofs.CompareLoop.{Invariant, initially, differ, again, over}
 use Rattle.image.proofs.same.Statement.{statement}
 use Rattle.image.proofs.same.Tie as tie
 
 abbrev Inv-loop : tie.InvT-loop
-Inv-loop a b k₀ k = Left a b k
+Inv-loop a b k₀ k = Invariant a b k
 
 abbrev μ-loop : tie.MeasureT-loop
 μ-loop a b k₀ k = length a - k
 
 loop-holds : tie.Need-loop-holds Inv-loop μ-loop
-loop-holds c = begun _ _
+loop-holds c = initially _ _
 
 mul-if1 : tie.Need-mul-if1 Inv-loop μ-loop
 mul-if1 c = search needs

@@ -1,18 +1,23 @@
 -- `write` writes the image part by part; read back, it is the state, whose numbers fit by their types.
 -- Assumes nothing.
-use mathlib.Core.Path.{ap, _∙_}
+use borrow.Author.Needs.{needs}
 use mathlib.Core.List.{List}
+use mathlib.Core.Path.{ap, _∙_}
 use Prim.Native.Nat.{ℕ}
-use lib.ListN.{getD}
+use native.Mathlib.Omega.{arith}
+use lib.ListN.{set}
 use lib.Seq.{sets}
 use mir.Syntax.{w8, w16}
-use mir.Val.{Fits}
-use mir.Facts.{fits-lt-pow}
-use borrow.Author.Needs.{needs}
-use Rattle.image.specs.Image.{stateOf, Widths}
-use Rattle.image.proofs.Images.{written, read-back}
+use Rattle.image.specs.Fields.{fields}
+use Rattle.image.specs.Image.{placeOf, scalarsOf, stateOf, NumbersKeep, ArraysKeep, Widths}
+use Rattle.image.proofs.RoundTrip.{read-back}
+use Rattle.image.proofs.Stored.{written}
+use Rattle.image.proofs.Widths.{array-keeps}
 use Rattle.image.proofs.write.Statement.{statement}
 use Rattle.image.proofs.write.Tie as tie
+
+phase-number-requires : tie.Need-phase-number-requires
+phase-number-requires c κs = search needs
 
 scalars-requires : tie.Need-scalars-requires
 scalars-requires c κs = search needs
@@ -20,57 +25,67 @@ scalars-requires c κs = search needs
 put-scalars-requires : tie.Need-put-scalars-requires
 put-scalars-requires c κs = search needs
 
-put-registers-requires : tie.Need-put-registers-requires
-put-registers-requires c κs = search needs
+put-u16-requires : tie.Need-put-u16-requires
+put-u16-requires c κs = search needs
 
-put-pointers-requires : tie.Need-put-pointers-requires
-put-pointers-requires c κs = search needs
+put-u8-requires : tie.Need-put-u8-requires
+put-u8-requires c κs = search needs
 
-put-pointers-requires-2 : tie.Need-put-pointers-requires-2
-put-pointers-requires-2 c κs = search needs
+put-u8-requires-2 : tie.Need-put-u8-requires-2
+put-u8-requires-2 c κs = search needs
 
 same-length : tie.Need-same-length
 same-length c = search needs
 
+-- The places that the proof looks back to: the call's start, the scalars stored, and the registers.
+abbrev began : tie.After-put-scalars → tie.Start
+began p = p .before .before .before .before .before .before .before .before .before .before .before
+
+abbrev at-scalars : tie.After-put-u16 → tie.After-put-scalars
+at-scalars p = p .before .before .before .before
+
+abbrev at-registers : tie.After-put-u8 → tie.After-put-u16
+at-registers p = p .before .before .before .before
+
+numbers-keep : (s : tie.Start) → NumbersKeep fields (s .args .d)
+numbers-keep s = omega arith
+
+arrays-keep : (s : tie.Start) → ArraysKeep fields (s .args .d)
+arrays-keep s =
+    let known = s .good .0 .1 .1 .1 .1 .1 .0 in (
+      array-keeps w16 _ (search needs) (λ (n : ℕ). search needs),
+      (array-keeps w8 _ (search needs) (λ (n : ℕ). search needs), (array-keeps w8 _ (search needs) (λ (n : ℕ). search needs), tt)),
+    )
+
+widths : (s : tie.Start) → Widths (s .args .d)
+widths s = record { numbers = numbers-keep s; arrays = arrays-keep s }
+
 returns : tie.Need-returns
 returns c =
-    let c6 = c .before .before .before .before .before .before in
-    let c10 = c6 .before .before .before .before in
-    let c18 = c10 .before .before .before .before .before .before .before .before in
-    let c22 = c18 .before .before .before .before in
-    let plan = c22 .good .0 .1 .1 .0 in
-    let recogniser = c22 .good .0 .1 .1 .1 .1 .0 in
-    let model = c22 .good .0 .1 .1 .1 .1 .1 .0 in
-    let w : Widths (c22 .args .d) = record {
-      mask = let known = plan .1 .1 .0 in search needs;
-      csr = let known = plan .1 .1 .1 .0 in search needs;
-      feen = let known = plan .1 .1 .1 .1 .0 in search needs;
-      cnt = let known = plan .1 .1 .1 .1 .1 .0 in search needs;
-      shift = let known = recogniser .1 .1 .1 .0 in search needs;
-      command = let known = recogniser .1 .1 .1 .1 .0 in search needs;
-      address = let known = recogniser .1 .1 .1 .1 .1 .0 in search needs;
-      count = let known = recogniser .1 .1 .1 .1 .1 .1 .0 in search needs;
-      held = let known = recogniser .1 .1 .1 .1 .1 .1 .1 .0 in search needs;
-      l1id = let known = model .1 .1 .1 .0 in search needs;
-      registers = let known = model .1 .1 .1 .1 .1 .1 .1 .1 .0 in search needs;
-      writes = let known = model .1 .1 .1 .1 .1 .1 .1 .1 .1 .0 in search needs;
-      reads = let known = model .1 .1 .1 .1 .1 .1 .1 .1 .1 .1 .0 in search needs;
-      register = λ (n : ℕ) h. let known = model .1 .1 .1 .1 .1 .1 .1 .1 .0 in let fit : Fits w16 (getD (c22 .args .d .model .registers) n 0) = search needs in fits-lt-pow fit;
-      write = λ (n : ℕ) h. let known = model .1 .1 .1 .1 .1 .1 .1 .1 .1 .0 in let fit : Fits w8 (getD (c22 .args .d .model .writes) n 0) = search needs in fits-lt-pow fit;
-      read = λ (n : ℕ) h. let known = model .1 .1 .1 .1 .1 .1 .1 .1 .1 .1 .0 in let fit : Fits w8 (getD (c22 .args .d .model .reads) n 0) = search needs in fits-lt-pow fit;
-    } in
-    let front = c18 .put-scalars .ensures ∙ ap (λ (s : List ℕ). sets (c22 .args .image .now) 0 s) (c18 .before .scalars .ensures) in
-    let e = written (c22 .args .d) w (c22 .args .image .now) _ _ _ _ (c22 .pre) front (c10 .put-registers .ensures) (c6 .put-pointers .ensures) (c .before .before .put-pointers2 .ensures) in
-    (e, ap stateOf e ∙ read-back (c22 .args .d) w)
+    let q = c .before .before in
+    let p = q .before .before .before .before in
+    let r = at-registers p in
+    let o = at-scalars r in
+    let s = began o in
+    let d = s .args .d in
+    let image = s .args .image .now in
+    let numbers = o .before .scalars .ensures ∙ ap (set (scalarsOf d) (placeOf "phase")) (o .before .before .phase-number .ensures) in
+    let one = o .put-scalars .ensures ∙ ap (sets image 0) numbers in
+    let two = r .put-u16 .ensures ∙ ap (λ (l : List ℕ). sets l (placeOf "registers") (d .model .registers)) one in
+    let three = p .put-u8 .ensures ∙ ap (λ (l : List ℕ). sets l (placeOf "writes") (d .model .pointers .writes)) two in
+    let four = q .put-u82 .ensures ∙ ap (λ (l : List ℕ). sets l (placeOf "reads") (d .model .pointers .reads)) three in
+    let e = four ∙ written d (widths s) image (s .pre) in
+    (e, ap stateOf e ∙ read-back d (widths s))
 
 pub write-spec : {M : Type 1} → statement M
 write-spec =
     tie.close
     (tie.spec
+    phase-number-requires
     scalars-requires
     put-scalars-requires
-    put-registers-requires
-    put-pointers-requires
-    put-pointers-requires-2
+    put-u16-requires
+    put-u8-requires
+    put-u8-requires-2
     same-length
     returns)

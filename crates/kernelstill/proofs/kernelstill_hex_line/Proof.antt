@@ -1,6 +1,6 @@
 -- `kernelstill_hex_line` reads a line where there is room for the longest.
 -- Assumes nothing.
-use Rattle.kernelstill.proofs.Laws.{small, line-read}
+use Rattle.kernelstill.proofs.LineCases.{small, line-read}
 use borrow.Author.Needs.{needs}
 use Rattle.kernelstill.proofs.kernelstill_hex_line.Statement.{statement}
 use Rattle.kernelstill.proofs.kernelstill_hex_line.Tie as tie
@@ -22,8 +22,10 @@ same-length c = search needs
 
 returns-2 : tie.Need-returns-2
 returns-2 c =
-    let a = c .before .before .before .before .before .before .before .before .args in
-    rw (c .number .ensures) (line-read (a .line .now) (a .bytes .now) (c .before .before .before .before .before .if1 .left) (c .before .before .before .read-line .result) _ (c .before .before .before .read-line .ensures))
+    let r = c .before .before .before in
+    let e = r .before .before in
+    let a = e .before .before .before .args in
+    rw (c .number .ensures) (line-read (a .line .now) (a .bytes .now) (e .if1 .left) (r .read-line .result) _ (r .read-line .ensures))
 
 pub kernelstill-hex-line-spec : {M : Type 1} → statement M
 kernelstill-hex-line-spec =

@@ -1,6 +1,6 @@
 -- `kernelstill_record_line` puts the line at the start, or nothing where it has no room.
 -- Assumes nothing.
-use Rattle.kernelstill.proofs.Laws.{line-left-out, line-put}
+use Rattle.kernelstill.proofs.LineCases.{line-left-out, line-put}
 use borrow.Author.Needs.{needs}
 use Rattle.kernelstill.proofs.kernelstill_record_line.Statement.{statement}
 use Rattle.kernelstill.proofs.kernelstill_record_line.Tie as tie

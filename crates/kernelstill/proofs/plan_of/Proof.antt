@@ -22,7 +22,8 @@ empty-plan-requires-3 c κs = search needs
 
 returns-3 : tie.Need-returns-3
 returns-3 c =
-    simp (c .empty-plan3 .ensures, lt-ltb _ _ (c .before .before .before .if1 .left), lt-ltb _ _ (c .before .before .if2 .left), le-ltb _ _ (c .before .if3 .taken))
+    let d = c .before .before in
+    simp (c .empty-plan3 .ensures, lt-ltb _ _ (d .before .if1 .left), lt-ltb _ _ (d .if2 .left), le-ltb _ _ (c .before .if3 .taken))
 
 empty-plan-requires-4 : tie.Need-empty-plan-requires-4
 empty-plan-requires-4 c κs = search needs
@@ -51,7 +52,8 @@ cast-t9 c = search needs
 
 returns-5 : tie.Need-returns-5
 returns-5 c =
-    simp (lt-ltb _ _ (c .before .before .before .if1 .left), lt-ltb _ _ (c .before .before .if2 .left), lt-ltb _ _ (c .before .if3 .left), lt-ltb _ _ (c .if4 .left))
+    let d = c .before .before in
+    simp (lt-ltb _ _ (d .before .if1 .left), lt-ltb _ _ (d .if2 .left), lt-ltb _ _ (c .before .if3 .left), lt-ltb _ _ (c .if4 .left))
 
 pub plan-of-spec : {M : Type 1} → statement M
 plan-of-spec =

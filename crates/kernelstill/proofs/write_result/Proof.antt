@@ -1,7 +1,7 @@
 -- `write_result` writes three words over three.
 -- Assumes nothing.
-use Rattle.image.proofs.Puts.{covered}
-use Rattle.kernelstill.specs.Take.{resultOf}
+use Rattle.image.proofs.WriteLoop.{covered}
+use Rattle.kernelstill.specs.Take.{resultWords}
 use borrow.Author.Needs.{needs}
 use Rattle.kernelstill.proofs.write_result.Statement.{statement}
 use Rattle.kernelstill.proofs.write_result.Tie as tie
@@ -22,7 +22,9 @@ same-length : tie.Need-same-length
 same-length c = search needs
 
 returns : tie.Need-returns
-returns c = rw (c .ending-code .ensures) (covered (c .before .before .args .result .now) (resultOf (c .before .before .args .answer)) (c .before .before .pre))
+returns c =
+    let s = c .before .before in
+    rw (c .ending-code .ensures) (covered (s .args .result .now) (resultWords (s .args .answer)) (s .pre))
 
 pub write-result-spec : {M : Type 1} → statement M
 write-result-spec =

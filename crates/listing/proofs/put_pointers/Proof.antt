@@ -20,13 +20,13 @@ abbrev μ-loop : tie.MeasureT-loop
 
 -- The places that the proofs look back to.
 abbrev start : tie.At-loop Inv-loop μ-loop → tie.Start Inv-loop μ-loop
-start l = l .before .before .before .before
+start l = let p = l .before .before .before in p .before .before
 
 abbrev text : tie.At-loop Inv-loop μ-loop → ℕ → List ℕ
-text l = let m = start l .args .model in pointersText (m .writes) (m .reads)
+text l = let m = start l .args .model in pointersText (m .pointers .writes) (m .pointers .reads)
 
 loop-holds : tie.Need-loop-holds Inv-loop μ-loop
-loop-holds c = (omega arith, none-put _ _ _ (c .before .before .before .pre))
+loop-holds c = (omega arith, none-put _ _ _ (c .before .before .before .before .pre))
 
 array-read-pointers-line : tie.Need-array-read-pointers-line Inv-loop μ-loop
 array-read-pointers-line c = search needs

@@ -12,7 +12,7 @@ use Rattle.listing.proofs.put_state.Tie as tie
 
 -- The places that the proofs look back to, each by the one after it.
 abbrev beforeRegisters : tie.After-put-registers-arg → tie.Start
-beforeRegisters c = c .before .before .before .before .before
+beforeRegisters c = let m = c .before .before .before in m .before .before .before
 
 abbrev afterRegisters : tie.After-l1id-line → tie.After-put-registers
 afterRegisters c = c .before .before .before .before
@@ -40,7 +40,7 @@ abbrev registers : tie.Start → List ℕ
 registers b = allRegistersText (b .args .decoder .plan) (b .args .decoder .model)
 
 abbrev pointers : tie.Start → List ℕ
-pointers b = let m = b .args .decoder .model in allPointersText (m .writes) (m .reads)
+pointers b = let m = b .args .decoder .model in allPointersText (m .pointers .writes) (m .pointers .reads)
 
 abbrev words : tie.Start → List ℕ
 words b = allFifoWordsText (b .args .store .now)

@@ -5,18 +5,18 @@ use mathlib.Core.Path.{refl}
 use Prim.Native.Nat.{_-_}
 use lib.ListN.{length-set}
 use borrow.Author.Needs.{needs}
-use Rattle.registers.proofs.Writes.{Going, begun, kept, put, again, over}
+use Rattle.registers.proofs.WriteLoop.{Invariant, initially, kept, put, again, over}
 use Rattle.registers.proofs.write_all.Statement.{statement}
 use Rattle.registers.proofs.write_all.Tie as tie
 
 abbrev Inv-loop : tie.InvT-loop
-Inv-loop feen word store₀ p₀ n₀ store p n = Going feen word store₀ p₀ store p n
+Inv-loop feen word store₀ p₀ n₀ store p n = Invariant feen word store₀ p₀ store p n
 
 abbrev μ-loop : tie.MeasureT-loop
 μ-loop feen word store₀ p₀ n₀ store p n = 16 - n
 
 loop-holds : tie.Need-loop-holds Inv-loop μ-loop
-loop-holds c = begun _ _ _ _ (search needs) (search needs)
+loop-holds c = initially _ _ _ _ (search needs) (search needs)
 
 cast-if1 : tie.Need-cast-if1 Inv-loop μ-loop
 cast-if1 c = search needs

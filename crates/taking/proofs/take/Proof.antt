@@ -8,22 +8,33 @@ use borrow.Author.Needs.{needs}
 use lib.ListN.{length}
 use borrow.Author.Tests.{not-true, not-false}
 use Rattle.decoder.specs.declared.Decoder.{Decoder}
-use Rattle.decoder.specs.Limits.{clockLimit}
+use Rattle.limits.specs.Limits.{clockLimit}
 use Rattle.decoder.specs.Sound.{soundOf}
-use Rattle.taking.specs.Take.{Call}
-use Rattle.taking.proofs.Refusals.{buffers, range, unsound, wrong-buffers, wrong-range, clock-over, taken, clock-short, clock-long, next-low, May, run-may}
+use Rattle.taking.specs.Take.{Call, call}
+use Rattle.taking.proofs.Refusals.{buffers, range, unsound, wrong-buffers, wrong-range, clock-over, taken}
+use Rattle.taking.proofs.Refusals.{clock-short, clock-long, next-low, May, run-may}
 use Rattle.taking.proofs.take.Statement.{statement}
 use Rattle.taking.proofs.take.Tie as tie
+
+-- The places that the proofs look back to, each by the one after it: the call, and past each check that it passed.
+abbrev called : tie.After-sound → tie.Start
+called t = let k = t .before .before .before .before in k .before
+
+abbrev past1 : tie.After-buffers-fit → tie.Else1
+past1 b = b .before .before .before .before
+
+abbrev past2 : tie.Else3 → tie.Else2
+past2 c = c .before .before
 
 -- What each check that was passed says of the state and of the call.
 module _ (c : tie.Else1) where
   abbrev state : Decoder
-  state = c .before .before .before .before .before .before .args .decoder
+  state = called (c .before) .args .decoder
 
-  abbrev call : Call
-  call =
-      let a = c .before .before .before .before .before .before .args in
-      record { input = a .input .now; first = a .first; count = a .count; store = a .store .now; tray = a .tray .now; list = a .list .now; free = a .free }
+  abbrev asked : Call
+  asked =
+      let a = called (c .before) .args in
+      call (a .input .now) (a .first) (a .count) (a .store .now) (a .tray .now) (a .list .now) (a .free)
 
   sound : soundOf state ≡ true
   sound = sym (c .before .sound .ensures) ∙ not-false (c .before .sound .result) (c .if1 .left)
@@ -31,19 +42,11 @@ module _ (c : tie.Else1) where
   low : state .next ≤ clockLimit
   low = next-low state sound
 
-module _ (c : tie.Else2) where
-  abbrev past1 : tie.Else1
-  past1 = c .before .before .before .before .before
+fit : (c : tie.Else2) → buffers (asked (past1 (c .before))) ≡ true
+fit c = sym (c .before .buffers-fit .ensures) ∙ not-false (c .before .buffers-fit .result) (c .if2 .left)
 
-  fit : buffers (call past1) ≡ true
-  fit = sym (c .before .buffers-fit .ensures) ∙ not-false (c .before .buffers-fit .result) (c .if2 .left)
-
-module _ (c : tie.Else3) where
-  abbrev past2 : tie.Else1
-  past2 = past1 (c .before .before)
-
-  inside : range (call past2) ≡ true
-  inside = sym (c .before .range-fits .ensures) ∙ not-false (c .before .range-fits .result) (c .if3 .left)
+inside : (c : tie.Else3) → range (asked (past1 (past2 c .before))) ≡ true
+inside c = sym (c .before .range-fits .ensures) ∙ not-false (c .before .range-fits .result) (c .if3 .left)
 
 sound-requires : tie.Need-sound-requires
 sound-requires c κs = search needs
@@ -55,7 +58,7 @@ returns : tie.Need-returns
 returns c =
     let t = c .before in
     rw (c .refused .ensures)
-    (sym (unsound (t .before .before .before .before .before .before .args .decoder) _
+    (sym (unsound (called (t .before) .args .decoder) _
     (sym (t .before .sound .ensures) ∙ not-true (t .before .sound .result) (t .if1 .taken))))
 
 buffers-fit-requires : tie.Need-buffers-fit-requires
@@ -76,9 +79,9 @@ same-length-3 c = search needs
 returns-2 : tie.Need-returns-2
 returns-2 c =
     let t = c .before in
-    let e = t .before .before .before .before .before in
+    let e = past1 (t .before) in
     rw (c .refused2 .ensures)
-    (sym (wrong-buffers (state e) (call e) (sound e)
+    (sym (wrong-buffers (state e) (asked e) (sound e)
     (sym (t .before .buffers-fit .ensures) ∙ not-true (t .before .buffers-fit .result) (t .if2 .taken))))
 
 range-fits-requires : tie.Need-range-fits-requires
@@ -99,13 +102,14 @@ same-length-6 c = search needs
 returns-3 : tie.Need-returns-3
 returns-3 c =
     let t = c .before in
-    let e = past1 (t .before .before) in
+    let b = t .before .before in
+    let e = past1 (b .before) in
     rw (c .refused3 .ensures)
-    (sym (wrong-range (state e) (call e) (sound e) (fit (t .before .before))
+    (sym (wrong-range (state e) (asked e) (sound e) (fit b)
     (sym (t .before .range-fits .ensures) ∙ not-true (t .before .range-fits .result) (t .if3 .taken))))
 
 sub-if4 : tie.Need-sub-if4
-sub-if4 c = omega (arith, low (past2 (c .before)))
+sub-if4 c = omega (arith, low (past1 (past2 (c .before) .before)))
 
 refused-requires-4 : tie.Need-refused-requires-4
 refused-requires-4 c κs = search needs
@@ -122,16 +126,20 @@ same-length-9 c = search needs
 returns-4 : tie.Need-returns-4
 returns-4 c =
     let p = c .before .before .before in
-    let e = past2 p in
+    let b = past2 p in
+    let e = past1 (b .before) in
     rw (c .refused4 .ensures)
-    (sym (clock-over (state e) (call e) (sound e) (fit (p .before .before)) (inside p) (clock-short _ _ (low e) (c .before .if4 .taken))))
+    (sym (clock-over (state e) (asked e) (sound e) (fit b) (inside p) (clock-short _ _ (low e) (c .before .if4 .taken))))
 
 run-requires : tie.Need-run-requires
 run-requires c κs =
-    let p = c .before .before .before .before .before in
-    let e = past2 p in
-    let m : May (state e .next) (length (call e .store)) (length (call e .input)) (call e .first) (call e .count) (length (call e .list)) (call e .free) =
-    run-may _ _ (length (call e .tray)) _ _ _ _ _ (low e) (fit (p .before .before)) (inside p) (c .before .before .before .if4 .left) in
+    let q = c .before .before .before in
+    let p = q .before .before in
+    let b = past2 p in
+    let e = past1 (b .before) in
+    let a = asked e in
+    let m : May (state e .next) (length (a .store)) (length (a .input)) (a .first) (a .count) (length (a .list)) (a .free) =
+    run-may _ _ (length (a .tray)) _ _ _ _ _ (low e) (fit b) (inside p) (q .if4 .left) in
     ((m .clock-fits, m .store-long), (m .input-short, m .in-range, m .list-long))
 
 same-length-10 : tie.Need-same-length-10
@@ -145,11 +153,13 @@ same-length-12 c = search needs
 
 returns-5 : tie.Need-returns-5
 returns-5 c =
-    let r = c .before .before .before .before .before .before in
+    let l = c .before .before .before in
+    let r = l .before .before .before in
     let q = r .before .before .before .before in
     let p = q .before .before in
-    let e = past2 p in
-    r .run .ensures ∙ sym (taken (state e) (call e) (sound e) (fit (p .before .before)) (inside p) (clock-long _ _ (low e) (q .if4 .left)))
+    let b = past2 p in
+    let e = past1 (b .before) in
+    r .run .ensures ∙ sym (taken (state e) (asked e) (sound e) (fit b) (inside p) (clock-long _ _ (low e) (q .if4 .left)))
 
 pub take-spec : {M : Type 1} → statement M
 take-spec =

@@ -7,8 +7,11 @@ use Rattle.decoder.proofs.Decoder.opened_at.Tie as tie
 start-requires : tie.Need-start-requires
 start-requires c κs = search needs
 
+cleared-requires : tie.Need-cleared-requires
+cleared-requires c κs = search needs
+
 returns : tie.Need-returns
-returns c = simp (c .start .ensures)
+returns c = simp (c .cleared .ensures, c .before .start .ensures)
 
 pub opened-at-spec : {M : Type 1} → statement M
-opened-at-spec = tie.close (tie.spec start-requires returns)
+opened-at-spec = tie.close (tie.spec start-requires cleared-requires returns)

@@ -6,7 +6,7 @@ use native.Mathlib.Omega.{arith}
 use lib.ListN.{replicate}
 use lib.Seq.{length-take-le}
 use borrow.Author.Needs.{needs}
-use Rattle.taking.specs.Take.{Left}
+use Rattle.taking.specs.Take.{CallResult}
 use Rattle.program.specs.RunState.{Snapshot, snapshot, listWords}
 use Rattle.program.proofs.TakingCall.{CallPrints}
 use Rattle.program.proofs.TakeStep.{callOf, CallMade, call-printed, records-fit, after-take}
@@ -36,7 +36,7 @@ reported c = c .before .before .before .before .before .before
 abbrev before : tie.After-take → Snapshot
 before c = let a = start c .args in snapshot (a .self) (a .store .now) (a .tray .now) (a .out .now)
 
-abbrev left : tie.After-take → Left
+abbrev left : tie.After-take → CallResult
 left c = let buffers = c .take .last .1 .1 .1 .1 in
     record { taken = c .take .result; store = buffers .0; tray = buffers .1 .0; list = buffers .1 .1 .0 }
 

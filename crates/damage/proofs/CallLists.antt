@@ -1,0 +1,226 @@
+-- Lists of taking calls over a clean or damaged stream write the records of its trace.
+-- Assumes nothing.
+use mathlib.Core.Path.{_≡_, _∙_, refl, sym, ap, ap₂}
+use mathlib.Core.Bool.{Bool, true, false, _&&_}
+use mathlib.Core.List.{List, [], _∷_, _++_, append-nil}
+use Prim.Native.Nat.{ℕ, zero, suc, _+_, _*_, _-_, _/_, _%_, _^_, _<_, _≤_}
+use native.Mathlib.Omega.{arith}
+use lib.Dec.{eqb, ltb, T, ltb→lt, nltb→le}
+use lib.ListN.{length, getD, length-append}
+use Rattle.bits.proofs.Truth.{and-left, and-right, cond-case}
+use Rattle.recogniser.specs.declared.Phase.the-variants.{Hunt}
+use Rattle.recogniser.specs.declared.Request.{Request}
+use Rattle.recogniser.specs.declared.Recogniser.{Recogniser}
+use Rattle.recogniser.specs.declared.Transition.{Transition}
+use Rattle.recogniser.specs.Parts.{idle}
+use Rattle.recogniser.specs.Step.{stepOf}
+use Rattle.registers.specs.Registers.{cntOf}
+use Rattle.decoder.specs.declared.Decoder.{Decoder}
+use Rattle.controller.specs.declared.Record.{Record}
+use Rattle.controller.specs.Records.{headOf, recordWords, wordsOf}
+use Rattle.taking.specs.Run.{stateAfter, wordsAfter}
+use Rattle.taking.specs.Turn.{System, decoderOf, turnOf}
+use Rattle.taking.specs.Take.{Call, takeOf, lent}
+use Rattle.taking.specs.Calls.{bitsTaken, wordsStanding, allBits, allWords}
+use Rattle.taking.proofs.CallLists.{call-kept}
+use Rattle.damage.specs.Commands.{Command, widthOf}
+use Rattle.damage.specs.CleanStreams.{Item, itemSize, streamBits, timed, inverted}
+use Rattle.damage.specs.Table.{damage, hitsFast, itself, replacementOf}
+use Rattle.damage.specs.Traces.{requestsOf, recogniserAfter, quiet, spread, commandTrace, itemTrace, cleanTrace, damagedItem, damagedTrace}
+use Rattle.damage.specs.Records.{countersOf, sends, requestRecords, countersAfter, cleanRecords, damagedRecords}
+use Rattle.damage.proofs.Computed.{below, below-at, each-at}
+use Rattle.damage.proofs.TraceLaws.{requests-append, after-append, length-requests}
+use Rattle.damage.proofs.Recovery.{clean-run}
+use Rattle.damage.proofs.InvertedBit.{zeroDamage, replacement-by, damaged-run}
+use Rattle.damage.proofs.TraceRecords.{performed, counting, performed-append, counting-append, performed-clean, performed-damaged}
+use Rattle.damage.proofs.RunModeEffects.{outsideSlow, noSlow, step-any-cnt, step-stays-outside, from-empty, does}
+
+-- no request of a trace leads into a Slow command
+abbrev noSlowIn : List Request → Bool
+noSlowIn [] = true
+noSlowIn (e ∷ es) = noSlow e && noSlowIn es
+
+both : (a b : Bool) → T a → T b → T (a && b)
+both true b p q = q
+both false b p q = p
+
+noSlowIn-left : (es fs : List Request) → T (noSlowIn (es ++ fs)) → T (noSlowIn es)
+noSlowIn-left [] fs h = tt
+noSlowIn-left (e ∷ es) fs h = both (noSlow e) (noSlowIn es) (and-left (noSlow e) _ h) (noSlowIn-left es fs (and-right (noSlow e) _ h))
+
+noSlowIn-right : (es fs : List Request) → T (noSlowIn (es ++ fs)) → T (noSlowIn fs)
+noSlowIn-right [] fs h = h
+noSlowIn-right (e ∷ es) fs h = noSlowIn-right es fs (and-right (noSlow e) _ h)
+
+noSlowIn-append : (es fs : List Request) → T (noSlowIn es) → T (noSlowIn fs) → T (noSlowIn (es ++ fs))
+noSlowIn-append [] fs h k = k
+noSlowIn-append (e ∷ es) fs h k = both (noSlow e) (noSlowIn (es ++ fs)) (and-left (noSlow e) _ h) (noSlowIn-append es fs (and-right (noSlow e) _ h) k)
+
+noSlowIn-quiet : (n : ℕ) → T (noSlowIn (quiet n))
+noSlowIn-quiet zero = tt
+noSlowIn-quiet (suc n) = noSlowIn-quiet n
+
+words-append : (es fs : List Record) → recordWords (es ++ fs) ≡ recordWords es ++ recordWords fs
+words-append [] fs = refl
+words-append (e ∷ es) fs = ap (λ l. headOf e ∷ e .value ∷ l) (words-append es fs)
+
+abbrev trace : Decoder → List ℕ → List Request
+trace d bits = requestsOf (d .recogniser) bits
+
+-- From d the bits lead to v and write the words, RunMode on, as the trace says.
+record Follows (d : Decoder) (bits : List ℕ) (v : Decoder) (words : List ℕ) : Type 0 where
+  written : words ≡ recordWords (performed (sends d) (countersOf d) (d .next) (trace d bits))
+  stands : v .recogniser ≡ recogniserAfter (d .recogniser) bits
+  counters : countersOf v ≡ counting (countersOf d) (d .next) (trace d bits)
+  next : v .next ≡ d .next + length bits
+  running : v .model .running ≡ true
+  sent : sends v ≡ sends d
+  outside : T (outsideSlow (v .recogniser .phase))
+
+follows-none : (d : Decoder) → d .model .running ≡ true → T (outsideSlow (d .recogniser .phase)) → Follows d [] d []
+unfolding performed counting requestsOf recogniserAfter
+follows-none d r q = record { written = refl; stands = refl; counters = refl; next = omega arith; running = r; sent = refl; outside = q }
+
+follows-append : {d v u : Decoder} {xs ys : List ℕ} {ws zs : List ℕ} → Follows d xs v ws → Follows v ys u zs → Follows d (xs ++ ys) u (ws ++ zs)
+follows-append {d} {v} {u} {xs} {ys} {ws} {zs} a b = record {
+  written =
+      rw (requests-append (d .recogniser) xs ys, performed-append (sends d) (countersOf d) (d .next) (trace d xs) (requestsOf (recogniserAfter (d .recogniser) xs) ys), length-requests (d .recogniser) xs)
+      (ap₂ _++_ (a .written) (b .written ∙ (λ i. recordWords (performed (a .sent i) (a .counters i) (a .next i) (requestsOf (a .stands i) ys))))
+      ∙ sym (words-append (performed (sends d) (countersOf d) (d .next) (trace d xs)) _));
+  stands = b .stands ∙ ap (λ (r : Recogniser). recogniserAfter r ys) (a .stands) ∙ sym (after-append (d .recogniser) xs ys);
+  counters =
+      rw (requests-append (d .recogniser) xs ys, counting-append (countersOf d) (d .next) (trace d xs) (requestsOf (recogniserAfter (d .recogniser) xs) ys), length-requests (d .recogniser) xs)
+      (b .counters ∙ (λ i. counting (a .counters i) (a .next i) (requestsOf (a .stands i) ys)));
+  next = let e = a .next in let f = b .next in rw length-append (omega arith);
+  running = b .running;
+  sent = b .sent ∙ a .sent;
+  outside = b .outside;
+}
+
+-- one cycle
+follows-one : (s : System) (bit : ℕ) → s .machine .model .running ≡ true → T (outsideSlow (s .recogniser .phase))
+    → T (noSlow (stepOf (s .recogniser) bit 0 .event .request))
+    → Follows (decoderOf s) (bit ∷ []) (decoderOf (turnOf s bit .state)) (wordsOf (turnOf s bit .cycle))
+unfolding turnOf performed counting requestsOf recogniserAfter
+follows-one s bit r q h =
+    let m = s .machine in
+    let d : Decoder = decoderOf s in
+    let e : stepOf (s .recogniser) bit (cntOf (m .plan) (m .model)) ≡ stepOf (s .recogniser) bit 0 = step-any-cnt (s .recogniser) bit _ q in
+    let x : Request = stepOf (s .recogniser) bit 0 .event .request in
+    let f = does (m .plan) (m .model) x (m .next) (m .store) r h in
+    rw e
+    (record {
+      written = f .words ∙ ap recordWords (sym (append-nil (requestRecords (sends d) (countersOf d) (d .next) x)));
+      stands = refl;
+      counters = f .counters;
+      next = omega arith;
+      running = f .running;
+      sent = ap (λ (l : List ℕ). eqb (getD l (m .plan .csr) 0 / 2 ^ 6 % 2) 0) (f .registers);
+      outside = step-stays-outside (s .recogniser) bit q h;
+    })
+
+-- the trace after one cycle
+after-one : (s : System) (bit : ℕ) (bits : List ℕ) → turnOf s bit .state .recogniser ≡ recogniserAfter (s .recogniser) (bit ∷ [])
+    → T (noSlowIn (requestsOf (stepOf (s .recogniser) bit 0 .next) bits)) → T (noSlowIn (requestsOf (turnOf s bit .state .recogniser) bits))
+unfolding recogniserAfter
+after-one s bit bits e h = rw e h
+
+-- any bits whose trace has no Slow command, whatever store and tray are lent
+follows-bits : (bits : List ℕ) (s : System) → s .machine .model .running ≡ true → T (outsideSlow (s .recogniser .phase))
+    → T (noSlowIn (requestsOf (s .recogniser) bits)) → Follows (decoderOf s) bits (decoderOf (stateAfter turnOf s bits)) (wordsAfter turnOf s bits)
+unfolding requestsOf
+follows-bits [] s r q h = follows-none (decoderOf s) r q
+follows-bits (bit ∷ bits) s r q h =
+    let x : Request = stepOf (s .recogniser) bit 0 .event .request in
+    let a = follows-one s bit r q (and-left (noSlow x) _ h) in
+    follows-append a (follows-bits bits (turnOf s bit .state) (a .running) (a .outside) (after-one s bit bits (a .stands) (and-right (noSlow x) _ h)))
+
+-- a call, and a list of calls
+follows-call : (d : Decoder) (c : Call) → d .model .running ≡ true → T (outsideSlow (d .recogniser .phase)) → T (noSlowIn (trace d (bitsTaken d c)))
+    → Follows d (bitsTaken d c) (takeOf d c .taken .decoder) (wordsStanding d c)
+follows-call d c r q h =
+    let k = call-kept d c in
+    let f = follows-bits (bitsTaken d c) (lent d c) r q h in
+    let e : takeOf d c .taken .decoder ≡ decoderOf (stateAfter turnOf (lent d c) (bitsTaken d c)) = ap decoderOf (k .system) in
+    rw (e, k .words) f
+
+follows-calls : (cs : List Call) (d : Decoder) → d .model .running ≡ true → T (outsideSlow (d .recogniser .phase)) → T (noSlowIn (trace d (allBits d cs)))
+    → (v : Decoder) × Follows d (allBits d cs) v (allWords d cs)
+unfolding allBits allWords
+follows-calls [] d r q h = (d, follows-none d r q)
+follows-calls (c ∷ cs) d r q h =
+    let v : Decoder = takeOf d c .taken .decoder in
+    let xs : List ℕ = bitsTaken d c in
+    let ys : List ℕ = allBits v cs in
+    let k : T (noSlowIn (trace d xs ++ requestsOf (recogniserAfter (d .recogniser) xs) ys)) = rw (← requests-append (d .recogniser) xs ys) h in
+    let a = follows-call d c r q (noSlowIn-left (trace d xs) _ k) in
+    let b = follows-calls cs v (a .running) (a .outside) (rw (a .stands) (noSlowIn-right (trace d xs) (requestsOf (recogniserAfter (d .recogniser) xs) ys) k)) in
+    (b .0, follows-append a (b .1))
+
+-- clean and damaged traces have no Slow command: computed for what stands in a command's place
+holds : (b : Bool) → b ≡ true → T b
+holds b e = rw e tt
+
+noSlow-itself : (c : Command) → T (noSlowIn (spread (widthOf c) (itself c)))
+noSlow-itself c = holds _ (each-at (λ c. noSlowIn (spread (widthOf c) (itself c))) (λ c. true) refl c)
+
+noSlow-damage : (c : Command) (k : ℕ) → k < widthOf c → T (noSlowIn (spread (widthOf c) (damage c (suc k))))
+noSlow-damage c k h =
+    holds _
+    (below-at (widthOf c) (λ k. noSlowIn (spread (widthOf c) (damage c (suc k)))) (λ k. true)
+    (each-at (λ c. below (widthOf c) (λ k. noSlowIn (spread (widthOf c) (damage c (suc k))))) (λ c. below (widthOf c) (λ k. true)) refl c) k h)
+
+noSlow-zero : (c : Command) (distance : ℕ) → T (noSlowIn (spread (widthOf c) (zeroDamage c distance)))
+noSlow-zero c distance =
+    cond-case (λ x. T (noSlowIn (spread (widthOf c) x))) (hitsFast c distance) {x = damage c 0} {y = itself c}
+    (λ _. holds _ (each-at (λ c. noSlowIn (spread (widthOf c) (damage c 0))) (λ c. true) refl c))
+    (λ _. noSlow-itself c)
+
+noSlow-item : (i : Item) → T (noSlowIn (itemTrace i))
+noSlow-item i = noSlowIn-append (quiet (i .ahead)) (commandTrace (i .command)) (noSlowIn-quiet (i .ahead)) (noSlow-itself (i .command))
+
+noSlow-hit : (i : Item) (k : ℕ) → k < itemSize i → T (noSlowIn (damagedItem i k))
+noSlow-hit i k h =
+    noSlowIn-append (quiet (i .ahead)) (spread (widthOf (i .command)) (replacementOf i k)) (noSlowIn-quiet (i .ahead))
+    (rw (replacement-by i k)
+    (cond-case (λ x. T (noSlowIn (spread (widthOf (i .command)) x))) (ltb k (i .ahead)) {x = zeroDamage (i .command) (i .ahead - k)} {y = damage (i .command) (suc (k - i .ahead))}
+    (λ _. noSlow-zero (i .command) (i .ahead - k))
+    (λ b. let g : i .ahead ≤ k = nltb→le k (i .ahead) b in noSlow-damage (i .command) (k - i .ahead) (omega arith))))
+
+noSlow-clean : (is : List Item) (t : ℕ) → T (noSlowIn (cleanTrace is t))
+noSlow-clean [] t = noSlowIn-quiet t
+noSlow-clean (i ∷ is) t = noSlowIn-append (itemTrace i) (cleanTrace is t) (noSlow-item i) (noSlow-clean is t)
+
+noSlow-damaged : (is : List Item) (t k : ℕ) → T (noSlowIn (damagedTrace is t k))
+noSlow-damaged [] t k = noSlowIn-quiet t
+noSlow-damaged (i ∷ is) t k =
+    cond-case (λ es. T (noSlowIn es)) (ltb k (itemSize i)) {x = damagedItem i k ++ cleanTrace is t} {y = itemTrace i ++ damagedTrace is t (k - itemSize i)}
+    (λ b. noSlowIn-append (damagedItem i k) (cleanTrace is t) (noSlow-hit i k (ltb→lt k (itemSize i) b)) (noSlow-clean is t))
+    (λ b. noSlowIn-append (itemTrace i) (damagedTrace is t (k - itemSize i)) (noSlow-item i) (noSlow-damaged is t (k - itemSize i)))
+
+-- the trace from a state that hunts with an empty window is that of an empty recogniser
+hunting-trace : (r : Recogniser) (bits : List ℕ) → r .phase ≡ Hunt → r .shift ≡ 0 → requestsOf r bits ≡ requestsOf idle bits
+unfolding requestsOf
+hunting-trace r [] h e = refl
+hunting-trace r (bit ∷ bits) h e = ap (λ (x : Transition). x .event .request ∷ requestsOf (x .next) bits) (from-empty r bit h e)
+
+-- A list of calls in RunMode, from an empty window, whose bits have a trace with no Slow command writes the records of that trace.
+module _ (d : Decoder) (running : d .model .running ≡ true) (hunting : d .recogniser .phase ≡ Hunt) (empty : d .recogniser .shift ≡ 0) where
+  writes : (cs : List Call) (es : List Request) → requestsOf idle (allBits d cs) ≡ es → T (noSlowIn es)
+      → allWords d cs ≡ recordWords (performed (sends d) (countersOf d) (d .next) es)
+  writes cs es e h =
+      let t : trace d (allBits d cs) ≡ es = hunting-trace (d .recogniser) (allBits d cs) hunting empty ∙ e in
+      let f = follows-calls cs d running (rw hunting tt) (rw t h) in
+      f .1 .written ∙ ap (λ es. recordWords (performed (sends d) (countersOf d) (d .next) es)) t
+
+  pub clean-words : (cs : List Call) (is : List Item) (t : ℕ) → allBits d cs ≡ streamBits is t
+      → allWords d cs ≡ recordWords (cleanRecords (sends d) (countersOf d) (d .next) is)
+  clean-words cs is t e =
+      writes cs (cleanTrace is t) (ap (requestsOf idle) e ∙ clean-run is t) (noSlow-clean is t)
+      ∙ ap recordWords (performed-clean (sends d) (countersOf d) (d .next) is t)
+
+  pub damaged-words : (cs : List Call) (is : List Item) (t k : ℕ) → T (timed is) → allBits d cs ≡ inverted k (streamBits is t)
+      → allWords d cs ≡ recordWords (damagedRecords (sends d) (countersOf d) (d .next) is k)
+  damaged-words cs is t k h e =
+      writes cs (damagedTrace is t k) (ap (requestsOf idle) e ∙ damaged-run is t k h) (noSlow-damaged is t k)
+      ∙ ap recordWords (performed-damaged (sends d) (countersOf d) (d .next) is t k)

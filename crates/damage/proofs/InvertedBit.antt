@@ -1,0 +1,199 @@
+-- One inverted bit in a clean stream: the recogniser shows what the damage table says.
+-- Assumes nothing.
+use mathlib.Core.Path.{_≡_, _∙_, refl, ap}
+use mathlib.Core.Bool.{Bool, true, false, cond, _&&_}
+use mathlib.Core.List.{List, [], _∷_, _++_, append-assoc}
+use Prim.Native.Nat.{ℕ, zero, suc, _-_, _<_, _≤_}
+use native.Mathlib.Nat.{le-of-suc-le-suc, not-suc-le-zero, sub-zero, suc-sub-suc}
+use native.Mathlib.Omega.{arith}
+use lib.Dec.{ltb, leb, T, ltb→lt, nltb→le}
+use lib.ListN.{length, length-append, length-replicate}
+use borrow.Author.Tests.{lt-leb}
+use Rattle.bits.proofs.Truth.{and-right, cond-case}
+use Rattle.recogniser.specs.declared.Request.{Request}
+use Rattle.recogniser.specs.declared.Request.the-variants.{Nothing}
+use Rattle.recogniser.specs.declared.Recogniser.{Recogniser}
+use Rattle.recogniser.specs.declared.Phase.the-variants.{Hunt}
+use Rattle.recogniser.specs.Parts.{idle, startOf}
+use Rattle.recogniser.specs.Step.{stepOf}
+use Rattle.damage.specs.Commands.{Command, lv1, bcr, ecr, cal, sync, codeOf, widthOf, isFastCommand}
+use Rattle.damage.specs.CleanStreams.{Item, zeros, zerosBetween, itemBits, itemSize, streamBits, spaced, timed, inverted}
+use Rattle.damage.specs.Table.{Replacement, damage, hitsFast, itself, replacementOf}
+use Rattle.damage.specs.Traces.{requestsOf, recogniserAfter, quiet, spread, itemTrace, cleanTrace, damagedItem, damagedTrace}
+use Rattle.damage.proofs.Computed.{below, below-at, each-at}
+use Rattle.damage.proofs.TraceLaws.{Shows, chain, onward}
+use Rattle.damage.proofs.Recovery.{shownBy, shouldShow, Resumes, Settles, empty-resumes, idling, trailing, late, clean-item, resumed-run}
+
+-- where the inverted bit lies
+pub inverted-left : (k : ℕ) (xs ys : List ℕ) → k < length xs → inverted k (xs ++ ys) ≡ inverted k xs ++ ys
+inverted-left k [] ys h = absurd (not-suc-le-zero h)
+inverted-left zero (x ∷ xs) ys h = refl
+inverted-left (suc k) (x ∷ xs) ys h = ap (λ (l : List ℕ). x ∷ l) (inverted-left k xs ys (le-of-suc-le-suc h))
+
+pub inverted-right : (k : ℕ) (xs ys : List ℕ) → length xs ≤ k → inverted k (xs ++ ys) ≡ xs ++ inverted (k - length xs) ys
+inverted-right k [] ys h = rw sub-zero
+inverted-right zero (x ∷ xs) ys h = absurd (not-suc-le-zero h)
+inverted-right (suc k) (x ∷ xs) ys h = rw suc-sub-suc (ap (λ (l : List ℕ). x ∷ l) (inverted-right k xs ys (le-of-suc-le-suc h)))
+
+inverted-zeros : (k n : ℕ) → k < n → inverted k (zeros n) ≡ zeros k ++ (1 ∷ zeros (n - suc k))
+inverted-zeros k zero h = absurd (not-suc-le-zero h)
+inverted-zeros zero (suc n) h = rw (suc-sub-suc, sub-zero n)
+inverted-zeros (suc k) (suc n) h = rw suc-sub-suc (ap (λ (l : List ℕ). 0 ∷ l) (inverted-zeros k n (le-of-suc-le-suc h)))
+
+quiet-split : (k n : ℕ) → k < n → quiet n ≡ quiet k ++ (Nothing ∷ quiet (n - suc k))
+quiet-split k zero h = absurd (not-suc-le-zero h)
+quiet-split zero (suc n) h = rw (suc-sub-suc, sub-zero n)
+quiet-split (suc k) (suc n) h = rw suc-sub-suc (ap (λ (l : List Request). Nothing ∷ l) (quiet-split k n (le-of-suc-le-suc h)))
+
+-- The bits show the requests, and leave a recogniser that resumes after the command c.
+pub record Safely (c : Command) (r : Recogniser) (bits : List ℕ) (requests : List Request) : Type 0 where
+  pub end : Recogniser
+  pub shows : Shows r bits requests end
+  pub resumes : Resumes c end
+
+goes-on : {c : Command} {r : Recogniser} {bits : List ℕ} {requests : List Request} → Safely c r bits requests → (is : List Item) (t : ℕ) → T (spaced c is)
+    → requestsOf r (bits ++ streamBits is t) ≡ requests ++ cleanTrace is t
+goes-on {c} s is t h = onward (s .shows) (streamBits is t) (resumed-run c (s .end) (s .resumes) is t h)
+
+-- a bit of a command: computed for each command and bit
+abbrev hit : Command → ℕ → List ℕ
+hit c k = inverted k (codeOf c)
+
+abbrev hitTrace : Command → ℕ → List Request
+hitTrace c k = spread (widthOf c) (damage c (suc k))
+
+hit-shows : (c : Command) → below (widthOf c) (λ k. requestsOf idle (hit c k)) ≡ below (widthOf c) (hitTrace c)
+unfolding stepOf requestsOf recogniserAfter
+hit-shows = each-at (λ c. below (widthOf c) (λ k. requestsOf idle (hit c k))) (λ c. below (widthOf c) (hitTrace c)) refl
+
+hit-resumes : (c : Command) → below (widthOf c) (λ k. shownBy c (recogniserAfter idle (hit c k))) ≡ below (widthOf c) (λ k. shouldShow c)
+unfolding stepOf requestsOf recogniserAfter
+hit-resumes lv1 = refl
+hit-resumes bcr = refl
+hit-resumes ecr = refl
+hit-resumes cal = refl
+hit-resumes sync = refl
+
+pub in-command : (a : ℕ) (c : Command) (k : ℕ) → k < widthOf c → Safely c idle (zeros a ++ hit c k) (quiet a ++ hitTrace c k)
+in-command a c k h = record {
+  end = recogniserAfter idle (hit c k);
+  shows = chain (idling a) (record { seen = below-at (widthOf c) (λ k. requestsOf idle (hit c k)) (hitTrace c) (hit-shows c) k h; left = refl });
+  resumes = below-at (widthOf c) (λ k. shownBy c (recogniserAfter idle (hit c k))) (λ k. shouldShow c) (hit-resumes c) k h;
+}
+
+-- what stands in a command's place for a zero so far ahead of it
+abbrev pub zeroDamage : Command → ℕ → Replacement
+zeroDamage c distance = cond (hitsFast c distance) (damage c 0) (itself c)
+
+-- by where the inverted bit lies
+replacement-test : (i : Item) (k : ℕ) (b : Bool)
+    → cond (cond b (hitsFast (i .command) (i .ahead - k)) true) (damage (i .command) (cond b 0 (suc (k - i .ahead)))) (itself (i .command))
+    ≡ cond b (zeroDamage (i .command) (i .ahead - k)) (damage (i .command) (suc (k - i .ahead)))
+replacement-test i k true = refl
+replacement-test i k false = refl
+
+pub replacement-by : (i : Item) (k : ℕ)
+    → replacementOf i k ≡ cond (ltb k (i .ahead)) (zeroDamage (i .command) (i .ahead - k)) (damage (i .command) (suc (k - i .ahead)))
+replacement-by i k = replacement-test i k (ltb k (i .ahead))
+
+-- a zero ahead of a command: the window after a one, and then z zeros more, computed for fewer than five
+abbrev one : Recogniser
+one = startOf Hunt 1 0 0
+
+abbrev near : Command → ℕ → List ℕ
+near c z = zeros z ++ codeOf c
+
+abbrev nearTrace : Command → ℕ → List Request
+nearTrace c z = quiet z ++ spread (widthOf c) (zeroDamage c (suc z))
+
+near-shows : (c : Command) → below 5 (λ z. requestsOf one (near c z)) ≡ below 5 (nearTrace c)
+unfolding stepOf requestsOf recogniserAfter
+near-shows = each-at (λ c. below 5 (λ z. requestsOf one (near c z))) (λ c. below 5 (nearTrace c)) refl
+
+near-resumes : (c : Command) → below 5 (λ z. shownBy c (recogniserAfter one (near c z))) ≡ below 5 (λ z. shouldShow c)
+unfolding stepOf requestsOf recogniserAfter
+near-resumes = each-at (λ c. below 5 (λ z. shownBy c (recogniserAfter one (near c z)))) (λ c. below 5 (λ z. shouldShow c)) refl
+
+-- zeros after that one: nothing is seen, and five of them empty the window
+one-settles : Settles one
+unfolding stepOf requestsOf recogniserAfter
+one-settles = record { few = refl; emptied = refl }
+
+-- three zeros or more ahead hit no Fast
+and-no : (a : Bool) → (a && false) ≡ false
+and-no true = refl
+and-no false = refl
+
+far : (c : Command) (z : ℕ) → 2 ≤ z → zeroDamage c (suc z) ≡ itself c
+far c z h =
+    ap (λ b. cond (isFastCommand c && b) (damage c 0) (itself c)) (lt-leb (suc z) 2 (omega arith))
+    ∙ ap (λ b. cond b (damage c 0) (itself c)) (and-no (isFastCommand c))
+
+pub behind-one : (c : Command) (z : ℕ) → Safely c one (near c z) (nearTrace c z)
+behind-one c z =
+    cond-case (λ (b : Bool). Safely c one (near c z) (nearTrace c z)) (ltb z 5) {x = ltb z 5} {y = ltb z 5}
+    (λ h.
+    let g = ltb→lt z 5 h in
+    record {
+      end = recogniserAfter one (near c z);
+      shows = record { seen = below-at 5 (λ z. requestsOf one (near c z)) (nearTrace c) (near-shows c) z g; left = refl };
+      resumes = below-at 5 (λ z. shownBy c (recogniserAfter one (near c z))) (λ z. shouldShow c) (near-resumes c) z g;
+    })
+    (λ h.
+    let g = nltb→le z 5 h in
+    record {
+      end = idle;
+      shows = rw (far c z (omega arith)) (late one one-settles c z g);
+      resumes = empty-resumes c;
+    })
+
+one-bit : Shows idle (1 ∷ []) (Nothing ∷ []) one
+unfolding stepOf requestsOf recogniserAfter
+one-bit = record { seen = refl; left = refl }
+
+-- an inverted bit among the zeros of an item, and anywhere in it
+in-zeros : (a k : ℕ) (c : Command) → k < a → Safely c idle (inverted k (zeros a) ++ codeOf c) (quiet a ++ spread (widthOf c) (zeroDamage c (a - k)))
+in-zeros a k c h =
+    let e : a - k ≡ suc (a - suc k) = omega arith in
+    let s = behind-one c (a - suc k) in
+    rw (inverted-zeros k a, quiet-split k a, e, append-assoc (zeros k), append-assoc (quiet k))
+    (record { end = s .end; shows = chain (idling k) (chain one-bit (s .shows)); resumes = s .resumes })
+
+pub in-item : (i : Item) (k : ℕ) → k < itemSize i → Safely (i .command) idle (inverted k (itemBits i)) (damagedItem i k)
+in-item i k h =
+    rw (replacement-by i k)
+    (cond-case (λ x. Safely (i .command) idle (inverted k (itemBits i)) (quiet (i .ahead) ++ spread (widthOf (i .command)) x)) (ltb k (i .ahead)) {x = zeroDamage (i .command) (i .ahead - k)} {y = damage (i .command) (suc (k - i .ahead))}
+    (λ b.
+    let g : k < length (zeros (i .ahead)) = rw length-replicate (ltb→lt k (i .ahead) b) in
+    rw (inverted-left k (zeros (i .ahead)) (codeOf (i .command)) g) (in-zeros (i .ahead) k (i .command) (ltb→lt k (i .ahead) b)))
+    (λ b.
+    let g : i .ahead ≤ k = nltb→le k (i .ahead) b in
+    let z : length (zeros (i .ahead)) ≡ i .ahead = length-replicate (i .ahead) 0 in
+    rw (inverted-right k (zeros (i .ahead)) (codeOf (i .command)) (omega arith), z) (in-command (i .ahead) (i .command) (k - i .ahead) (omega arith))))
+
+-- an inverted bit in the zeros at the end
+in-tail : (k t : ℕ) → requestsOf idle (inverted k (zeros t)) ≡ quiet t
+unfolding stepOf requestsOf
+in-tail k zero = refl
+in-tail zero (suc t) = ap (λ (l : List Request). Nothing ∷ l) (trailing one one-settles t)
+in-tail (suc k) (suc t) = ap (λ (l : List Request). Nothing ∷ l) (in-tail k t)
+
+item-length : (i : Item) → length (itemBits i) ≡ itemSize i
+item-length i = simp (length-append, length-replicate)
+
+spaced-timed : (c : Command) (is : List Item) → T (spaced c is) → T (timed is)
+spaced-timed c [] h = tt
+spaced-timed c (i ∷ is) h = and-right (leb (zerosBetween c (i .command)) (i .ahead)) _ h
+
+-- anywhere in a clean stream
+pub damaged-run : (is : List Item) (t k : ℕ) → T (timed is) → requestsOf idle (inverted k (streamBits is t)) ≡ damagedTrace is t k
+damaged-run [] t k h = in-tail k t
+damaged-run (i ∷ is) t k h =
+    cond-case (λ l. requestsOf idle (inverted k (itemBits i ++ streamBits is t)) ≡ l) (ltb k (itemSize i)) {x = damagedItem i k ++ cleanTrace is t} {y = itemTrace i ++ damagedTrace is t (k - itemSize i)}
+    (λ b.
+    let g : k < length (itemBits i) = rw (item-length i) (ltb→lt k (itemSize i) b) in
+    rw (inverted-left k (itemBits i) (streamBits is t) g) (goes-on (in-item i k (ltb→lt k (itemSize i) b)) is t h))
+    (λ b.
+    let g : length (itemBits i) ≤ k = rw (item-length i) (nltb→le k (itemSize i) b) in
+    rw (inverted-right k (itemBits i) (streamBits is t) g, item-length i)
+    (onward (clean-item i) (inverted (k - itemSize i) (streamBits is t)) (damaged-run is t (k - itemSize i) (spaced-timed (i .command) is h))))

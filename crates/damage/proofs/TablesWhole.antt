@@ -1,0 +1,22 @@
+-- The two tables are whole: each pair of commands has one distance, and each bit of a command one row.
+-- Assumes nothing.
+use mathlib.Core.Path.{_≡_, refl}
+use mathlib.Core.List.{[], _∷_}
+use Prim.Native.Nat.{suc}
+use Rattle.damage.specs.Commands.{Command, bcr, ecr, cal, sync, widthOf}
+use Rattle.damage.specs.CleanStreams.{zerosBetween, table13, distances}
+use Rattle.damage.specs.Table.{table, rowsFor}
+use Rattle.damage.proofs.Computed.{below, each, each-at}
+
+-- document 01's sentence and the chip paper's Table 1-3 say the same of all 25 pairs
+pub timing : (c d : Command) → distances table13 c d ≡ zerosBetween c d ∷ []
+timing c =
+    each-at (λ d. distances table13 c d) (λ d. zerosBetween c d ∷ [])
+    (each-at (λ c. each (λ d. distances table13 c d)) (λ c. each (λ d. zerosBetween c d ∷ [])) refl c)
+
+-- every bit of every command has one row of the damage table, and so has the zero ahead of a Fast
+pub rows : (c : Command) → below (widthOf c) (λ k. rowsFor table c (suc k)) ≡ below (widthOf c) (λ k. 1)
+rows = each-at (λ c. below (widthOf c) (λ k. rowsFor table c (suc k))) (λ c. below (widthOf c) (λ k. 1)) refl
+
+pub zero-rows : rowsFor table bcr 0 ∷ rowsFor table ecr 0 ∷ rowsFor table cal 0 ∷ rowsFor table sync 0 ∷ [] ≡ 1 ∷ 1 ∷ 1 ∷ 1 ∷ []
+zero-rows = refl

@@ -1,0 +1,41 @@
+-- The damaged records beside the clean ones in the paper's words: one replaced or left out, the others equal but for trigger and bunch numbers up to the
+-- next reset (document 01, "The damage table", last paragraph).
+-- Assumes nothing.
+use mathlib.Core.Path.{_≡_}
+use mathlib.Core.Bool.{Bool, cond, not, _&&_}
+use mathlib.Core.List.{List, [], _∷_, _++_}
+use Prim.Native.Nat.{ℕ, _+_, _-_, _/_, _%_}
+use lib.Dec.{eqb, ltb, T}
+use Rattle.controller.specs.Records.{kindLv1, kindFast}
+use Rattle.registers.specs.declared.Counters.{Counters}
+use Rattle.controller.specs.declared.Record.{Record}
+use Rattle.damage.specs.CleanStreams.{Item, itemSize}
+use Rattle.damage.specs.Table.{affected, replacementOf}
+use Rattle.damage.specs.Records.{itemRecords, itemCounters, cleanRecords, replacementRecords}
+
+-- An LV1's value is its trigger number × 256 + its bunch number; each agrees unless it may still differ. All else is equal.
+abbrev pub SameValue : Bool → Bool → Record → Record → Type 0
+SameValue trigger bunch x y =
+    cond (eqb (x .kind) kindLv1)
+    ((T (not trigger) → x .value / 256 ≡ y .value / 256) × (T (not bunch) → x .value % 256 ≡ y .value % 256))
+    (x .value ≡ y .value)
+
+-- The records after the affected command. "L1ID (the trigger number) may differ only .. up to the first ECR after it, the bunch number up to the first
+-- BCR".
+abbrev pub SameAfter : Bool → Bool → List Record → List Record → Type 0
+SameAfter trigger bunch [] [] = Unit {0}
+SameAfter trigger bunch [] (y ∷ ys) = ⊥
+SameAfter trigger bunch (x ∷ xs) [] = ⊥
+SameAfter trigger bunch (x ∷ xs) (y ∷ ys) =
+    (x .time ≡ y .time) × (x .kind ≡ y .kind) × (x .flags ≡ y .flags) × SameValue trigger bunch x y
+    × SameAfter (trigger && not (eqb (x .kind) (kindFast 0b0010))) (bunch && not (eqb (x .kind) (kindFast 0b0001))) xs ys
+
+-- The damaged records are the clean ones ahead of the item that holds the inverted bit, what the table says of that item, and records like the clean
+-- ones after it; "if none is affected, nowhere" do they differ.
+abbrev pub Replaced : Bool → Counters → ℕ → List Item → ℕ → List Record → Type 0
+Replaced sent c n [] k damaged = damaged ≡ []
+Replaced sent c n (i ∷ is) k damaged =
+    cond (ltb k (itemSize i))
+    ((rest : List Record) × (damaged ≡ replacementRecords sent c (n + i .ahead) (replacementOf i k) ++ rest)
+    × SameAfter (affected i k) (affected i k) (cleanRecords sent (itemCounters c n i) (n + itemSize i) is) rest)
+    ((rest : List Record) × (damaged ≡ itemRecords sent c n i ++ rest) × Replaced sent (itemCounters c n i) (n + itemSize i) is (k - itemSize i) rest)

@@ -1,0 +1,67 @@
+-- What each way through the two functions on lines leaves, against its definition.
+-- Assumes nothing.
+use mathlib.Core.Bool.{true, false}
+use mathlib.Core.List.{List}
+use mathlib.Core.Logic.{⊎-elim}
+use mathlib.Core.Path.{_≡_, refl, ap, _∙_}
+use Prim.Native.Nat.{ℕ, _+_, _<_, _≤_}
+use native.Mathlib.Omega.{arith}
+use lib.Dec.{leb}
+use lib.ListN.{length}
+use lib.Seq.{sets}
+use borrow.Author.Tests.{lt-ltb, le-ltb, leb-true, leb-false}
+use Rattle.bits.proofs.Truth.{cases}
+use Rattle.output.specs.Block.{Block, block, putIfFits}
+use Rattle.output.proofs.Pieces.{put-when-fits, put-when-full}
+use Rattle.hexlines.specs.declared.HexLine.{HexLine}
+use Rattle.hexlines.specs.Line.{Read, hexNumber, readAs, readOf}
+use Rattle.layout.specs.Digits.{charactersOf}
+use Rattle.layout.specs.ListingLines.{numbersLine, recordLine}
+use Rattle.kernelstill.specs.Lines.{lineBytes, lineResult, hexResultOf, recordResultOf}
+
+module _ (line bytes : List ℕ) where
+  pub small : length bytes < lineBytes → lineResult 4 bytes ≡ hexResultOf line bytes
+  unfolding hexResultOf
+  small h = simp (lt-ltb (length bytes) lineBytes h)
+
+  pub line-read : lineBytes ≤ length bytes → (r : HexLine) (after : List ℕ) → readAs r after ≡ readOf line bytes
+      → lineResult (hexNumber r) after ≡ hexResultOf line bytes
+  unfolding hexResultOf readOf
+  line-read h r after e = simp (le-ltb (length bytes) lineBytes h) (ap (λ (x : Read). lineResult (x .number) (x .buffer)) e)
+
+record-length : (head value : ℕ) → length (recordLine head value) ≡ 28
+unfolding numbersLine charactersOf
+record-length head value = refl
+
+module _ (head value : ℕ) (line after : List ℕ) (next : ℕ) (e : block after next ≡ putIfFits line 0 (recordLine head value)) where
+  abbrev text : List ℕ
+  text = recordLine head value
+
+  -- with room and without
+  fit : leb (length text) (length line) ≡ true → block after next ≡ block (sets line 0 text) (0 + length text)
+  fit f =
+      let room : 0 + length text ≤ length line = omega (arith, leb-true (length text) (length line) f) in
+      e ∙ put-when-fits line 0 text room
+
+  over : leb (length text) (length line) ≡ false → block after next ≡ block line 0
+  over f =
+      let short : length line < 0 + length text = omega (arith, leb-false (length text) (length line) f) in
+      e ∙ put-when-full line 0 text short
+
+  pub line-left-out : next ≡ 0 → lineResult 4 after ≡ recordResultOf head value line
+  unfolding recordResultOf
+  line-left-out z =
+      ⊎-elim
+      (λ (f : leb (length text) (length line) ≡ true).
+      let moved = ap (λ (b : Block). b .next) (fit f) in
+      absurd (omega (arith, z, moved, record-length head value)))
+      (λ (f : leb (length text) (length line) ≡ false). simp f (ap (λ (b : Block). lineResult 4 (b .bytes)) (over f)))
+      (cases (leb (length text) (length line)))
+
+  pub line-put : (next ≡ 0 → ⊥) → lineResult 0 after ≡ recordResultOf head value line
+  unfolding recordResultOf
+  line-put some =
+      ⊎-elim
+      (λ (f : leb (length text) (length line) ≡ true). simp f (ap (λ (b : Block). lineResult 0 (b .bytes)) (fit f)))
+      (λ (f : leb (length text) (length line) ≡ false). absurd (some (ap (λ (b : Block). b .next) (over f))))
+      (cases (leb (length text) (length line)))

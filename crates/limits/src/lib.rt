@@ -1,0 +1,1 @@
+// The limits of document 01; definitions only, in specs/.

@@ -1,0 +1,274 @@
+-- What the taking loop keeps, and what each way through its body does to that.
+-- Assumes nothing.
+use mathlib.Core.Path.{_≡_, _∙_, refl, sym, ap}
+use mathlib.Core.Bool.{Bool, true, false, cond}
+use mathlib.Core.List.{List, _∷_, _++_}
+use Prim.Native.Nat.{ℕ, zero, suc, _+_, _-_, _/_, _<_, _≤_}
+use native.Mathlib.Nat.{add-zero}
+use native.Mathlib.Omega.{arith}
+use borrow.Author.Tests.{lt-ltb}
+use lib.ListN.{length, set, take, drop, length-set, length-take, length-drop, take-append-drop}
+use lib.Seq.{sets, set-append-left, take-set-le, drop-set-add}
+use Rattle.bits.specs.Bits.{bitOf, bitsOf}
+use Rattle.bits.proofs.Truth.{clash}
+use Rattle.recogniser.specs.declared.Request.the-variants as request
+use Rattle.recogniser.specs.declared.Recogniser.{Recogniser}
+use Rattle.stretches.specs.declared.Stretch.{Stretch}
+use Rattle.stretches.specs.Stretch.{stretchOf}
+use Rattle.stretches.proofs.Stretches.{Passes, ends, last, more, stretch-passes, stretch-some, stretch-within}
+use Rattle.frames.specs.Tray.{trayOf}
+use Rattle.registers.specs.declared.Plan.{Plan}
+use Rattle.registers.specs.declared.Model.{Model}
+use Rattle.registers.specs.Registers.{cntOf}
+use Rattle.controller.specs.declared.Cycle.{Cycle}
+use Rattle.controller.specs.declared.Cycle.the-variants.{Silent, Recorded}
+use Rattle.controller.specs.declared.Record.{Record}
+use Rattle.controller.specs.Records.{headOf, isFrameHead}
+use Rattle.controller.specs.Commands.{Effect, actOf}
+use Rattle.controller.specs.Requests.{requestFits}
+use Rattle.controller.proofs.RequestsFit.{step-request-fits}
+use Rattle.decoder.specs.declared.Decoder.{Decoder}
+use Rattle.taking.specs.declared.Ending.{Ending}
+use Rattle.taking.specs.declared.Ending.the-variants.{Done, Frame, ListFull}
+use Rattle.taking.specs.Perform.{PerformResult, recordedAt, performOf}
+use Rattle.taking.specs.Run.{Run, ended, oneBit, oneRecord, afterCycle, runOf}
+use Rattle.taking.specs.Turn.{System, decoderOf, turnOf}
+use Rattle.taking.specs.Take.{Call, CallResult, result, takenWith, finished, takenOf}
+use Rattle.taking.proofs.RunStretch.{landed, bitsAhead, run-stretch}
+
+-- The system that the loop's locals make up, and the bits that are left.
+abbrev pub systemAt : Decoder → List ℕ → List ℕ → Recogniser → Model → ℕ → System
+systemAt d store tray r m taken =
+    record { recogniser = r; machine = record { plan = d .plan; next = d .next + taken; model = m; store = store; tray = tray } }
+
+abbrev pub left : Call → ℕ → List ℕ
+left c taken = bitsOf (c .input) (c .first + taken) (c .count - taken)
+
+-- The answer at an end of the loop.
+abbrev pub answered : Call → System → ℕ → ℕ → Ending → List ℕ → CallResult
+answered c s taken at ending list =
+    result (takenWith (decoderOf s) taken ((at - c .free) / 2) ending) (s .machine .store) (s .machine .tray) list
+
+-- The run that is left, finished onto what is taken and written so far, is the whole call.
+pub record Invariant (d : Decoder) (c : Call) (store tray list : List ℕ) (r : Recogniser) (m : Model) (cnt taken at : ℕ) : Type 0 where
+  pub low : taken ≤ c .count
+  pub from : c .free ≤ at
+  pub fits : at ≤ length list
+  pub same : length list ≡ length (c .list)
+  pub long : length store ≡ length (c .store)
+  pub wide : length tray ≡ length (c .tray)
+  pub cnt-is : cnt ≡ cntOf (d .plan) m
+  pub rest : finished taken ((at - c .free) / 2) list at (runOf turnOf (left c taken) (systemAt d store tray r m taken) (length list - at)) ≡ takenOf d c
+
+pub initially : (d : Decoder) (c : Call) (cnt : ℕ) → c .free ≤ length (c .list) → cnt ≡ cntOf (d .plan) (d .model)
+    → Invariant d c (c .store) (c .tray) (c .list) (d .recogniser) (d .model) cnt 0 (c .free)
+unfolding takenOf
+initially d c cnt h e =
+    let a : c .first + 0 ≡ c .first = omega arith in
+    let b : d .next + 0 ≡ d .next = omega arith in
+    let s : c .count - 0 ≡ c .count = omega arith in
+    let z : (c .free - c .free) / 2 ≡ 0 = omega arith in
+    record { low = omega arith; from = omega arith; fits = h; same = refl; long = refl; wide = refl; cnt-is = e; rest = rw (a, b, s, z) }
+
+-- an end of the run
+ending : (c : Call) (w : System) (e : Ending) (taken at : ℕ) (list : List ℕ)
+    → answered c w taken at e list ≡ finished taken ((at - c .free) / 2) list at (ended w e)
+ending c w e taken at list = simp add-zero
+
+-- the bits left, where one is; and those after some of them
+one-bit : (s : List ℕ) (place n : ℕ) → 0 < n → bitsOf s place n ≡ bitOf s place ∷ bitsOf s (place + 1) (n - 1)
+one-bit s place zero h = absurd (omega arith)
+one-bit s place (suc n) h = let e : suc n - 1 ≡ n = omega arith in rw e
+
+pub length-bits : (s : List ℕ) (place n : ℕ) → length (bitsOf s place n) ≡ n
+length-bits s place zero = refl
+length-bits s place (suc n) = ap suc (length-bits s (place + 1) n)
+
+drop-bits : (s : List ℕ) (place n k : ℕ) → k ≤ n → drop k (bitsOf s place n) ≡ bitsOf s (place + k) (n - k)
+drop-bits s place n zero h = let e : place + 0 ≡ place = omega arith in let f : n - 0 ≡ n = omega arith in rw (e, f)
+drop-bits s place zero (suc k) h = absurd (omega arith)
+drop-bits s place (suc n) (suc k) h =
+    let e : place + 1 + k ≡ place + suc k = omega arith in
+    let f : suc n - suc k ≡ n - k = omega arith in
+    rw f (drop-bits s (place + 1) n k (omega arith) ∙ ap (λ p. bitsOf s p (n - k)) e)
+
+-- a record through the part of the list that begins at its place
+pub two-put : (l : List ℕ) (at x v : ℕ) → 2 ≤ length l - at
+    → take at l ++ (set (set (take (length l - at) (drop at l)) 0 x) 1 v ++ drop (length l - at) (drop at l)) ≡ set (set l at x) (at + 1) v
+two-put l at x v h =
+    let m = take (length l - at) (drop at l) in
+    let n : 0 < length m = simp (length-take, length-drop) (omega arith) in
+    let n₁ : 1 < length (set m 0 x) = simp (length-set, length-take, length-drop) (omega arith) in
+    let left : set (set m 0 x) 1 v ++ drop (length l - at) (drop at l) ≡ set (set (drop at l) 0 x) 1 v =
+    sym (set-append-left (set m 0 x) _ 1 v n₁)
+    ∙ ap (λ (z : List ℕ). set z 1 v) (sym (set-append-left m _ 0 x n) ∙ ap (λ (z : List ℕ). set z 0 x) (take-append-drop (length l - at) (drop at l)))
+    in
+    let z : at + 0 ≡ at = add-zero at in
+    let right : drop at (set (set l at x) (at + 1) v) ≡ set (set (drop at l) 0 x) 1 v =
+    drop-set-add at (set l at x) 1 v ∙ ap (λ (y : List ℕ). set y 1 v) (rw z at (drop-set-add at l 0 x))
+    in
+    let front : take at (set (set l at x) (at + 1) v) ≡ take at l =
+    take-set-le at (set l at x) (at + 1) v (omega arith) ∙ take-set-le at l at x (omega arith)
+    in
+    rw (left, ← right, ← front) (take-append-drop at (set (set l at x) (at + 1) v))
+
+-- no room for a record: no bit is taken
+no-room : (w : System) (bit : ℕ) (bits : List ℕ) (room : ℕ) → room < 2 → runOf turnOf (bit ∷ bits) w room ≡ ended w ListFull
+no-room w bit bits room h =
+    ap (λ b. cond b (ended w ListFull) (oneBit (afterCycle (runOf turnOf bits) (turnOf w bit .state) (turnOf w bit .cycle) room))) (lt-ltb room 2 h)
+
+-- a run with a record ahead of it, finished
+wrote-one : (taken at free : ℕ) (x : Record) (list : List ℕ) (r : Run System) → free ≤ at
+    → finished taken ((at - free) / 2) list at (oneRecord x r)
+    ≡ finished taken ((at + 2 - free) / 2) (set (set list at (headOf x)) (at + 1) (x .value)) (at + 2) r
+wrote-one taken at free x list r h =
+    let n : (at - free) / 2 + suc (suc (length (r .words))) / 2 ≡ (at + 2 - free) / 2 + length (r .words) / 2 = omega arith in
+    let a : suc at ≡ at + 1 = omega arith in
+    let b : suc (suc at) ≡ at + 2 = omega arith in
+    λ i. result (takenWith (decoderOf (r .state)) (taken + r .bits) (n i) (r .ending)) (r .state .machine .store) (r .state .machine .tray)
+    (sets (set (set list at (headOf x)) (a i) (x .value)) (b i) (r .words))
+
+-- Once a request is performed, the call goes on, or it stops at a frame's record.
+pub record AfterRequest (d : Decoder) (c : Call) (tray : List ℕ) (r : Recogniser) (taken : ℕ) (p : PerformResult) : Type 0 where
+  pub from : c .free ≤ p .performed .at
+  pub onwards : p .performed .stops ≡ false → Invariant d c (p .store) tray (p .list) r (p .performed .model) (p .performed .cnt) taken (p .performed .at)
+  pub stopped : p .performed .stops ≡ true → answered c (systemAt d (p .store) tray r (p .performed .model) taken) taken (p .performed .at) Frame (p .list) ≡ takenOf d c
+
+-- a record leaves the store
+same-store : (plan : Plan) (m : Model) (y : Cycle) (store list : List ℕ) (at : ℕ) → length (recordedAt plan m y store list at .store) ≡ length store
+same-store plan m Silent store list at = refl
+same-store plan m (Recorded x) store list at = refl
+
+passes-fit : {cnt : ℕ} {r : Recogniser} {bits : List ℕ} {s : Stretch} → Passes cnt r bits s → requestFits (s .event .request) ≡ true
+passes-fit (ends r) = refl
+passes-fit {cnt} (last r bit bits) = step-request-fits r bit cnt
+passes-fit (more r bit bits s noEvent p) = passes-fit p
+
+module _ {d : Decoder} {c : Call} {store tray list : List ℕ} {r : Recogniser} {m : Model} {cnt taken at : ℕ} (g : Invariant d c store tray list r m cnt taken at) where
+  abbrev here : System
+  here = systemAt d store tray r m taken
+
+  pub done : c .count ≤ taken → answered c here taken at Done list ≡ takenOf d c
+  done h =
+      let e : c .count - taken ≡ 0 = omega arith in
+      ending c here Done taken at list ∙ (rw e at (g .rest))
+
+  module _ (more : taken < c .count) where
+    first : left c taken ≡ bitOf (c .input) (c .first + taken) ∷ bitsOf (c .input) (c .first + taken + 1) (c .count - taken - 1)
+    first = one-bit (c .input) (c .first + taken) (c .count - taken) (omega arith)
+
+    pub full : length list - at < 2 → answered c here taken at ListFull list ≡ takenOf d c
+    full h =
+        ending c here ListFull taken at list
+        ∙ ap (finished taken ((at - c .free) / 2) list at) (sym (no-room here (bitOf (c .input) (c .first + taken)) (bitsOf (c .input) (c .first + taken + 1) (c .count - taken - 1)) (length list - at) h))
+        ∙ (rw first at (g .rest))
+
+    -- after a stretch, given what its event did
+    module _ (room : 2 ≤ length list - at) (s : Stretch)
+        (walked : s ≡ stretchOf r cnt (bitsOf (c .input) (c .first + taken) (c .first + c .count - (c .first + taken)))) where
+      abbrev on : ℕ
+      on = taken + s .taken
+
+      went : s ≡ stretchOf r cnt (left c taken)
+      went = let e : c .first + c .count - (c .first + taken) ≡ c .count - taken = omega arith in rw e at walked
+
+      some : 1 ≤ s .taken
+      some = rw (went, first) (stretch-some r cnt _ _)
+
+      pub within : s .taken ≤ c .count - taken
+      within =
+          let h : s .taken ≤ length (left c taken) = rw went (stretch-within r cnt (left c taken)) in
+          rw (length-bits (c .input) (c .first + taken) (c .count - taken)) at h
+
+      pub moved : (1 ≤ s .taken) × (on ≤ c .count)
+      moved = (some, let h = within in omega arith)
+
+      passes : Passes cnt r (left c taken) s
+      passes = rw (went, first) (stretch-passes r cnt _ _)
+
+      -- what the last cycle of a stretch asks for has a record that fits
+      pub stretched-fits : requestFits (s .event .request) ≡ true
+      stretched-fits = passes-fit passes
+
+      after : drop (s .taken) (left c taken) ≡ left c on
+      after =
+          let e : c .first + taken + s .taken ≡ c .first + on = omega arith in
+          let f : c .count - taken - s .taken ≡ c .count - on = omega arith in
+          drop-bits (c .input) (c .first + taken) (c .count - taken) (s .taken) within ∙ (λ i. bitsOf (c .input) (e i) (f i))
+
+      -- the cycle of the stretch's last bit
+      time : d .next + taken + s .taken - 1 ≡ d .next + on - 1
+      time = omega arith
+
+      module _ (tray₁ : List ℕ) (put : tray₁ ≡ trayOf tray (s .event .frame)) (kept-tray : length tray₁ ≡ length tray) where
+        module _ (f : Effect) (did : f ≡ actOf (d .plan) m (s .event .request) (d .next + on - 1) store) (kept : length (f .store) ≡ length store) where
+          abbrev there : System
+          there = systemAt d (f .store) tray₁ (s .next) (f .acted .model) on
+
+          lands : landed here s ≡ record { state = there; cycle = f .acted .cycle }
+          lands =
+              let e : d .next + taken + s .taken ≡ d .next + on = omega arith in
+              rw (time, e, ← did, put)
+
+          onward : finished on ((at - c .free) / 2) list at (afterCycle (runOf turnOf (left c on)) there (f .acted .cycle) (length list - at)) ≡ takenOf d c
+          onward =
+              let e : (n : ℕ) → on + n ≡ taken + (s .taken + n) = λ n. omega arith in
+              let k : cntOf (d .plan) m ≡ cnt = sym (g .cnt-is) in
+              let run : Run System = afterCycle (runOf turnOf (left c on)) there (f .acted .cycle) (length list - at) in
+              let to : runOf turnOf (left c taken) here (length list - at) ≡ bitsAhead (s .taken) run =
+              run-stretch cnt (length list - at) room passes here refl k
+              ∙ (λ i. bitsAhead (s .taken) (afterCycle (runOf turnOf (after i)) (lands i .state) (lands i .cycle) (length list - at))) in
+              rw (e (run .bits)) (ap (finished taken ((at - c .free) / 2) list at) (sym to) ∙ g .rest)
+
+          goes : (y : Cycle) → f .acted .cycle ≡ y → AfterRequest d c tray₁ (s .next) on (recordedAt (d .plan) (f .acted .model) y (f .store) list at)
+          goes Silent e = record {
+            from = g .from;
+            onwards = λ _. record {
+              low = moved .1;
+              from = g .from;
+              fits = g .fits;
+              same = g .same;
+              long = kept ∙ g .long;
+              wide = kept-tray ∙ g .wide;
+              cnt-is = refl;
+              rest = rw e at onward;
+            };
+            stopped = λ t. clash t refl;
+          }
+          goes (Recorded x) e =
+              let list₁ : List ℕ = set (set list at (headOf x)) (at + 1) (x .value) in
+              let same-list : length list₁ ≡ length list = simp length-set in
+              let low : c .free ≤ at + 2 = omega (arith, g .from) in
+              let next : Bool → Run System = λ b. cond b (ended there Frame) (runOf turnOf (left c on) there (length list - at - 2)) in
+              let recorded : finished on ((at + 2 - c .free) / 2) list₁ (at + 2) (next (isFrameHead (headOf x))) ≡ takenOf d c =
+              sym (wrote-one on at (c .free) x list (next (isFrameHead (headOf x))) (g .from)) ∙ (rw e at onward) in
+              record {
+                from = low;
+                onwards = λ h.
+                    let n : length list - at - 2 ≡ length list₁ - (at + 2) = omega (arith, same-list) in
+                    record {
+                      low = moved .1;
+                      from = low;
+                      fits = omega (arith, same-list);
+                      same = same-list ∙ g .same;
+                      long = kept ∙ g .long;
+                      wide = kept-tray ∙ g .wide;
+                      cnt-is = refl;
+                      rest = rw n at (rw h at recorded);
+                    };
+                stopped = λ h. ending c there Frame on (at + 2) list₁ ∙ (rw h at recorded);
+              }
+
+        -- a stretch that asks nothing of the controller
+        pub quiet : s .event .request ≡ request.Nothing → Invariant d c store tray₁ list (s .next) m cnt on at
+        unfolding actOf
+        quiet e = rw (g .cnt-is) (goes (record { acted = record { model = m; cycle = Silent }; store = store }) (rw e) refl Silent refl .onwards refl)
+
+        -- a stretch whose request is performed
+        pub performed : (p : PerformResult) → p ≡ performOf (d .plan) m (s .event .request) (d .next + on - 1) store list at → length (p .store) ≡ length store
+            → AfterRequest d c tray₁ (s .next) on p
+        unfolding performOf
+        performed p e kept =
+            let f : Effect = actOf (d .plan) m (s .event .request) (d .next + on - 1) store in
+            let k : length (f .store) ≡ length store = sym (ap (λ (q : PerformResult). length (q .store)) e ∙ same-store (d .plan) (f .acted .model) (f .acted .cycle) (f .store) list at) ∙ kept in
+            rw e (goes f refl k (f .acted .cycle) refl)

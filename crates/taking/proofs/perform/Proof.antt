@@ -1,0 +1,114 @@
+-- `perform` is a request performed.
+-- Assumes nothing.
+use Prim.Native.Nat.{_<_}
+use native.Mathlib.Omega.{arith}
+use borrow.Author.Needs.{needs}
+use lib.ListN.{length-take, length-drop}
+use Rattle.limits.specs.Limits.{clockLimit}
+use Rattle.taking.proofs.PerformCases.{at-time, silently, recorded}
+use Rattle.taking.proofs.LoopInvariant.{two-put}
+use Rattle.taking.proofs.perform.Statement.{statement}
+use Rattle.taking.proofs.perform.Tie as tie
+
+-- The places that the proofs look back to, each by the one after it: the call, after the request's effect, after its CNT.
+abbrev called : tie.After-act → tie.Start
+called a = a .before .before .before .before
+
+abbrev acted : tie.After-cnt → tie.After-act
+acted n = n .before .before .before .before
+
+abbrev counted : tie.After-cycle → tie.After-cnt
+counted k = k .before .before
+
+-- The record's time is the request's.
+time-low : (k : tie.After-cycle) → k .cycle .given .0 .0 .time < clockLimit
+time-low k =
+    let a = acted (counted k) in
+    let s = called a in
+    rw (at-time (s .args .plan) (s .args .model) (s .args .request) (s .args .time) _ _ _ (a .act .ensures) _ (k .cycle .given .1)) (s .pre .0)
+
+act-requires : tie.Need-act-requires
+act-requires c κs = search needs
+
+cnt-requires : tie.Need-cnt-requires
+cnt-requires c κs = search needs
+
+enum-known-cycle : tie.Need-enum-known-cycle
+enum-known-cycle c = search needs
+
+enum-told : tie.Need-enum-told
+enum-told c = search needs
+
+same-length : tie.Need-same-length
+same-length c = search needs
+
+returns : tie.Need-returns
+returns c =
+    let n = c .before .before in
+    silently _ _ _ _ _ _ _ (acted n .act .ensures) _ _ _ (n .cnt .ensures) (c .enum-told .given .1)
+
+mul-write-record : tie.Need-mul-write-record
+mul-write-record c =
+    let s = called (acted (counted (c .before))) in
+    omega (arith, s .pre .3, s)
+
+sub-write-record : tie.Need-sub-write-record
+sub-write-record c = search needs
+
+part-write-record-start : tie.Need-part-write-record-start
+part-write-record-start c = search needs
+
+part-write-record-end : tie.Need-part-write-record-end
+part-write-record-end c = search needs
+
+write-record-requires : tie.Need-write-record-requires
+write-record-requires c κs =
+    let k = c .before .before in
+    let s = called (acted (counted k)) in
+    (time-low k, simp (length-take, length-drop) (omega (arith, s .pre .3)))
+
+add-t16 : tie.Need-add-t16
+add-t16 c =
+    let w = c .before .before in
+    let s = called (acted (counted (w .before .before .before))) in
+    omega (arith, s .pre .3, s)
+
+is-frame-requires : tie.Need-is-frame-requires
+is-frame-requires c κs = search needs
+
+same-length-2 : tie.Need-same-length-2
+same-length-2 c = search needs
+
+same-length-3 : tie.Need-same-length-3
+same-length-3 c = search needs
+
+returns-2 : tie.Need-returns-2
+returns-2 c =
+    let w = c .before .before .before in
+    let k = w .before .before .before in
+    let n = counted k in
+    let a = acted n in
+    let s = called a in
+    recorded _ _ _ _ _ _ _ (a .act .ensures) _ _ _ (n .cnt .ensures) _ _ _ (k .cycle .given .1) (c .is-frame .ensures)
+    (rw (w .write-record .ensures) (two-put (s .args .list .now) (s .args .at) _ _ (s .pre .3)))
+
+pub perform-spec : {M : Type 1} → statement M
+perform-spec =
+    tie.close
+    (tie.spec
+    act-requires
+    cnt-requires
+    enum-known-cycle
+    enum-told
+    same-length
+    returns
+    mul-write-record
+    sub-write-record
+    part-write-record-start
+    part-write-record-end
+    write-record-requires
+    add-t16
+    is-frame-requires
+    same-length-2
+    same-length-3
+    returns-2)

@@ -1,0 +1,2 @@
+pub mod MarkedStreams
+pub mod Edges

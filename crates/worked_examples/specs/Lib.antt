@@ -1,0 +1,3 @@
+pub mod StreamTable
+pub mod MarkedStreams
+pub mod Edges

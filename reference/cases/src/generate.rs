@@ -1,0 +1,125 @@
+//! Random streams of commands.
+
+use crate::code::{self, BCR, CAL, ECR, SYNC};
+use crate::{Random, Stream};
+
+/// Where the three registers are that a reader looks into.
+#[derive(Clone, Copy, Debug, PartialEq, Eq)]
+pub struct Addresses {
+    pub csr: u8,
+    pub feen: u8,
+    pub cnt: u8,
+}
+
+impl Addresses {
+    /// Those of document 01's default plan.
+    pub const DEFAULT: Addresses = Addresses {
+        csr: 0,
+        feen: 2,
+        cnt: 5,
+    };
+}
+
+/// Whole commands by the default plan.
+pub fn commands(random: &mut Random, count: usize) -> Stream {
+    commands_at(Addresses::DEFAULT, random, count)
+}
+
+/// Whole commands with random zeros between them. It follows CNT as the
+/// commands write it at its address, so that variable fields end where the
+/// next command begins. Most CNT are small, to keep frames short.
+pub fn commands_at(at: Addresses, random: &mut Random, count: usize) -> Stream {
+    let mut stream = Stream::new().en_data_take();
+    let mut cnt = 0;
+    for _ in 0..count {
+        stream = stream.zeros(gap(random));
+        stream = match random.below(24) {
+            0..=7 => stream.lv1(),
+            8..=12 => stream.fast([BCR, ECR, CAL, SYNC][random.below(4) as usize]),
+            13 => stream.fast(bad_body(random)),
+            14..=16 => stream.en_data_take(),
+            _ => slow_command(stream, at, random, &mut cnt),
+        };
+    }
+    stream
+}
+
+/// A body that is neither a Fast nor the Slow header's.
+fn bad_body(random: &mut Random) -> u8 {
+    [0, 3, 5, 6, 7, 9, 10, 12, 13, 14, 15][random.below(11) as usize]
+}
+
+fn gap(random: &mut Random) -> usize {
+    match random.below(3) {
+        0 => 0,
+        1 => random.below(6) as usize,
+        _ => random.below(30) as usize,
+    }
+}
+
+fn slow_command(stream: Stream, at: Addresses, random: &mut Random, cnt: &mut u16) -> Stream {
+    let nibble = random.below(16) as u8;
+    match random.below(20) {
+        0..=2 => {
+            let value = small(random);
+            if nibble == at.cnt {
+                *cnt = value;
+            }
+            stream.wr_register(nibble, value)
+        }
+        3 | 4 => stream.rd_register(nibble),
+        5..=7 => stream.wr_fifo(random.word() as u32),
+        8 | 9 => stream.rd_fifo(nibble),
+        10 => stream.wr_register(at.feen, random.word() as u16),
+        11 => stream.wr_register(at.csr, random.word() as u16),
+        12..=14 => {
+            *cnt = small(random);
+            stream.wr_register(at.cnt, *cnt)
+        }
+        15 => front_end(stream, code::WR_FRONT_END, random, *cnt),
+        16 => front_end(stream, code::RD_FRONT_END, random, *cnt),
+        17 => {
+            let frame = bits(random, code::receiver_bits(*cnt));
+            stream.wr_receiver(&frame)
+        }
+        18 => stream.reset_fe(nibble),
+        _ if random.one_in(4) => {
+            *cnt = 0;
+            stream.reset_mcc()
+        }
+        // A bad Slow.
+        _ => stream.slow(nibble | 11, nibble),
+    }
+}
+
+/// A front-end frame, with an unsteady group now and then.
+fn front_end(stream: Stream, field3: u8, random: &mut Random, cnt: u16) -> Stream {
+    let frame = bits(random, code::front_end_bits(cnt));
+    let mut stream = stream.front_end(field3, &frame);
+    if !frame.is_empty() && random.one_in(3) {
+        let last = stream.bits.len() - 1 - random.below(frame.len() as u64 * 8) as usize;
+        stream.bits[last] = !stream.bits[last];
+    }
+    stream
+}
+
+/// Seldom a large number, as CNT makes frames of it.
+fn small(random: &mut Random) -> u16 {
+    let number = random.word() as u16;
+    match random.below(16) {
+        0 => number & 0x01FF,
+        1 => number & 0xE007,
+        _ => number & 0x003F,
+    }
+}
+
+pub fn bits(random: &mut Random, count: u32) -> Vec<bool> {
+    (0..count).map(|_| random.bit()).collect()
+}
+
+/// Inverts each bit with a chance of one in `n`.
+pub fn flip_some(stream: &mut Stream, random: &mut Random, n: u64) {
+    for bit in &mut stream.bits {
+        *bit ^= random.one_in(n);
+    }
+}

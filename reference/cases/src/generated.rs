@@ -1,0 +1,70 @@
+//! Generated streams, the same ones each time.
+
+use crate::{generate, Case, Random, Stream};
+
+/// How a stream is made.
+#[derive(Clone, Copy)]
+enum Recipe {
+    /// Whole commands.
+    Clean,
+    /// The same with one bit in so many inverted.
+    Flips(u64),
+    /// Random bits.
+    Noise,
+}
+
+const RECIPES: [Recipe; 8] = [
+    Recipe::Clean,
+    Recipe::Flips(10_000),
+    Recipe::Flips(1_000),
+    Recipe::Flips(300),
+    Recipe::Flips(100),
+    Recipe::Flips(30),
+    Recipe::Flips(10),
+    Recipe::Noise,
+];
+
+/// The first `count` generated cases; each depends on its number only.
+pub fn generated(count: u64) -> Vec<Case> {
+    (0..count).map(case).collect()
+}
+
+fn case(number: u64) -> Case {
+    let mut random = Random::new(0x5EED_0000 + number);
+    let recipe = RECIPES[(number % RECIPES.len() as u64) as usize];
+    let mut stream = match recipe {
+        Recipe::Noise => {
+            let begun = if random.bit() {
+                Stream::new().en_data_take()
+            } else {
+                Stream::new()
+            };
+            begun.raw(&generate::bits(&mut random, 16_000))
+        }
+        Recipe::Clean | Recipe::Flips(_) => generate::commands(&mut random, 400),
+    };
+    if let Recipe::Flips(rate) = recipe {
+        generate::flip_some(&mut stream, &mut random, rate);
+    }
+    let input = random_lines(&stream.bytes(), &mut random);
+    Case::new(format!("generated/{number:03}"), input)
+}
+
+/// Lines of random lengths, empty ones too; now and then no last line feed.
+fn random_lines(bytes: &[u8], random: &mut Random) -> Vec<u8> {
+    let mut lines = String::new();
+    let mut rest = bytes;
+    while !rest.is_empty() {
+        let length = (random.below(33) as usize).min(rest.len());
+        let (line, after) = rest.split_at(length);
+        for byte in line {
+            lines.push_str(&format!("{byte:02X}"));
+        }
+        lines.push('\n');
+        rest = after;
+    }
+    if random.one_in(4) {
+        lines.pop();
+    }
+    lines.into_bytes()
+}

@@ -1,0 +1,59 @@
+//! Writes each case's input and what the three programs print for it:
+//! `vectors FOLDER [--golden | --generated N]`.
+//!
+//! With `--golden` only the cases that have golden files, and files of cases
+//! that are no more are removed.
+
+#![forbid(unsafe_code)]
+
+use cases::{fixed, generated, golden, Case};
+use compare::golden::{strays, write};
+use std::fs;
+use std::io;
+use std::path::Path;
+use std::process::ExitCode;
+
+fn main() -> ExitCode {
+    let arguments: Vec<String> = std::env::args().skip(1).collect();
+    let arguments: Vec<&str> = arguments.iter().map(String::as_str).collect();
+    let written = match arguments[..] {
+        [folder] if !folder.starts_with("--") => write_all(Path::new(folder), fixed()),
+        [folder, "--golden"] => write_golden(Path::new(folder)),
+        [folder, "--generated", count] => match count.parse() {
+            Ok(count) => write_all(Path::new(folder), [fixed(), generated(count)].concat()),
+            Err(_) => return usage(),
+        },
+        _ => return usage(),
+    };
+    match written {
+        Ok(written) => {
+            println!("{written} cases");
+            ExitCode::SUCCESS
+        }
+        Err(error) => {
+            eprintln!("vectors: {error}");
+            ExitCode::FAILURE
+        }
+    }
+}
+
+fn usage() -> ExitCode {
+    eprintln!("vectors FOLDER [--golden | --generated N]");
+    ExitCode::FAILURE
+}
+
+fn write_all(folder: &Path, cases: Vec<Case>) -> io::Result<usize> {
+    for case in &cases {
+        write(folder, case)?;
+    }
+    Ok(cases.len())
+}
+
+fn write_golden(folder: &Path) -> io::Result<usize> {
+    let cases = golden();
+    fs::create_dir_all(folder)?;
+    for stray in strays(folder, &cases)? {
+        fs::remove_file(folder.join(stray))?;
+    }
+    write_all(folder, cases)
+}

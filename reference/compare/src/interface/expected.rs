@@ -1,0 +1,136 @@
+//! What is expected of a call, by the separate reader.
+
+use super::call::{Call, Open, Take};
+use super::image::{image, state, unspecified_places};
+use super::layout::{
+    DONE, FRAME, IMAGE_WORDS, LINE_BYTES, LIST_FULL, OK, RECORD_LINE_BYTES, RESULT_WORDS, UNSOUND,
+    WRONG_BUFFERS, WRONG_PLAN,
+};
+use reader::listing::push_record;
+use reader::{frame_part, hex_line, open, sound, take, Ending, Plan, Record, State};
+
+#[derive(Clone, Debug)]
+pub struct Expected {
+    /// What the function answers.
+    pub answer: u64,
+    /// The call with its buffers as they are afterwards.
+    pub after: Call,
+    /// Places of the image whose words are without a meaning.
+    pub unspecified: Vec<usize>,
+}
+
+pub fn expected(call: &Call) -> Expected {
+    let mut after = call.clone();
+    let answer = match &mut after {
+        Call::Open(after) => opening(after),
+        Call::Take(after) => return taking(after),
+        Call::FrameBits { head, value } => {
+            let record = Record::from_words([*head, *value]);
+            record.frame_bits().unwrap_or(0)
+        }
+        Call::FramePart { tray, bits } => frame_part(tray, *bits).len() as u64,
+        Call::HexLine { line, bytes } => reading(line, bytes),
+        Call::RecordLine { line, head, value } => writing(line, [*head, *value]),
+    };
+    Expected {
+        answer,
+        after,
+        unspecified: Vec::new(),
+    }
+}
+
+/// A refused opening too writes a start state, where there is room for one.
+fn opening(call: &mut Open) -> u64 {
+    let (number, state) = match plan(call) {
+        Some(plan) => open(plan, call.cycle),
+        None => (Some(WRONG_PLAN as u8), State::start(Plan::DEFAULT, 0)),
+    };
+    let number = number.map(u64::from);
+    if call.image.len() != IMAGE_WORDS {
+        return number.unwrap_or(UNSOUND);
+    }
+    call.image.copy_from_slice(&image(&state));
+    number.unwrap_or(OK)
+}
+
+/// `None` where a number is beyond its width: no such address or mask exists.
+fn plan(call: &Open) -> Option<Plan> {
+    Some(Plan {
+        mask: call.mask.try_into().ok()?,
+        csr: call.csr.try_into().ok()?,
+        feen: call.feen.try_into().ok()?,
+        cnt: call.cnt.try_into().ok()?,
+    })
+}
+
+fn taking(call: &Take) -> Expected {
+    let mut after = call.clone();
+    match take_into(&mut after) {
+        Ok(taken) => Expected {
+            answer: OK,
+            unspecified: match taken {
+                0 => Vec::new(),
+                _ => unspecified_places(&call.image, &after.image),
+            },
+            after: Call::Take(after),
+        },
+        // What was lent, not what the reader left: nothing changes.
+        Err(number) => Expected {
+            answer: number,
+            unspecified: Vec::new(),
+            after: Call::Take(call.clone()),
+        },
+    }
+}
+
+/// The bits taken. With none the image stays, word for word.
+fn take_into(call: &mut Take) -> Result<u64, u64> {
+    let state = state(&call.image).filter(sound).ok_or(UNSOUND)?;
+    if call.result.len() != RESULT_WORDS {
+        return Err(WRONG_BUFFERS);
+    }
+    let answer = take(
+        state,
+        &call.input,
+        call.first,
+        call.count,
+        &mut call.store,
+        &mut call.tray,
+        &mut call.list,
+        call.free,
+    );
+    let ending = match answer.ending {
+        Ending::Done => DONE,
+        Ending::Frame => FRAME,
+        Ending::ListFull => LIST_FULL,
+        Ending::Refused(number) => return Err(number.into()),
+    };
+    if answer.bits_taken != 0 {
+        call.image.copy_from_slice(&image(&answer.state));
+    }
+    call.result = vec![answer.bits_taken, answer.records_written, ending];
+    Ok(answer.bits_taken)
+}
+
+fn reading(line: &[u8], bytes: &mut [u8]) -> u64 {
+    if bytes.len() < LINE_BYTES {
+        return WRONG_BUFFERS;
+    }
+    match hex_line(line) {
+        Ok(read) => {
+            bytes[..read.len()].copy_from_slice(&read);
+            OK
+        }
+        Err(number) => u64::from(number),
+    }
+}
+
+fn writing(line: &mut [u8], record: [u64; 2]) -> u64 {
+    if line.len() < RECORD_LINE_BYTES {
+        return WRONG_BUFFERS;
+    }
+    let mut written = Vec::new();
+    push_record(&mut written, &Record::from_words(record));
+    line[..RECORD_LINE_BYTES].copy_from_slice(&written);
+    OK
+}

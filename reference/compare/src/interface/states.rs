@@ -1,0 +1,120 @@
+//! Sound states from which calls start.
+
+use cases::Random;
+use reader::group::Group;
+use reader::limits::CLOCK_LIMIT;
+use reader::{slow, Plan, Recogniser, State, Warnings};
+
+/// Plans with few and many addresses, the highest one too.
+pub const PLANS: [Plan; 6] = [
+    Plan::DEFAULT,
+    plan(0xFFFF, 15, 0, 7),
+    plan(0x8421, 15, 10, 0),
+    plan(0x0007, 2, 1, 0),
+    plan(0xC001, 0, 15, 14),
+    plan(0x0FF8, 3, 11, 8),
+];
+
+const fn plan(mask: u16, csr: u8, feen: u8, cnt: u8) -> Plan {
+    Plan {
+        mask,
+        csr,
+        feen,
+        cnt,
+    }
+}
+
+/// The commands with a Field 5.
+pub const WITH_FIELD5: [u8; 8] = [
+    slow::WR_REGISTER,
+    slow::RD_REGISTER,
+    slow::WR_FIFO,
+    slow::RD_FIFO,
+    slow::WR_FRONT_END,
+    slow::RD_FRONT_END,
+    slow::WR_RECEIVER,
+    slow::GLOBAL_RESET_FE,
+];
+
+/// A sound state of any phase, with counters near their ends now and then.
+pub fn random_state(random: &mut Random, plan: Plan) -> State {
+    let next_cycle = random_cycle(random);
+    let mut state = State::start(plan, next_cycle);
+    state.base_cycle = match random.below(3) {
+        0 => next_cycle,
+        1 => next_cycle.saturating_sub(random.below(600)),
+        _ => random.below(next_cycle + 1),
+    };
+    state.l1id = [0, 127, 254, 255, random.below(256) as u32][random.below(5) as usize];
+    state.warnings = Warnings {
+        wlv1: random.bit(),
+        wfst: random.bit(),
+        wslw: random.bit(),
+    };
+    for address in (0..16).filter(|&address| plan.has(address)) {
+        state.registers[usize::from(address)] = random.word() as u16;
+    }
+    // Small, so that a frame ends within the stream.
+    state.registers[usize::from(plan.cnt)] = 1 + random.below(40) as u16;
+    let pointer =
+        |random: &mut Random| [0, 126, 127, random.below(128) as u8][random.below(4) as usize];
+    state.write_pointers = std::array::from_fn(|_| pointer(random));
+    state.read_pointers = std::array::from_fn(|_| pointer(random));
+    state.recogniser = random_recogniser(random, state.cnt());
+    state.run_mode = random.bit()
+        && matches!(
+            state.recogniser,
+            Recogniser::Hunting { .. } | Recogniser::Body { .. }
+        );
+    state
+}
+
+/// An opening cycle; a stream from it may reach the last one.
+pub fn random_cycle(random: &mut Random) -> u64 {
+    match random.below(10) {
+        0..=2 => 0,
+        3..=5 => random.below(1 << 20),
+        6..=8 => random.below(CLOCK_LIMIT),
+        _ => CLOCK_LIMIT - 1 - random.below(400),
+    }
+}
+
+fn random_recogniser(random: &mut Random, cnt: u16) -> Recogniser {
+    let received = random.below(4) as u8;
+    let held = random.below(1 << received) as u8;
+    match random.below(8) {
+        0..=2 => Recogniser::Hunting {
+            window: random.below(32) as u8,
+        },
+        3 => Recogniser::Body { held, received },
+        4 => Recogniser::Field3 { held, received },
+        5 => Recogniser::Field4 {
+            field3: random.below(16) as u8,
+            held,
+            received,
+        },
+        _ => random_field5(random, cnt),
+    }
+}
+
+fn random_field5(random: &mut Random, cnt: u16) -> Recogniser {
+    let field3 = WITH_FIELD5[random.below(8) as usize];
+    let cycles = slow::field5_cycles(field3, cnt).unwrap_or(0).max(1);
+    let received = random.below(u64::from(cycles)) as u32;
+    let is_front_end = matches!(field3, slow::WR_FRONT_END | slow::RD_FRONT_END);
+    let held = if slow::keeps_field5(field3) {
+        random.below(1 << received) as u32
+    } else {
+        0
+    };
+    Recogniser::Field5 {
+        field3,
+        field4: random.below(16) as u8,
+        held,
+        received,
+        group: Group {
+            first: is_front_end && random.bit(),
+            unsteady: is_front_end && random.bit(),
+        },
+    }
+}

@@ -1,0 +1,81 @@
+//! A live pipe: each line's records come before the next line is written.
+
+use super::fault::{judge, Fault};
+use super::running::{Running, Waited};
+use super::under_test::UnderTest;
+use crate::printed::{printed, printed_so_far};
+use crate::tally::Check;
+use cases::{fixed, generated, Case};
+use reader::Program;
+use std::io::{self, Write};
+use std::path::Path;
+use std::process::Stdio;
+use std::time::Instant;
+
+pub struct Live {
+    pub case: Case,
+    /// The pipe stays open after the last line, which is refused and so ends
+    /// the run.
+    pub left_open: bool,
+}
+
+/// Inputs that fit into a pipe whole, so that no write waits.
+pub fn cases() -> Vec<Live> {
+    let named = |name: &str| {
+        let mut all = fixed().into_iter().chain(generated(1));
+        all.find(|case| case.name == name).expect("a case's name")
+    };
+    let live = |name, left_open| Live {
+        case: named(name),
+        left_open,
+    };
+    vec![
+        live("paper/listing", false),
+        live("frames/long-then-short", false),
+        live("generated/000", false),
+        live("refusals/lower-case", true),
+        live("refusals/odd", true),
+    ]
+}
+
+/// Each of the three programs on one live pipe.
+pub fn check(under_test: &UnderTest, live: &Live) -> Vec<Check> {
+    let check = |program: Program| Check {
+        name: format!("{}, {}, on a live pipe", program.name(), live.case.name),
+        fault: under_test.run(program, |path| {
+            run(under_test, path, program, live)
+                .unwrap_or_else(|error| Some(Fault::NotStarted(error.to_string())))
+        }),
+    };
+    Program::ALL.map(check).into()
+}
+
+fn run(
+    under_test: &UnderTest,
+    path: &Path,
+    program: Program,
+    live: &Live,
+) -> io::Result<Option<Fault>> {
+    let input = &live.case.input[..];
+    let expected = printed(program, input);
+    let mut running = Running::start(path, Stdio::piped(), expected.len())?;
+    let mut pipe = running.input();
+    let mut written = 0;
+    for (number, line) in (1..).zip(input.split_inclusive(|&byte| byte == b'\n')) {
+        // A program that has ended too early shows in its output.
+        let _ = pipe.as_mut().map(|pipe| pipe.write_all(line));
+        written += line.len();
+        let so_far = printed_so_far(program, &input[..written]).len();
+        match running.wait_for(so_far, Instant::now() + under_test.line_limit) {
+            Waited::Came => {}
+            Waited::NoMore => break,
+            Waited::TooLong => return Ok(Some(Fault::LagsAtLine(number))),
+        }
+    }
+    if !live.left_open {
+        pipe = None;
+    }
+    let ended = running.finish(Instant::now() + under_test.run_limit)?;
+    drop(pipe);
+    Ok(judge(&expected, &running.printed, ended))
+}

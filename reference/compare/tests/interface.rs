@@ -1,0 +1,541 @@
+//! The images of states, and the cases of the interface, without a driver.
+
+use cases::generate::{bits, commands_at, flip_some};
+use cases::Random;
+use compare::interface::call::{Call, Open, Take};
+use compare::interface::difference::{difference, reply_bytes};
+use compare::interface::expected::{expected, Expected};
+use compare::interface::image::{first_is_unspecified, image, state, uses};
+use compare::interface::layout::{self, at, largest, IMAGE_WORDS, LAYOUT, RECOGNISER};
+use compare::interface::states::{random_cycle, random_state, PLANS};
+use compare::interface::streams::addresses;
+use compare::interface::{checker, fit, prefilled};
+use compare::tally::Tally;
+use reader::limits::{input_fits, CLOCK_LIMIT, RECORD_WORDS, STORE_WORDS, TRAY_BYTES};
+use reader::listing::push_record;
+use reader::record::{flag, kind};
+use reader::{hex_line, open, recogniser, slow, sound, take};
+use reader::{Ending, Plan, Recogniser, Record, State};
+use std::collections::BTreeMap;
+use std::path::Path;
+
+/// The C header of the repository.
+const HEADER: &str = concat!(env!("CARGO_MANIFEST_DIR"), "/../../include/kernelstill.h");
+
+/// The numbers that the header defines, by name without its first part.
+fn in_header() -> BTreeMap<String, u64> {
+    let header = std::fs::read_to_string(HEADER).expect("the header is there");
+    let mut numbers = BTreeMap::new();
+    for line in header.lines() {
+        let Some(defined) = line.strip_prefix("#define KERNELSTILL_") else {
+            continue;
+        };
+        // The name alone is the guard against a second reading.
+        let Some((name, rest)) = defined.split_once(' ') else {
+            continue;
+        };
+        // A text, which is compared with other files' (version.rs).
+        if name == "VERSION" {
+            continue;
+        }
+        let text = rest.split("/*").next().unwrap_or(rest).trim();
+        let number = number(text).unwrap_or_else(|| panic!("{name} is {text:?}"));
+        let other = numbers.insert(name.to_string(), number);
+        assert_eq!(other, None, "{name} is defined twice");
+    }
+    numbers
+}
+
+/// A number of the header: decimal, hexadecimal or a power of 2.
+fn number(text: &str) -> Option<u64> {
+    if let Some(power) = text.strip_prefix("(UINT64_C(1) << ") {
+        return Some(1 << power.strip_suffix(')')?.parse::<u32>().ok()?);
+    }
+    match text.strip_prefix("0x") {
+        Some(digits) => u64::from_str_radix(digits, 16).ok(),
+        None => text.parse().ok(),
+    }
+}
+
+/// The same numbers as the reader and this package have them.
+fn in_reader() -> BTreeMap<String, u64> {
+    let places = [
+        "LAYOUT", "MASK", "CSR", "FEEN", "CNT", "NEXT", "PHASE", "SHIFT", "COMMAND", "ADDRESS",
+        "COUNT", "HELD", "FIRST", "UNSTEADY", "RUN_MODE", "L1ID", "BASE", "WLV1", "WFST", "WSLW",
+    ];
+    let places = places.into_iter().zip(0..);
+    let blocks = [
+        ("REGISTERS", at::REGISTERS as u64),
+        ("WRITES", at::WRITES as u64),
+        ("READS", at::READS as u64),
+    ];
+    let places = places
+        .chain(blocks)
+        .map(|(name, place)| (format!("AT_{name}"), place));
+    let kinds = kinds()
+        .into_iter()
+        .map(|(name, kind)| (format!("KIND_{name}"), kind.into()));
+    let numbers = [limits(), refusals(), results(), flags()].concat();
+    let numbers = numbers
+        .into_iter()
+        .map(|(name, number)| (name.to_string(), number));
+    places.chain(kinds).chain(numbers).collect()
+}
+
+fn limits() -> Vec<(&'static str, u64)> {
+    let Plan {
+        mask,
+        csr,
+        feen,
+        cnt,
+    } = Plan::DEFAULT;
+    vec![
+        ("LAYOUT", LAYOUT),
+        ("IMAGE_WORDS", IMAGE_WORDS as u64),
+        ("STORE_WORDS", STORE_WORDS as u64),
+        ("TRAY_BYTES", TRAY_BYTES as u64),
+        ("RESULT_WORDS", layout::RESULT_WORDS as u64),
+        ("INPUT_BYTES", layout::INPUT_BYTES as u64),
+        ("RECORD_WORDS", RECORD_WORDS as u64),
+        ("RECORD_LINE_BYTES", layout::RECORD_LINE_BYTES as u64),
+        ("LINE_BYTES", layout::LINE_BYTES as u64),
+        ("CLOCK_LIMIT", CLOCK_LIMIT),
+        ("DEFAULT_MASK", mask.into()),
+        ("DEFAULT_CSR", csr.into()),
+        ("DEFAULT_FEEN", feen.into()),
+        ("DEFAULT_CNT", cnt.into()),
+    ]
+}
+
+fn refusals() -> Vec<(&'static str, u64)> {
+    vec![
+        ("OK", layout::OK),
+        ("WRONG_PLAN", layout::WRONG_PLAN),
+        ("WRONG_CYCLE", layout::WRONG_CYCLE),
+        ("UNSOUND", layout::UNSOUND),
+        ("WRONG_BUFFERS", layout::WRONG_BUFFERS),
+        ("WRONG_RANGE", layout::WRONG_RANGE),
+        ("CLOCK_OVER", layout::CLOCK_OVER),
+        ("WRONG_CHARACTER", layout::WRONG_CHARACTER),
+        ("WRONG_LENGTH", layout::WRONG_LENGTH),
+    ]
+}
+
+/// The places of a result, in the order in which it is compared, and how a
+/// taking call ends.
+fn results() -> Vec<(&'static str, u64)> {
+    vec![
+        ("RESULT_BITS", 0),
+        ("RESULT_RECORDS", 1),
+        ("RESULT_ENDING", 2),
+        ("DONE", layout::DONE),
+        ("FRAME", layout::FRAME),
+        ("LIST_FULL", layout::LIST_FULL),
+    ]
+}
+
+fn flags() -> Vec<(&'static str, u64)> {
+    vec![
+        ("FLAG_ACTED", flag::ACTED_ON.into()),
+        ("FLAG_FLIP", flag::FLIP.into()),
+        ("FLAG_SENT", flag::SENT.into()),
+        ("FLAG_MISSING", flag::MISSING.into()),
+        ("FLAG_UNSTEADY", flag::UNSTEADY.into()),
+    ]
+}
+
+fn kinds() -> [(&'static str, u8); 17] {
+    [
+        ("LV1", kind::LV1),
+        ("BCR", kind::FAST + recogniser::BCR),
+        ("ECR", kind::FAST + recogniser::ECR),
+        ("CAL", kind::FAST + recogniser::CAL),
+        ("SYNC", kind::FAST + recogniser::SYNC),
+        ("BAD_FAST", kind::BAD_FAST),
+        ("WR_REGISTER", kind::SLOW + slow::WR_REGISTER),
+        ("RD_REGISTER", kind::SLOW + slow::RD_REGISTER),
+        ("WR_FIFO", kind::SLOW + slow::WR_FIFO),
+        ("RD_FIFO", kind::SLOW + slow::RD_FIFO),
+        ("WR_FRONT_END", kind::SLOW + slow::WR_FRONT_END),
+        ("RD_FRONT_END", kind::SLOW + slow::RD_FRONT_END),
+        ("WR_RECEIVER", kind::SLOW + slow::WR_RECEIVER),
+        ("EN_DATA_TAKE", kind::SLOW + slow::EN_DATA_TAKE),
+        ("GLOBAL_RESET_MCC", kind::SLOW + slow::GLOBAL_RESET_MCC),
+        ("GLOBAL_RESET_FE", kind::SLOW + slow::GLOBAL_RESET_FE),
+        ("BAD_SLOW", kind::BAD_SLOW),
+    ]
+}
+
+#[test]
+fn all_numbers_of_the_header_are_the_readers() {
+    assert_eq!(in_header(), in_reader());
+}
+
+#[test]
+fn the_lengths_of_inputs_and_lines_are_the_readers() {
+    assert!(input_fits(layout::INPUT_BYTES) && !input_fits(layout::INPUT_BYTES + 1));
+    let longest = hex_line(&[b'F'; 2 * layout::LINE_BYTES]).expect("a line");
+    assert_eq!(longest.len(), layout::LINE_BYTES);
+    assert!(hex_line(&[b'F'; 2 * layout::LINE_BYTES + 2]).is_err());
+    for words in [[0, 0], [u64::MAX, u64::MAX]] {
+        let mut line = Vec::new();
+        push_record(&mut line, &Record::from_words(words));
+        assert_eq!(line.len(), layout::RECORD_LINE_BYTES);
+    }
+}
+
+/// States on the way through a random stream.
+fn states_of_a_stream(random: &mut Random) -> Vec<State> {
+    let plan = PLANS[random.below(PLANS.len() as u64) as usize];
+    let cycle = random_cycle(random).min(1 << 40);
+    let mut stream = commands_at(addresses(plan), random, 12);
+    let tail = bits(random, 50);
+    stream = stream.raw(&tail);
+    flip_some(&mut stream, random, 60);
+
+    let bytes = stream.bytes();
+    let mut states = vec![open(plan, cycle).1];
+    let (mut store, mut tray) = (vec![0; STORE_WORDS], vec![0; TRAY_BYTES]);
+    for bit in 0..stream.bits.len() as u64 {
+        let state = states[states.len() - 1].clone();
+        states.push(take_bit(state, &bytes, bit, &mut store, &mut tray));
+    }
+    states
+}
+
+/// Takes one bit, and checks how the call ended.
+fn take_bit(state: State, bytes: &[u8], bit: u64, store: &mut [u32], tray: &mut [u8]) -> State {
+    let mut list = [0; RECORD_WORDS];
+    let answer = take(state, bytes, bit, 1, store, tray, &mut list, 0);
+    assert_eq!(answer.bits_taken, 1);
+    let is_frame = match answer.records_written {
+        0 => {
+            assert_eq!(list, [0; RECORD_WORDS]);
+            false
+        }
+        _ => Record::from_words(list).frame_bits().is_some(),
+    };
+    let ending = if is_frame {
+        Ending::Frame
+    } else {
+        Ending::Done
+    };
+    assert_eq!(answer.ending, ending);
+    answer.state
+}
+
+#[test]
+fn images_of_states_from_streams_are_well_formed_and_lead_back() {
+    let mut random = Random::new(71);
+    let mut phases = [0; 5];
+    for _ in 0..150 {
+        for passed in states_of_a_stream(&mut random) {
+            let image = image(&passed);
+            phases[image[at::PHASE] as usize] += 1;
+            assert_eq!(image[at::LAYOUT], LAYOUT);
+            assert!((0..IMAGE_WORDS).all(|place| image[place] <= largest(place)));
+            assert_eq!(state(&image), Some(passed));
+        }
+    }
+    assert!(phases.iter().all(|&count| count > 500), "{phases:?}");
+}
+
+#[test]
+fn images_of_random_sound_states_lead_back() {
+    let mut random = Random::new(72);
+    for number in 0..20_000 {
+        let made = random_state(&mut random, PLANS[number % PLANS.len()]);
+        assert!(sound(&made), "{made:?}");
+        assert_eq!(state(&image(&made)), Some(made));
+    }
+}
+
+#[test]
+fn words_that_the_phase_does_not_use_are_zero_and_not_looked_at() {
+    let mut random = Random::new(73);
+    for number in 0..5_000 {
+        let made = random_state(&mut random, PLANS[number % PLANS.len()]);
+        let words = image(&made);
+        let mut filled = words;
+        for place in RECOGNISER.filter(|&place| !uses(&words, place)) {
+            assert_eq!(words[place], 0);
+            filled[place] = largest(place);
+        }
+        let read = state(&filled).expect("well-formed");
+        assert!(sound(&read));
+        assert_eq!(image(&read), words);
+    }
+}
+
+#[test]
+fn each_word_beyond_its_width_is_malformed() {
+    for (_, made) in fit::states() {
+        let words = image(&made);
+        for place in 0..IMAGE_WORDS {
+            let mut beyond = words;
+            beyond[place] = match place {
+                at::LAYOUT => LAYOUT + 1,
+                // All numbers are within 64 bits.
+                at::NEXT | at::BASE => continue,
+                _ => largest(place) + 1,
+            };
+            assert_eq!(state(&beyond), None, "place {place}");
+        }
+        assert_eq!(state(&words[1..]), None);
+        assert_eq!(state(&[&words[..], &[0]].concat()), None);
+        assert_eq!(state(&[]), None);
+    }
+}
+
+#[test]
+fn the_first_bit_is_without_a_meaning_inside_a_wr_receiver_only() {
+    for (name, made) in fit::states() {
+        let inside = matches!(
+            made.recogniser,
+            Recogniser::Field5 {
+                field3: slow::WR_RECEIVER,
+                ..
+            }
+        );
+        assert_eq!(first_is_unspecified(&image(&made)), inside, "{name}");
+    }
+}
+
+#[test]
+fn the_calls_that_the_cases_change_are_fit() {
+    let mut random = Random::new(74);
+    for (name, made) in fit::states() {
+        let take = fit::call(&image(&made), &mut random);
+        assert_eq!(expected(&Call::Take(take)).answer, 0, "{name}");
+    }
+}
+
+#[test]
+fn an_image_of_which_no_bit_is_taken_stays_word_for_word() {
+    let mut random = Random::new(75);
+    for (name, made) in fit::states() {
+        let words = image(&made);
+        let mut filled = words;
+        for place in RECOGNISER.filter(|&place| !uses(&words, place)) {
+            filled[place] = largest(place);
+        }
+        let no_count = Take {
+            count: 0,
+            ..fit::call(&filled, &mut random)
+        };
+        let no_room = Take {
+            list: Vec::new(),
+            free: 0,
+            ..fit::call(&filled, &mut random)
+        };
+        for (take, ending) in [(no_count, layout::DONE), (no_room, layout::LIST_FULL)] {
+            let expected = expected(&Call::Take(take));
+            let after = taken(&expected);
+            assert_eq!(after.image, filled, "{name}");
+            assert_eq!(after.result, [0, 0, ending], "{name}");
+            assert_eq!(expected.unspecified, [], "{name}");
+        }
+    }
+}
+
+/// A taking call as it is expected to be afterwards.
+fn taken(expected: &Expected) -> &Take {
+    match &expected.after {
+        Call::Take(take) => take,
+        other => panic!("not a taking call: {other:?}"),
+    }
+}
+
+/// The buffers that a driver sends back, by name, in the order of the header.
+fn sent_back(call: &Call) -> Vec<(&'static str, Vec<u8>)> {
+    let words = |words: &[u64]| words.iter().flat_map(|word| word.to_le_bytes()).collect();
+    match call {
+        Call::Open(open) => vec![("image", words(&open.image))],
+        Call::Take(take) => {
+            let store = take.store.iter().flat_map(|word| word.to_le_bytes());
+            vec![
+                ("image", words(&take.image)),
+                ("store", store.collect()),
+                ("tray", take.tray.clone()),
+                ("list", words(&take.list)),
+                ("result", words(&take.result)),
+            ]
+        }
+        Call::FrameBits { .. } | Call::FramePart { .. } => Vec::new(),
+        Call::HexLine { bytes, .. } => vec![("bytes", bytes.clone())],
+        Call::RecordLine { line, .. } => vec![("line", line.clone())],
+    }
+}
+
+/// The reply of a driver that does as expected.
+fn right_reply(expected: &Expected) -> Vec<u8> {
+    let buffers = sent_back(&expected.after);
+    let bytes = buffers.into_iter().flat_map(|(_, bytes)| bytes);
+    expected
+        .answer
+        .to_le_bytes()
+        .into_iter()
+        .chain(bytes)
+        .collect()
+}
+
+/// A call of each function, accepted.
+fn one_of_each(random: &mut Random) -> Vec<Call> {
+    vec![
+        Call::Open(Open {
+            mask: 0x007F,
+            csr: 0,
+            feen: 2,
+            cnt: 5,
+            cycle: 12,
+            image: prefilled::words(random, IMAGE_WORDS),
+        }),
+        Call::Take(fit::call(&fit::hunting(), random)),
+        Call::FrameBits {
+            head: 0x2600,
+            value: 24,
+        },
+        Call::FramePart {
+            tray: vec![0; 4],
+            bits: 17,
+        },
+        Call::HexLine {
+            line: b"0123456789".to_vec(),
+            bytes: prefilled::bytes(random, 40),
+        },
+        Call::RecordLine {
+            line: prefilled::bytes(random, 30),
+            head: random.word(),
+            value: random.word(),
+        },
+    ]
+}
+
+#[test]
+fn a_wrong_answer_is_a_difference() {
+    let mut random = Random::new(76);
+    for call in one_of_each(&mut random) {
+        let expected = expected(&call);
+        let right = right_reply(&expected);
+        assert_eq!(right.len(), reply_bytes(&expected));
+        assert_eq!(difference(&expected, &right), None);
+        for place in 0..8 {
+            let mut wrong = right.clone();
+            wrong[place] ^= 1;
+            let found = difference(&expected, &wrong).expect("a difference");
+            assert!(found.starts_with("the answer differs"), "{found}");
+        }
+    }
+}
+
+#[test]
+fn a_byte_off_in_any_buffer_is_a_difference() {
+    let mut random = Random::new(77);
+    for call in one_of_each(&mut random) {
+        let expected = expected(&call);
+        let right = right_reply(&expected);
+        let mut start = 8;
+        for (name, bytes) in sent_back(&expected.after) {
+            let last = bytes.len() - 1;
+            let somewhere = random.below(bytes.len() as u64) as usize;
+            for place in [0, somewhere, last] {
+                let mut wrong = right.clone();
+                wrong[start + place] ^= 1 << random.below(8);
+                let found = difference(&expected, &wrong).expect("a difference");
+                assert!(found.starts_with(&format!("{name} ")), "{found}");
+            }
+            start += bytes.len();
+        }
+        assert_eq!(start, right.len());
+    }
+}
+
+#[test]
+fn a_refused_call_that_changes_a_byte_is_a_difference() {
+    let mut random = Random::new(78);
+    let mut take = fit::call(&fit::hunting(), &mut random);
+    take.first = u64::MAX;
+    let expected = expected(&Call::Take(take));
+    assert_eq!(expected.answer, layout::WRONG_RANGE);
+    let mut reply = right_reply(&expected);
+    assert_eq!(difference(&expected, &reply), None);
+    *reply.last_mut().expect("a result") ^= 1;
+    let found = difference(&expected, &reply).expect("a difference");
+    assert!(found.starts_with("result element 2 "), "{found}");
+}
+
+#[test]
+fn an_unspecified_word_may_be_any_of_its_width_and_no_other() {
+    let mut random = Random::new(79);
+    let inside = |(_, made): &(String, State)| first_is_unspecified(&image(made));
+    let (_, made) = fit::states().into_iter().find(inside).expect("WrReceiver");
+    let mut take = fit::call(&image(&made), &mut random);
+    take.count = 1;
+    let expected = expected(&Call::Take(take));
+    assert_eq!(expected.unspecified, [at::FIRST]);
+    let with = |place: usize, word: u64| {
+        let mut reply = right_reply(&expected);
+        reply[8 + 8 * place..][..8].copy_from_slice(&word.to_le_bytes());
+        difference(&expected, &reply)
+    };
+    assert_eq!(with(at::FIRST, 0), None);
+    assert_eq!(with(at::FIRST, 1), None);
+    for beyond in [2, 256, 1 << 63, u64::MAX] {
+        let found = with(at::FIRST, beyond).expect("a difference");
+        assert!(found.starts_with("image word 12 (first) "), "{found}");
+    }
+    // The next word is specified, though unused.
+    let found = with(at::UNSTEADY, 1).expect("a difference");
+    assert!(found.starts_with("image word 13 (unsteady) "), "{found}");
+}
+
+/// What a program in place of the driver comes to with one call, or none.
+fn with_driver(program: &str, call: Option<Call>) -> Tally {
+    let mut tally = Tally::default();
+    let ran = checker::run(Path::new(program), &mut tally, |checker| match &call {
+        Some(call) => checker.check("call".to_string(), call).map(drop),
+        None => Ok(()),
+    });
+    ran.expect("the program can be run");
+    tally
+}
+
+/// A call whose answer is also the first word of its request, so that `cat`
+/// answers it well and then goes on.
+fn answered_by_its_request() -> Call {
+    Call::FrameBits {
+        head: 0x2600,
+        value: 3,
+    }
+}
+
+#[test]
+fn a_driver_that_does_not_do_its_part_is_reported() {
+    let call = answered_by_its_request;
+    let reported = |program, call, fault: &str| {
+        let tally = with_driver(program, call);
+        assert!(!tally.all_passed(), "{program} passed");
+        assert!(tally.to_string().contains(fault), "{tally}");
+    };
+    assert!(with_driver("true", None).all_passed());
+    reported(
+        "true",
+        Some(call()),
+        "call: the driver ended within this call",
+    );
+    reported("false", None, "its end: it ended with exit status: 1");
+    reported(
+        "cat",
+        Some(call()),
+        "after the last call: more was written than asked for",
+    );
+    let other = Call::FrameBits {
+        head: 0x2600,
+        value: 4,
+    };
+    reported(
+        "cat",
+        Some(other),
+        "call: the answer differs: expected 4, got 3",
+    );
+}

@@ -1,0 +1,82 @@
+//! What the separate reader's programs print for the cases.
+
+use cases::{fixed, generated, golden};
+use compare::printed::printed;
+use reader::{model, reading, station, Program};
+use std::collections::HashSet;
+
+#[test]
+fn the_three_outputs_agree() {
+    let text = |bytes: Vec<u8>| String::from_utf8(bytes).unwrap();
+    let mut refused = HashSet::new();
+    for case in [fixed(), generated(40)].concat() {
+        let (mut one, mut two, mut three) = (Vec::new(), Vec::new(), Vec::new());
+        station(&case.input[..], &mut one).unwrap();
+        reading(&case.input[..], &mut two).unwrap();
+        model(&case.input[..], &mut three).unwrap();
+        let (one, two, three) = (text(one), text(two), text(three));
+        let records = one.lines().filter(|line| !line.starts_with('>'));
+        assert!(records.eq(two.lines()), "{}", case.name);
+        let state = three.strip_prefix(&two).unwrap();
+        assert!(state.starts_with("register 0 "), "{}", case.name);
+        let refusal = two.lines().find(|line| line.starts_with('!'));
+        let named = case.name.starts_with("refusals/");
+        assert_eq!(refusal.is_some(), named, "{}", case.name);
+        refused.extend(refusal.map(|line| line[1..3].to_string()));
+    }
+    assert_eq!(refused, HashSet::from(["07".to_string(), "08".to_string()]));
+}
+
+/// The marked streams stand behind EnDataTake, and the zeros that fill up
+/// the byte ahead of them instead of after them leave their records alone.
+#[test]
+fn marked_cases() {
+    let expected = [
+        (1, "000000000017 01 05 00000017\n"),
+        (2, "000000000017 01 07 00000017\n"),
+        (4, ""),
+        (7, "00000000001F 11 01 00000000\n"),
+        (8, "00000000001F 1F 00 00000009\n"),
+        (
+            12,
+            "000000000019 01 07 00000019\n00000000001E 01 07 0000011E\n",
+        ),
+        (13, "000000000027 2F 00 0000000B\n"),
+        (14, "000000000027 24 01 00000000\n"),
+    ];
+    for (number, lines) in expected {
+        let start = format!("marked/{number:02}-");
+        let fits = |name: &str| name.starts_with(&start) && name.ends_with("-whole");
+        let case = fixed().into_iter().find(|case| fits(&case.name)).unwrap();
+        let mut out = Vec::new();
+        station(&case.input[..], &mut out).unwrap();
+        let expected = format!("000000000010 28 01 00000000\n{lines}");
+        assert_eq!(String::from_utf8(out).unwrap(), expected, "{start}");
+    }
+}
+
+/// Golden files are few kilobytes of text, and have each number of a line.
+#[test]
+fn golden_files_are_short() {
+    let mut refused = Vec::new();
+    for case in golden() {
+        for program in Program::ALL {
+            let printed = String::from_utf8(printed(program, &case.input)).unwrap();
+            assert!(printed.len() < 3_000, "{}", case.name);
+            refused.extend(
+                printed
+                    .lines()
+                    .filter_map(|line| line.strip_prefix('!'))
+                    .map(|line| line[..2].to_string()),
+            );
+        }
+        assert!(
+            case.input.is_ascii() && case.input.len() < 1_000,
+            "{}",
+            case.name
+        );
+    }
+    for number in ["07", "08"] {
+        assert!(refused.iter().any(|refused| refused == number));
+    }
+}

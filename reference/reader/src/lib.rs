@@ -1,0 +1,38 @@
+//! The separate reader: a plain reader of the MCC-I2.1 command line, one bit
+//! a cycle, written from the papers. It depends on nothing but the standard
+//! library, and knows nothing of the reader that is compared with it.
+//!
+//! "Document 01" is the paper that decides; comments cite its section names,
+//! and the code stays close to its words.
+
+#![forbid(unsafe_code)]
+
+pub mod cycle;
+pub mod decoder;
+pub mod effect;
+pub mod group;
+pub mod hex;
+pub mod hunting;
+pub mod limits;
+pub mod listing;
+pub mod model;
+pub mod plan;
+pub mod program;
+pub mod recogniser;
+pub mod record;
+pub mod slow;
+pub mod sound;
+pub mod state;
+pub mod take;
+pub mod tray;
+pub mod window;
+
+pub use hex::hex_line;
+pub use plan::Plan;
+pub use program::{model, reading, station, Program};
+pub use recogniser::Recogniser;
+pub use record::Record;
+pub use sound::sound;
+pub use state::{open, State, Warnings};
+pub use take::{take, Answer, Ending};
+pub use tray::frame_part;

@@ -1,0 +1,185 @@
+//! Any arguments at all: no panic, refusals change nothing, and a sound
+//! state stays sound. Run without `--release`, overflows show too.
+
+use cases::Random;
+use reader::group::Group;
+use reader::{frame_part, open, sound, take, Ending, Plan, Recogniser, State, Warnings};
+
+const EDGES: [u64; 16] = [
+    0,
+    1,
+    2,
+    7,
+    8,
+    15,
+    16,
+    127,
+    128,
+    255,
+    256,
+    65_535,
+    65_536,
+    (1 << 48) - 1,
+    1 << 48,
+    u64::MAX,
+];
+
+/// Often an edge, sometimes anything.
+fn edge(random: &mut Random) -> u64 {
+    match random.below(3) {
+        0 => random.word(),
+        1 => random.below(4),
+        _ => EDGES[random.below(EDGES.len() as u64) as usize],
+    }
+}
+
+fn any_plan(random: &mut Random) -> Plan {
+    if random.one_in(2) {
+        return Plan::DEFAULT;
+    }
+    Plan {
+        mask: random.word() as u16,
+        csr: random.below(18) as u8,
+        feen: random.below(18) as u8,
+        cnt: edge(random) as u8,
+    }
+}
+
+fn any_recogniser(random: &mut Random) -> Recogniser {
+    let (held, received) = (edge(random) as u8, edge(random) as u8);
+    match random.below(5) {
+        0 => Recogniser::Hunting {
+            window: random.below(34) as u8,
+        },
+        1 => Recogniser::Body { held, received },
+        2 => Recogniser::Field3 { held, received },
+        3 => Recogniser::Field4 {
+            field3: random.below(17) as u8,
+            held,
+            received,
+        },
+        _ => Recogniser::Field5 {
+            field3: random.below(17) as u8,
+            field4: random.below(17) as u8,
+            held: edge(random) as u32,
+            received: if random.bit() {
+                random.below(66_000) as u32
+            } else {
+                edge(random) as u32
+            },
+            group: Group {
+                first: random.bit(),
+                unsteady: random.bit(),
+            },
+        },
+    }
+}
+
+fn any_state(random: &mut Random) -> State {
+    let (_, mut state) = open(Plan::DEFAULT, 0);
+    state.plan = any_plan(random);
+    state.recogniser = any_recogniser(random);
+    state.next_cycle = edge(random);
+    state.base_cycle = edge(random).min(if random.one_in(9) {
+        u64::MAX
+    } else {
+        state.next_cycle
+    });
+    state.run_mode = random.one_in(3);
+    for address in 0..16 {
+        if state.plan.has(address) || random.one_in(400) {
+            state.registers[usize::from(address)] = random.word() as u16;
+        }
+    }
+    for fifo in 0..16 {
+        let limit = if random.one_in(400) { 256 } else { 128 };
+        state.write_pointers[fifo] = random.below(limit) as u8;
+        state.read_pointers[fifo] = random.below(limit) as u8;
+    }
+    state.l1id = if random.one_in(9) {
+        edge(random) as u32
+    } else {
+        random.below(256) as u32
+    };
+    state.warnings = Warnings {
+        wlv1: random.bit(),
+        wfst: random.bit(),
+        wslw: random.bit(),
+    };
+    state
+}
+
+#[test]
+fn any_call() {
+    let mut random = Random::new(5);
+    let (mut accepted, mut refused) = (0, [0; 7]);
+    let input: Vec<u8> = (0..200).map(|_| random.word() as u8).collect();
+    let mut store: Vec<u32> = (0..2_049).map(|_| random.word() as u32).collect();
+    let mut tray: Vec<u8> = (0..8_193).map(|_| random.word() as u8).collect();
+    for _ in 0..200_000 {
+        let state = any_state(&mut random);
+        let mut list = vec![7; random.below(12) as usize];
+        let store_length = 2_048 + usize::from(random.one_in(50));
+        let tray_length = 8_192 - usize::from(random.one_in(50));
+        let (first_bit, count) = match random.below(4) {
+            0 => (edge(&mut random), edge(&mut random)),
+            _ => (random.below(800), random.below(801)),
+        };
+        let first_free = match random.below(8) {
+            0 => edge(&mut random),
+            _ => random.below(list.len() as u64 + 1),
+        };
+        let answer = take(
+            state.clone(),
+            &input,
+            first_bit,
+            count,
+            &mut store[..store_length],
+            &mut tray[..tray_length],
+            &mut list,
+            first_free,
+        );
+        if let Ending::Refused(number) = answer.ending {
+            refused[usize::from(number)] += 1;
+            assert_eq!(sound(&state), number != 3);
+            assert_eq!(answer.state, state);
+            assert_eq!((answer.bits_taken, answer.records_written), (0, 0));
+            assert!(list.iter().all(|&word| word == 7));
+            continue;
+        }
+        accepted += 1;
+        assert!(sound(&state) && sound(&answer.state));
+        assert_eq!(
+            answer.state.next_cycle,
+            state.next_cycle + answer.bits_taken
+        );
+        let used = first_free..first_free + 2 * answer.records_written;
+        for (place, &word) in (0..).zip(&list) {
+            assert!(used.contains(&place) || word == 7);
+        }
+    }
+    assert!(accepted > 10_000, "{accepted}");
+    assert!(refused[3..].iter().all(|&count| count > 100), "{refused:?}");
+}
+
+#[test]
+fn any_opening_and_any_frame_part() {
+    let mut random = Random::new(6);
+    for _ in 0..100_000 {
+        let plan = any_plan(&mut random);
+        let (number, state) = open(plan, edge(&mut random));
+        assert!(sound(&state));
+        assert_eq!(number == Some(1), !plan.opens());
+        let tray = vec![0; random.below(20) as usize];
+        let bits = edge(&mut random);
+        let part = frame_part(&tray, bits).len() as u64;
+        assert_eq!(
+            part,
+            if bits <= tray.len() as u64 * 8 {
+                bits.div_ceil(8)
+            } else {
+                0
+            }
+        );
+    }
+}

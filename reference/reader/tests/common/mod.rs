@@ -1,0 +1,108 @@
+//! What the tests share: a decoder with its buffers, and shorthands.
+#![allow(dead_code)]
+
+use cases::Stream;
+use reader::limits::{STORE_WORDS, TRAY_BYTES};
+use reader::{frame_part, open, take, Ending, Plan, Record, State};
+
+#[derive(Clone, Debug, PartialEq)]
+pub struct Reader {
+    pub state: State,
+    pub store: Vec<u32>,
+    pub tray: Vec<u8>,
+    /// Every frame read, in order.
+    pub frames: Vec<Vec<u8>>,
+}
+
+impl Reader {
+    pub fn new(state: State) -> Reader {
+        Reader {
+            state,
+            store: vec![0; STORE_WORDS],
+            tray: vec![0; TRAY_BYTES],
+            frames: Vec::new(),
+        }
+    }
+
+    pub fn opened() -> Reader {
+        Reader::new(open(Plan::DEFAULT, 0).1)
+    }
+
+    /// Cycle 0, window 00000, RunMode on.
+    pub fn running() -> Reader {
+        Reader::with_run_mode(true)
+    }
+
+    pub fn with_run_mode(run_mode: bool) -> Reader {
+        let mut reader = Reader::opened();
+        reader.state.run_mode = run_mode;
+        reader
+    }
+
+    pub fn read(&mut self, stream: &Stream) -> Vec<Record> {
+        self.read_part(&stream.bytes(), 0, stream.bits.len() as u64, 1_000)
+    }
+
+    /// Takes `count` bits from `first` on in calls whose lists have room for
+    /// `room` records, each resumed after 'frame' and 'list full', and checks
+    /// each ending's condition.
+    pub fn read_part(&mut self, bytes: &[u8], first: u64, count: u64, room: usize) -> Vec<Record> {
+        let mut records = Vec::new();
+        let mut taken = 0;
+        loop {
+            let mut list = vec![0; 2 * room];
+            let answer = take(
+                self.state.clone(),
+                bytes,
+                first + taken,
+                count - taken,
+                &mut self.store,
+                &mut self.tray,
+                &mut list,
+                0,
+            );
+            self.state = answer.state;
+            taken += answer.bits_taken;
+            let written = answer.records_written as usize;
+            let new: Vec<Record> = list[..2 * written]
+                .chunks(2)
+                .map(|pair| Record::from_words([pair[0], pair[1]]))
+                .collect();
+            assert!(list[2 * written..].iter().all(|&word| word == 0));
+            let frame = new.last().and_then(Record::frame_bits);
+            records.extend(new);
+            match answer.ending {
+                Ending::Done => {
+                    assert_eq!((taken, frame), (count, None));
+                    return records;
+                }
+                Ending::ListFull => {
+                    assert!(taken < count && written == room && frame.is_none());
+                }
+                Ending::Frame => {
+                    let frame = frame.expect("a frame's record ends the call");
+                    self.frames.push(frame_part(&self.tray, frame).to_vec());
+                }
+                Ending::Refused(number) => panic!("refused with number {number}"),
+            }
+        }
+    }
+}
+
+pub fn rec(time: u64, kind: u8, flags: u8, value: u32) -> Record {
+    Record {
+        time,
+        kind,
+        flags,
+        value,
+    }
+}
+
+pub fn stream(pattern: &str) -> Stream {
+    Stream::new().pattern(pattern)
+}
+
+/// The records of a stream read from cycle 0 with RunMode on.
+pub fn running_records(stream: &Stream) -> Vec<Record> {
+    Reader::running().read(stream)
+}

@@ -1,0 +1,149 @@
+//! However a stream is cut into calls, it gives the same records, state,
+//! store and tray ("A taking call").
+
+mod common;
+
+use cases::generate;
+use cases::Random;
+use cases::Stream;
+use common::Reader;
+use reader::{Record, State};
+
+/// Streams of whole commands, with flips, and of random bits.
+fn random_stream(random: &mut Random, kind: u64) -> Stream {
+    match kind {
+        0 => generate::commands(random, 40),
+        1 => {
+            let mut stream = generate::commands(random, 40);
+            generate::flip_some(&mut stream, random, 60);
+            stream
+        }
+        _ => Stream::new().raw(&generate::bits(random, 1_500)),
+    }
+}
+
+fn random_start(random: &mut Random) -> Reader {
+    let mut reader = Reader::with_run_mode(random.bit());
+    let state: &mut State = &mut reader.state;
+    state.next_cycle = random.below(1 << 40);
+    state.base_cycle = random.below(state.next_cycle + 1);
+    state.l1id = random.below(256) as u32;
+    state.registers[2] = random.word() as u16;
+    state.registers[5] = random.below(64) as u16;
+    for word in &mut reader.store {
+        *word = random.word() as u32;
+    }
+    for byte in &mut reader.tray {
+        *byte = random.word() as u8;
+    }
+    reader
+}
+
+fn read_cut(
+    reader: &mut Reader,
+    stream: &Stream,
+    random: &mut Random,
+    longest: u64,
+    rooms: u64,
+) -> Vec<Record> {
+    let bytes = stream.bytes();
+    let count = stream.bits.len() as u64;
+    let mut records = Vec::new();
+    let mut place = 0;
+    while place < count {
+        let part = random.below(longest + 1).min(count - place);
+        let room = 1 + random.below(rooms) as usize;
+        records.extend(reader.read_part(&bytes, place, part, room));
+        place += part;
+    }
+    records
+}
+
+#[test]
+fn random_cuts_and_short_lists() {
+    let mut random = Random::new(1);
+    let mut frames = 0;
+    let mut total = 0;
+    for round in 0..900 {
+        let stream = random_stream(&mut random, round % 3);
+        let start = random_start(&mut random);
+        let mut whole = start.clone();
+        let bytes = stream.bytes();
+        let records = whole.read_part(&bytes, 0, stream.bits.len() as u64, 5_000);
+        total += records.len();
+        frames += whole.frames.len();
+        for (longest, rooms) in [(1, 1), (3, 2), (40, 3), (700, 1), (100_000, 2)] {
+            let mut reader = start.clone();
+            let cut = read_cut(&mut reader, &stream, &mut random, longest, rooms);
+            assert_eq!(cut, records, "round {round}, parts up to {longest}");
+            assert_eq!(reader, whole, "round {round}, parts up to {longest}");
+        }
+    }
+    // The rounds must be about something.
+    assert!(total > 20_000 && frames > 500, "{total} {frames}");
+}
+
+/// The same bits lent as one byte a call, at shifting first bits.
+#[test]
+fn other_inputs_with_the_same_bits() {
+    let mut random = Random::new(2);
+    for round in 0..60 {
+        let stream = random_stream(&mut random, round % 3);
+        let start = random_start(&mut random);
+        let mut whole = start.clone();
+        let records = whole.read(&stream);
+        let mut reader = start;
+        let mut moved = Vec::new();
+        for part in stream.bits.chunks(5) {
+            let ahead = random.below(20);
+            let noise = generate::bits(&mut random, ahead as u32);
+            let bytes = Stream::new().raw(&noise).raw(part).bytes();
+            moved.extend(reader.read_part(&bytes, ahead, part.len() as u64, 2));
+        }
+        assert_eq!((moved, reader), (records, whole), "round {round}");
+    }
+}
+
+/// Cut at each place of a stream that has every command.
+#[test]
+fn one_cut_at_every_place() {
+    let stream = Stream::new()
+        .wr_register(5, 0x0011)
+        .wr_register(2, 0x8001)
+        .wr_fifo(0x0765_4321)
+        .rd_fifo(15)
+        .rd_register(2)
+        .front_end(
+            4,
+            &[
+                true, false, true, true, false, false, true, false, true, true,
+            ],
+        )
+        .front_end(5, &[false; 10])
+        .wr_receiver(&[true; 17 * 8])
+        .reset_fe(9)
+        .slow(12, 3)
+        .en_data_take()
+        .lv1()
+        .bcr()
+        .lv1()
+        .ecr()
+        .pattern("1101")
+        .cal()
+        .sync()
+        .fast(15)
+        .reset_mcc();
+    let bytes = stream.bytes();
+    let count = stream.bits.len() as u64;
+    let mut whole = Reader::opened();
+    let records = whole.read(&stream);
+    assert_eq!(records.len(), 20);
+    for cut in 0..=count {
+        for room in [1, 100] {
+            let mut reader = Reader::opened();
+            let mut parts = reader.read_part(&bytes, 0, cut, room);
+            parts.extend(reader.read_part(&bytes, cut, count - cut, room));
+            assert_eq!((&parts, &reader), (&records, &whole), "cut at {cut}");
+        }
+    }
+}

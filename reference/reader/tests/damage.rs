@@ -1,0 +1,463 @@
+//! "The damage table", by brute force: every single inversion of many clean
+//! streams, read from hunting with window 00000.
+//!
+//! How the affected command is decided: let the inverted bit have place p in
+//! the stream, and let a command that starts at place s have n bits. If there
+//! is a command with s <= p < s + n, it is that one, and its bit number is
+//! p - s + 1. Otherwise the bit is a zero that no command holds; if there is
+//! a Fast with s = p + 1 or s = p + 2, it is that one ("zero ahead"). For
+//! p + 2 = s the zero between them is held by no command either, as no
+//! command is that short. Otherwise none is affected.
+
+mod common;
+
+use cases::Random;
+use common::{rec, Reader};
+use reader::{take, Record, State};
+use std::ops::RangeInclusive;
+
+#[derive(Clone, Copy, Debug, PartialEq, Eq)]
+enum Command {
+    Lv1,
+    Bcr,
+    Ecr,
+    Cal,
+    Sync,
+}
+use Command::*;
+
+const ALL: [Command; 5] = [Lv1, Bcr, Ecr, Cal, Sync];
+const FASTS: &[Command] = &[Bcr, Ecr, Cal, Sync];
+
+impl Command {
+    fn pattern(self) -> (u128, usize) {
+        match self {
+            Lv1 => (0b11101, 5),
+            Bcr => (0b1_0110_0001, 9),
+            Ecr => (0b1_0110_0010, 9),
+            Cal => (0b1_0110_0100, 9),
+            Sync => (0b1_0110_1000, 9),
+        }
+    }
+
+    fn kind(self) -> u8 {
+        match self {
+            Lv1 => 0x01,
+            Bcr => 0x11,
+            Ecr => 0x12,
+            Cal => 0x14,
+            Sync => 0x18,
+        }
+    }
+}
+
+/// The timing table: the zeros asked between two commands.
+fn zeros_between(first: Command, second: Command) -> usize {
+    match (first, second) {
+        (Sync, Lv1) => 4,
+        (_, Lv1) => 0,
+        (Bcr, _) => 2,
+        (Ecr, _) => 1,
+        _ => 0,
+    }
+}
+
+/// What is recorded instead of the command, and at which of its bits.
+#[derive(Clone, Copy)]
+enum Replacement {
+    Nothing,
+    Flip(usize),
+    Exact(usize),
+    BadFast(usize),
+}
+use Replacement::*;
+
+/// The damage table: the command hit, which of its bits, and the replacement.
+const DAMAGE: [(&[Command], RangeInclusive<usize>, Replacement); 11] = [
+    (&[Lv1], 1..=5, Flip(5)),
+    (FASTS, 6..=9, BadFast(9)),
+    (&[Cal], 1..=1, Flip(7)),
+    (&[Sync], 1..=1, Flip(6)),
+    (&[Bcr, Ecr], 1..=1, Nothing),
+    (&[Bcr, Ecr, Cal], 2..=2, Flip(6)),
+    (&[Sync], 2..=2, Exact(6)),
+    (FASTS, 3..=4, Nothing),
+    (&[Bcr, Ecr], 5..=5, Flip(7)),
+    (&[Cal], 5..=5, Exact(7)),
+    (&[Sync], 5..=5, Flip(8)),
+];
+const ZERO_AHEAD: Replacement = Flip(3);
+
+fn damage(command: Command, bit: usize) -> Replacement {
+    let mut rows = DAMAGE
+        .iter()
+        .filter(|(commands, bits, _)| commands.contains(&command) && bits.contains(&bit));
+    let (_, _, replacement) = rows.next().expect("a row for every bit");
+    assert!(rows.next().is_none(), "one row only");
+    *replacement
+}
+
+#[test]
+fn the_table_has_one_row_for_every_bit() {
+    for command in ALL {
+        for bit in 1..=command.pattern().1 {
+            damage(command, bit);
+        }
+    }
+}
+
+/// A clean stream: its commands, each with its first place, its length in
+/// bits, and the bits.
+struct Clean {
+    commands: Vec<(Command, usize)>,
+    length: usize,
+    bytes: Vec<u8>,
+}
+
+impl Clean {
+    /// `zeros` lie ahead of each command and, the last of them, at the end.
+    fn new(commands: &[Command], zeros: &[usize]) -> Clean {
+        let mut placed = Vec::new();
+        let mut place = 0;
+        for (&command, &ahead) in commands.iter().zip(zeros) {
+            place += ahead;
+            placed.push((command, place));
+            place += command.pattern().1;
+        }
+        let length = place + zeros[commands.len()];
+        let mut bytes = vec![0; length.div_ceil(8)];
+        for &(command, start) in &placed {
+            let (pattern, bits) = command.pattern();
+            for bit in 0..bits {
+                if pattern >> (bits - 1 - bit) & 1 == 1 {
+                    invert(&mut bytes, start + bit);
+                }
+            }
+        }
+        Clean {
+            commands: placed,
+            length,
+            bytes,
+        }
+    }
+
+    /// The affected command's place in the list, and what is recorded.
+    fn affected(&self, inverted: usize) -> Option<(usize, Replacement)> {
+        for (place, &(command, start)) in self.commands.iter().enumerate() {
+            if (start..start + command.pattern().1).contains(&inverted) {
+                return Some((place, damage(command, inverted - start + 1)));
+            }
+        }
+        self.commands
+            .iter()
+            .position(|&(command, start)| {
+                command != Lv1 && (inverted + 1 == start || inverted + 2 == start)
+            })
+            .map(|place| (place, ZERO_AHEAD))
+    }
+}
+
+fn invert(bytes: &mut [u8], place: usize) {
+    bytes[place / 8] ^= 0x80 >> (place % 8);
+}
+
+/// The two counters, as this test keeps them.
+#[derive(Clone, Copy)]
+struct Counters {
+    l1id: u32,
+    base: u64,
+    run_mode: bool,
+}
+
+impl Counters {
+    fn lv1(&self, time: u64, flip: bool) -> Record {
+        let flip = if flip { 0x02 } else { 0 };
+        if !self.run_mode {
+            return rec(time, 0x01, flip, 0);
+        }
+        let bunch = ((time - self.base) % 256) as u32;
+        rec(time, 0x01, 0x05 | flip, self.l1id * 256 + bunch)
+    }
+
+    fn record(&self, command: Command, time: u64) -> Record {
+        match command {
+            Lv1 => self.lv1(time, false),
+            fast => rec(time, fast.kind(), u8::from(self.run_mode), 0),
+        }
+    }
+
+    /// What a record does to the counters.
+    fn count(&mut self, record: &Record) {
+        match record.kind {
+            0x01 if self.run_mode => self.l1id = (self.l1id + 1) % 256,
+            0x11 if self.run_mode => self.base = record.time,
+            0x12 if self.run_mode => self.l1id = 0,
+            _ => {}
+        }
+    }
+}
+
+struct Testbench {
+    start: State,
+    reader: Reader,
+    inversions: u64,
+}
+
+impl Testbench {
+    /// Counters that are about to wrap, to see them do so.
+    fn new(run_mode: bool) -> Testbench {
+        let mut reader = Reader::with_run_mode(run_mode);
+        reader.state.next_cycle = 5_000;
+        reader.state.base_cycle = 4_750;
+        reader.state.l1id = 254;
+        Testbench {
+            start: reader.state.clone(),
+            reader,
+            inversions: 0,
+        }
+    }
+
+    fn counters(&self) -> Counters {
+        Counters {
+            l1id: self.start.l1id,
+            base: self.start.base_cycle,
+            run_mode: self.start.run_mode,
+        }
+    }
+
+    fn read(&mut self, bytes: &[u8], length: usize, list: &mut [u64]) -> usize {
+        let answer = take(
+            self.start.clone(),
+            bytes,
+            0,
+            length as u64,
+            &mut self.reader.store,
+            &mut self.reader.tray,
+            list,
+            0,
+        );
+        assert_eq!(answer.bits_taken, length as u64);
+        answer.records_written as usize
+    }
+
+    /// Checks that the clean run has the paper's record for each command, and
+    /// each inversion what the damage table says of it.
+    fn check(&mut self, clean: &Clean) -> Result<(), String> {
+        let start = self.start.next_cycle;
+        let mut list = vec![0; 4 * clean.commands.len() + 8];
+
+        // The clean run, and the counters ahead of each command.
+        let mut counters = self.counters();
+        let mut ahead = Vec::new();
+        let mut expected = Vec::new();
+        for &(command, place) in &clean.commands {
+            let last = start + (place + command.pattern().1 - 1) as u64;
+            let record = counters.record(command, last);
+            ahead.push(counters);
+            counters.count(&record);
+            expected.push(record);
+        }
+        let written = self.read(&clean.bytes, clean.length, &mut list);
+        let records = list[..2 * written].chunks(2).map(record);
+        if !records.eq(expected.iter().copied()) {
+            return Err(format!("clean {:?}", clean.commands));
+        }
+
+        let mut bytes = clean.bytes.clone();
+        for inverted in 0..clean.length {
+            self.inversions += 1;
+            invert(&mut bytes, inverted);
+            let written = self.read(&bytes, clean.length, &mut list);
+            invert(&mut bytes, inverted);
+            let damaged = list[..2 * written].chunks(2).map(record);
+            if !is_as_the_table_says(clean, inverted, damaged, &expected, &ahead, start) {
+                return Err(format!("{:?}, {inverted} inverted", clean.commands));
+            }
+        }
+        Ok(())
+    }
+}
+
+fn record(words: &[u64]) -> Record {
+    Record::from_words([words[0], words[1]])
+}
+
+/// Whether the damaged records are the clean ones with the affected one
+/// replaced or left out, but for the counters where they may differ.
+fn is_as_the_table_says(
+    clean: &Clean,
+    inverted: usize,
+    mut damaged: impl Iterator<Item = Record>,
+    expected: &[Record],
+    ahead: &[Counters],
+    start: u64,
+) -> bool {
+    let affected = clean.affected(inverted);
+    let (mut l1id_free, mut bunch_free) = (false, false);
+    // A stronger claim besides: the numbers are those that the damaged run's
+    // own records count.
+    let mut counters = ahead[0];
+    for (place, (&(command, first), &record)) in clean.commands.iter().zip(expected).enumerate() {
+        let at = |bit: usize| start + (first + bit - 1) as u64;
+        let record = match affected {
+            Some((hit, replacement)) if hit == place => {
+                (l1id_free, bunch_free) = (true, true);
+                let record = match replacement {
+                    Nothing => continue,
+                    Flip(bit) => ahead[place].lv1(at(bit), true),
+                    Exact(bit) => ahead[place].lv1(at(bit), false),
+                    BadFast(bit) => {
+                        let (pattern, bits) = command.pattern();
+                        let body = pattern ^ 1 << (bits - 1 - (inverted - first));
+                        rec(at(bit), 0x1F, 0, body as u32 & 15)
+                    }
+                };
+                counters.count(&record);
+                if damaged.next() != Some(record) {
+                    return false;
+                }
+                continue;
+            }
+            _ => record,
+        };
+        l1id_free &= command != Ecr;
+        bunch_free &= command != Bcr;
+        let Some(other) = damaged.next() else {
+            return false;
+        };
+        let may_differ = if command == Lv1 {
+            (u32::from(l1id_free) * 0xFF00) | (u32::from(bunch_free) * 0x00FF)
+        } else {
+            0
+        };
+        let same = (other.time, other.kind, other.flags)
+            == (record.time, record.kind, record.flags)
+            && (other.value ^ record.value) & !may_differ == 0;
+        if !same || other != counters.record(command, other.time) {
+            return false;
+        }
+        counters.count(&other);
+    }
+    damaged.next().is_none()
+}
+
+/// Checks every series of `count` commands with the gaps `more` than the
+/// timing table asks, these zeros ahead and these after.
+fn every_series(
+    bench: &mut Testbench,
+    count: usize,
+    more: RangeInclusive<usize>,
+    ahead: RangeInclusive<usize>,
+    after: &[usize],
+) {
+    let gaps = more.clone().count();
+    for series in 0..ALL.len().pow(count as u32) {
+        let commands: Vec<Command> = (0..count)
+            .map(|place| ALL[series / ALL.len().pow(place as u32) % ALL.len()])
+            .collect();
+        for choice in 0..gaps.pow(count as u32 - 1) {
+            for leading in ahead.clone() {
+                for &trailing in after {
+                    let mut zeros = vec![leading];
+                    for place in 1..count {
+                        let least = zeros_between(commands[place - 1], commands[place]);
+                        let extra = choice / gaps.pow(place as u32 - 1) % gaps;
+                        zeros.push(least + more.start() + extra);
+                    }
+                    zeros.push(trailing);
+                    bench.check(&Clean::new(&commands, &zeros)).unwrap();
+                }
+            }
+        }
+    }
+}
+
+#[test]
+fn single_commands_and_pairs() {
+    let after: Vec<usize> = (0..=9).collect();
+    for run_mode in [true, false] {
+        let mut bench = Testbench::new(run_mode);
+        every_series(&mut bench, 1, 0..=0, 0..=12, &after);
+        every_series(&mut bench, 2, 0..=7, 0..=6, &after);
+        assert_eq!(bench.inversions, 404_715);
+    }
+}
+
+#[test]
+fn triples() {
+    let mut bench = Testbench::new(true);
+    every_series(&mut bench, 3, 0..=7, 0..=6, &[0, 1, 2, 6]);
+    assert_eq!(bench.inversions, 8_541_120);
+}
+
+#[test]
+fn fours() {
+    let mut bench = Testbench::new(true);
+    every_series(&mut bench, 4, 0..=2, 0..=2, &[0, 3]);
+    assert_eq!(bench.inversions, 4_072_275);
+}
+
+#[test]
+fn long_streams() {
+    let mut random = Random::new(3);
+    for run_mode in [true, false] {
+        let mut bench = Testbench::new(run_mode);
+        for _ in 0..200 {
+            let commands: Vec<Command> = (0..60).map(|_| ALL[random.below(5) as usize]).collect();
+            let mut zeros = vec![random.below(4) as usize];
+            for pair in commands.windows(2) {
+                zeros.push(zeros_between(pair[0], pair[1]) + random.below(5) as usize);
+            }
+            zeros.push(random.below(9) as usize);
+            bench.check(&Clean::new(&commands, &zeros)).unwrap();
+        }
+    }
+}
+
+/// The zeros after BCR and ECR are needed, one by one; those after SYNC
+/// ahead of an LV1 are not, as far as damage goes.
+#[test]
+fn which_zeros_are_needed() {
+    let mut bench = Testbench::new(true);
+    let mut broken = Vec::new();
+    for first in ALL {
+        for second in ALL {
+            for gap in 0..zeros_between(first, second) {
+                // A command more, as damage can reach beyond the second.
+                for third in ALL {
+                    let zeros = [0, gap, zeros_between(second, third), 9];
+                    if bench
+                        .check(&Clean::new(&[first, second, third], &zeros))
+                        .is_err()
+                    {
+                        broken.push((first, gap));
+                    }
+                }
+            }
+        }
+    }
+    broken.dedup();
+    broken.sort_by_key(|&(first, gap)| (first as u8, gap));
+    broken.dedup();
+    assert_eq!(broken, [(Bcr, 0), (Bcr, 1), (Ecr, 0)]);
+}
+
+/// No damaged stream begins a Slow: RunMode stays and no Slow is recorded.
+/// (The comparisons above would show a Slow's record; this shows RunMode.)
+#[test]
+fn no_damaged_stream_leaves_run_mode() {
+    let mut bench = Testbench::new(true);
+    for first in ALL {
+        for second in ALL {
+            let zeros = [3, zeros_between(first, second), 12];
+            let clean = Clean::new(&[first, second], &zeros);
+            for inverted in 0..clean.length {
+                let mut bytes = clean.bytes.clone();
+                invert(&mut bytes, inverted);
+                bench.reader.state = bench.start.clone();
+                bench.reader.read_part(&bytes, 0, clean.length as u64, 20);
+                assert!(bench.reader.state.run_mode);
+            }
+        }
+    }
+}

@@ -1,0 +1,233 @@
+//! Each clause of soundness ("A state is sound when ...") broken alone.
+
+mod common;
+
+use common::Reader;
+use reader::group::Group;
+use reader::limits::CLOCK_LIMIT;
+use reader::{sound, Plan, Recogniser, State};
+
+fn state() -> State {
+    Reader::running().state
+}
+
+fn changed(change: impl FnOnce(&mut State)) -> bool {
+    let mut state = state();
+    change(&mut state);
+    sound(&state)
+}
+
+/// Soundness with this recogniser, RunMode off and this CNT.
+fn with(recogniser: Recogniser, cnt: u16) -> bool {
+    changed(|state| {
+        state.run_mode = false;
+        state.recogniser = recogniser;
+        state.registers[5] = cnt;
+    })
+}
+
+fn field5(field3: u8, held: u32, received: u32) -> Recogniser {
+    Recogniser::Field5 {
+        field3,
+        field4: 0,
+        held,
+        received,
+        group: Group::default(),
+    }
+}
+
+#[test]
+fn the_plan_would_open() {
+    assert!(changed(|_| {}));
+    assert!(!changed(|state| state.plan.csr = 2));
+    assert!(!changed(|state| state.plan.csr = 7));
+    assert!(!changed(|state| state.plan.feen = 200));
+    assert!(!changed(|state| state.plan.cnt = 15));
+    assert!(!changed(|state| state.plan = Plan {
+        mask: 0x005F,
+        ..Plan::DEFAULT
+    }));
+}
+
+#[test]
+fn cycles() {
+    for (next, base, is_sound) in [
+        (CLOCK_LIMIT, 0, true),
+        (CLOCK_LIMIT, CLOCK_LIMIT, true),
+        (CLOCK_LIMIT + 1, 0, false),
+        (u64::MAX, u64::MAX, false),
+        (9, 9, true),
+        (9, 10, false),
+        (0, u64::MAX, false),
+    ] {
+        let answer = changed(|state| (state.next_cycle, state.base_cycle) = (next, base));
+        assert_eq!(answer, is_sound, "{next} {base}");
+    }
+}
+
+#[test]
+fn pointers() {
+    for fifo in 0..16 {
+        assert!(changed(|state| state.write_pointers[fifo] = 127));
+        assert!(changed(|state| state.read_pointers[fifo] = 127));
+        for pointer in [128, 255] {
+            assert!(!changed(|state| state.write_pointers[fifo] = pointer));
+            assert!(!changed(|state| state.read_pointers[fifo] = pointer));
+        }
+    }
+}
+
+#[test]
+fn missing_registers_hold_zero() {
+    for address in 0..16 {
+        let answer = changed(|state| state.registers[address] = 1);
+        assert_eq!(answer, address < 7, "{address}");
+    }
+}
+
+#[test]
+fn a_stored_warning_bit_is_sound() {
+    assert!(changed(|state| state.registers[0] = 0xFFFF));
+}
+
+#[test]
+fn run_mode_is_off_inside_a_slow() {
+    let inside = |recogniser| {
+        changed(|state| {
+            state.registers[5] = 1;
+            state.recogniser = recogniser;
+        })
+    };
+    assert!(inside(Recogniser::Body {
+        held: 5,
+        received: 3
+    }));
+    let slow = [
+        Recogniser::Field3 {
+            held: 0,
+            received: 0,
+        },
+        Recogniser::Field3 {
+            held: 1,
+            received: 3,
+        },
+        Recogniser::Field4 {
+            field3: 8,
+            held: 0,
+            received: 0,
+        },
+        Recogniser::Field4 {
+            field3: 8,
+            held: 7,
+            received: 3,
+        },
+        field5(0, 0, 0),
+        field5(4, 0, 63),
+        field5(6, 0, 7),
+    ];
+    for recogniser in slow {
+        assert!(!inside(recogniser), "{recogniser:?}");
+        assert!(with(recogniser, 1), "{recogniser:?}");
+    }
+}
+
+#[test]
+fn window_and_l1id_fit() {
+    for window in 0..=255 {
+        let answer = changed(|state| state.recogniser = Recogniser::Hunting { window });
+        assert_eq!(answer, window < 32, "{window}");
+    }
+    for (l1id, is_sound) in [(255, true), (256, false), (u32::MAX, false)] {
+        assert_eq!(changed(|state| state.l1id = l1id), is_sound);
+    }
+}
+
+#[test]
+fn fields_of_four_bits() {
+    for received in 0..=255 {
+        for held in 0..=255 {
+            let is_sound = received < 4 && u32::from(held) < 1 << received;
+            assert_eq!(with(Recogniser::Body { held, received }, 0), is_sound);
+            assert_eq!(with(Recogniser::Field3 { held, received }, 0), is_sound);
+            for field3 in [0, 7, 15, 16, 255] {
+                let recogniser = Recogniser::Field4 {
+                    field3,
+                    held,
+                    received,
+                };
+                assert_eq!(with(recogniser, 0), is_sound && field3 < 16);
+            }
+        }
+    }
+}
+
+#[test]
+fn inside_field_5_the_command_has_it() {
+    for field3 in 0..=255 {
+        let is_sound = matches!(field3, 0..=6 | 10);
+        assert_eq!(with(field5(field3, 0, 0), 0xFFFF), is_sound, "{field3}");
+    }
+}
+
+#[test]
+fn field_4_fits_its_width() {
+    for field4 in [15, 16, 255] {
+        let recogniser = Recogniser::Field5 {
+            field3: 3,
+            field4,
+            held: 0,
+            received: 0,
+            group: Group::default(),
+        };
+        assert_eq!(with(recogniser, 0), field4 < 16);
+    }
+}
+
+/// Field 3, CNT, cycles of Field 5.
+const LENGTHS: [(u8, u16, u32); 14] = [
+    (0, 0, 16),
+    (1, 0, 16),
+    (2, 0, 27),
+    (3, 0, 27),
+    (10, 0, 4),
+    (4, 0, 0),
+    (4, 1, 64),
+    (5, 8, 8),
+    (5, 0xFFFF, 65_976),
+    (6, 0, 0),
+    (6, 0xE000, 0),
+    (6, 0xE001, 8),
+    (6, 0xFFFF, 65_528),
+    (4, 0x2000, 8_192),
+];
+
+#[test]
+fn fewer_bits_received_than_field_5_has() {
+    for (field3, cnt, length) in LENGTHS {
+        for received in [0, 1, length.saturating_sub(1), length, length + 1, u32::MAX] {
+            let answer = with(field5(field3, 0, received), cnt);
+            assert_eq!(answer, received < length, "{field3} {cnt:04X} {received}");
+        }
+    }
+}
+
+#[test]
+fn the_number_held_fits_where_it_is_kept() {
+    for (field3, kept) in [
+        (0, true),
+        (2, true),
+        (10, true),
+        (1, false),
+        (3, false),
+        (4, false),
+    ] {
+        for received in 0..4 {
+            let answer = with(field5(field3, 1 << received, received), 0xFFFF);
+            assert_eq!(answer, !kept, "{field3} {received}");
+            assert!(with(field5(field3, (1 << received) - 1, received), 0xFFFF));
+        }
+    }
+    assert!(with(field5(2, (1 << 26) - 1, 26), 0));
+    assert!(!with(field5(2, 1 << 26, 26), 0));
+    assert!(with(field5(6, u32::MAX, 0), 1));
+}
