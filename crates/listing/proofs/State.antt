@@ -16,7 +16,7 @@ use Rattle.output.specs.Ascii.{ascii}
 use Rattle.output.specs.Block.{blockLength, block, putIfFits}
 use Rattle.output.proofs.Pieces.{PartlyPut, none-put, next-put-if-fits}
 use Rattle.layout.proofs.LineLengths.{line-length}
-use Rattle.listing.specs.State.{textsFrom, registerText, pointersText, fifoWordText, stateText}
+use Rattle.listing.specs.State.{addressCount, fifoCount, fifoLength, textsFrom, registerText, pointersText, fifoWordText, stateText}
 
 pub texts-none-put : (text : ℕ → List ℕ) (n : ℕ) (out : List ℕ) (at : ℕ) → at + length (textsFrom n 0 text) ≤ length out
     → PartlyPut out at (textsFrom n 0 text) out at (textsFrom (n - 0) 0 text)
@@ -58,16 +58,16 @@ module _ (d : Decoder) (store : List ℕ) (words : length store ≡ storeLength)
       (λ _. omega (arith, line-length (ascii "register ") (i ∷ readOf (d .plan) (d .model) i ∷ []) (1 ∷ 4 ∷ []) refl))
       (λ _. omega arith)
 
-  pointers-length : (i : ℕ) → length (pointersText (d .model .pointers .writes) (d .model .pointers .reads) i) ≤ 17
+  pointers-length : (i : ℕ) → length (pointersText (d .model .pointers) i) ≤ 17
   pointers-length i =
-      let m = d .model in
-      omega (arith, line-length (ascii "pointers ") (i ∷ getD (m .pointers .writes) i 0 ∷ getD (m .pointers .reads) i 0 ∷ []) (1 ∷ 2 ∷ 2 ∷ []) refl)
+      let p = d .model .pointers in
+      omega (arith, line-length (ascii "pointers ") (i ∷ getD (p .writes) i 0 ∷ getD (p .reads) i 0 ∷ []) (1 ∷ 2 ∷ 2 ∷ []) refl)
 
   fifo-word-length : (i : ℕ) → length (fifoWordText store i) ≤ 19
   fifo-word-length i =
       choice (λ (l : List ℕ). length l ≤ 19) (eqb (getD store i 0) 0)
       (λ _. omega arith)
-      (λ _. omega (arith, line-length (ascii "word ") (i / 128 ∷ i % 128 ∷ getD store i 0 ∷ []) (1 ∷ 2 ∷ 8 ∷ []) refl))
+      (λ _. omega (arith, line-length (ascii "word ") (i / fifoLength ∷ i % fifoLength ∷ getD store i 0 ∷ []) (1 ∷ 2 ∷ 8 ∷ []) refl))
 
   pub state-fits-block : length (stateText d store) ≤ blockLength
   unfolding stateText
@@ -75,11 +75,11 @@ module _ (d : Decoder) (store : List ℕ) (words : length store ≡ storeLength)
       simp length-append
       (omega (
         arith,
-        texts-length (registerText (d .plan) (d .model)) 16 register-length 16 0,
+        texts-length (registerText (d .plan) (d .model)) 16 register-length addressCount 0,
         line-length (ascii "l1id ") (d .model .counters .l1id ∷ []) (2 ∷ []) refl,
         line-length (ascii "base ") (d .model .counters .base ∷ []) (12 ∷ []) refl,
         line-length (ascii "runmode ") (cond (d .model .running) 1 0 ∷ []) (1 ∷ []) refl,
-        texts-length (pointersText (d .model .pointers .writes) (d .model .pointers .reads)) 17 pointers-length 16 0,
+        texts-length (pointersText (d .model .pointers)) 17 pointers-length fifoCount 0,
         texts-length (fifoWordText store) 19 fifo-word-length (length store) 0,
       ))
 

@@ -9,6 +9,7 @@ ghost use Rattle.listing.specs.State.{allRegistersText, allPointersText,
 use decoder::Decoder;
 use registers::Model;
 use registers::Plan;
+use registers::Pointers;
 
 // A record's line; and the frame's, after a frame of at least one bit, if frames are printed.
 fn put_record(out: &mut [u8], at: usize, head: u64, value: u64, tray: &[u8], frames: bool) -> usize
@@ -56,11 +57,10 @@ fn put_registers(out: &mut [u8], at: usize, plan: Plan, model: Model) -> usize
 }
 
 // The FIFOs' pointers.
-fn put_pointers(out: &mut [u8], at: usize, model: Model) -> usize
-    requires { ⌜ at + length (allPointersText (model .pointers .writes) (model .pointers .reads)) ≤ length (now out) ⌝ }
-    ensures { λ r. ⌜ block (now (out .exit)) r ≡ putAll (now (out .entry)) at (allPointersText (model .pointers .writes) (model .pointers .reads)) ⌝ }
+fn put_pointers(out: &mut [u8], at: usize, pointers: Pointers) -> usize
+    requires { ⌜ at + length (allPointersText pointers) ≤ length (now out) ⌝ }
+    ensures { λ r. ⌜ block (now (out .exit)) r ≡ putAll (now (out .entry)) at (allPointersText pointers) ⌝ }
 {
-    let pointers = model.pointers;
     let writes = pointers.writes;
     let reads = pointers.reads;
     let mut place = at;
@@ -94,10 +94,11 @@ pub fn put_state(out: &mut [u8], decoder: Decoder, store: &[u32]) -> usize
     let plan = decoder.plan;
     let model = decoder.model;
     let counters = model.counters;
+    let fifos = model.pointers;
     let registers = put_registers(out, 0, plan, model);
     let l1id = layout::l1id_line(out, registers, counters.l1id);
     let base = layout::base_line(out, l1id, counters.base);
     let runmode = layout::runmode_line(out, base, model.running);
-    let pointers = put_pointers(out, runmode, model);
+    let pointers = put_pointers(out, runmode, fifos);
     put_fifo_words(out, pointers, store)
 }

@@ -86,7 +86,9 @@ module _ (frames : Bool) where
       text = rw (e, append-nil);
       state = refl;
       next = later;
-      short = rw (append-nil, length-append) (omega (arith, record-line-length (headOf x) (x .value), frame-text-length frames (v .machine .tray) (headOf x) (x .value)));
+      short =
+          rw (append-nil, length-append)
+          (omega (arith, record-line-length (headOf x) (x .value), frame-text-length frames (v .machine .tray) (headOf x) (x .value)));
     }
 
     by-frame : (x : Record) → turnOf w bit .cycle ≡ Recorded x → (b : Bool) → isFrameHead (headOf x) ≡ b

@@ -5,28 +5,29 @@ use mathlib.Core.Path.{refl}
 use Prim.Native.Nat.{ℕ, _-_, _≤_}
 use native.Mathlib.Omega.{arith}
 use borrow.Author.Needs.{needs}
+use Rattle.registers.specs.Parts.{pointers}
 use Rattle.output.proofs.Pieces.{PartlyPut, none-put, all-put}
-use Rattle.listing.specs.State.{textsFrom, pointersText, allPointersText}
+use Rattle.listing.specs.State.{fifoCount, textsFrom, pointersText, allPointersText}
 use Rattle.listing.proofs.State.{text-put, texts-all-put}
 use Rattle.listing.proofs.put_pointers.Statement.{statement}
 use Rattle.listing.proofs.put_pointers.Tie as tie
 
 abbrev Inv-loop : tie.InvT-loop
 Inv-loop out₀ at writes reads place₀ i₀ out place i =
-    (i ≤ 16) × PartlyPut out₀ at (allPointersText writes reads) out place (textsFrom (16 - i) i (pointersText writes reads))
+    (i ≤ fifoCount) × PartlyPut out₀ at (allPointersText (pointers writes reads)) out place (textsFrom (fifoCount - i) i (pointersText (pointers writes reads)))
 
 abbrev μ-loop : tie.MeasureT-loop
-μ-loop out₀ at writes reads place₀ i₀ out place i = 16 - i
+μ-loop out₀ at writes reads place₀ i₀ out place i = fifoCount - i
 
 -- The places that the proofs look back to.
 abbrev start : tie.At-loop Inv-loop μ-loop → tie.Start Inv-loop μ-loop
-start l = let p = l .before .before .before in p .before .before
+start l = l .before .before .before .before
 
 abbrev text : tie.At-loop Inv-loop μ-loop → ℕ → List ℕ
-text l = let m = start l .args .model in pointersText (m .pointers .writes) (m .pointers .reads)
+text l = pointersText (start l .args .pointers)
 
 loop-holds : tie.Need-loop-holds Inv-loop μ-loop
-loop-holds c = (omega arith, none-put _ _ _ (c .before .before .before .before .pre))
+loop-holds c = (omega arith, none-put _ _ _ (c .before .before .before .pre))
 
 array-read-pointers-line : tie.Need-array-read-pointers-line Inv-loop μ-loop
 array-read-pointers-line c = search needs
@@ -49,14 +50,14 @@ loop-again c =
     let t = put .before .before in
     let l = t .before in (
       omega (arith, t .loop-test .taken),
-      text-put (text l) 16 (l .loop .i) (t .loop-test .taken) (l .loop .inv .1) _ refl _ _ (put .pointers-line .ensures),
+      text-put (text l) fifoCount (l .loop .i) (t .loop-test .taken) (l .loop .inv .1) _ refl _ _ (put .pointers-line .ensures),
     )
 
 same-length : tie.Need-same-length Inv-loop μ-loop
 same-length c = c .before .loop .inv .1 .same-length
 
 returns : tie.Need-returns Inv-loop μ-loop
-returns c = let l = c .before in all-put (l .loop .inv .1) (texts-all-put (text l) 16 (l .loop .i) (c .loop-test .left))
+returns c = let l = c .before in all-put (l .loop .inv .1) (texts-all-put (text l) fifoCount (l .loop .i) (c .loop-test .left))
 
 pub put-pointers-spec : {M : Type 1} → statement M
 put-pointers-spec =

@@ -7,17 +7,17 @@ use native.Mathlib.Omega.{arith}
 use borrow.Author.Needs.{needs}
 use borrow.Author.Tests.{not-true, not-false}
 use Rattle.output.proofs.Pieces.{PartlyPut, none-put, all-put}
-use Rattle.listing.specs.State.{textsFrom, registerText, allRegistersText}
+use Rattle.listing.specs.State.{addressCount, textsFrom, registerText, allRegistersText}
 use Rattle.listing.proofs.State.{text-put, text-empty, texts-all-put}
 use Rattle.listing.proofs.put_registers.Statement.{statement}
 use Rattle.listing.proofs.put_registers.Tie as tie
 
 abbrev Inv-loop : tie.InvT-loop
 Inv-loop out₀ at plan model place₀ i₀ out place i =
-    (i ≤ 16) × PartlyPut out₀ at (allRegistersText plan model) out place (textsFrom (16 - i) i (registerText plan model))
+    (i ≤ addressCount) × PartlyPut out₀ at (allRegistersText plan model) out place (textsFrom (addressCount - i) i (registerText plan model))
 
 abbrev μ-loop : tie.MeasureT-loop
-μ-loop out₀ at plan model place₀ i₀ out place i = 16 - i
+μ-loop out₀ at plan model place₀ i₀ out place i = addressCount - i
 
 -- The places that the proofs look back to.
 abbrev start : tie.At-loop Inv-loop μ-loop → tie.Start Inv-loop μ-loop
@@ -43,7 +43,7 @@ loop-again c =
     let t = c .before .before in
     let l = t .before in
     let missing = sym (c .before .exists-at .ensures) ∙ not-true _ (c .if1 .taken) in
-    (omega arith, text-empty (text l) 16 (l .loop .i) (t .loop-test .taken) (l .loop .inv .1) (simp missing))
+    (omega arith, text-empty (text l) addressCount (l .loop .i) (t .loop-test .taken) (l .loop .inv .1) (simp missing))
 
 cast-register-line : tie.Need-cast-register-line Inv-loop μ-loop
 cast-register-line c = search needs
@@ -68,13 +68,13 @@ loop-again-2 c =
     let l = t .before in
     let there = sym (e .before .exists-at .ensures) ∙ not-false _ (e .if1 .left) in
     let line = rw (put .before .read .ensures) at (put .register-line .ensures) in
-    (omega (arith, t .loop-test .taken), text-put (text l) 16 (l .loop .i) (t .loop-test .taken) (l .loop .inv .1) _ (simp there) _ _ line)
+    (omega (arith, t .loop-test .taken), text-put (text l) addressCount (l .loop .i) (t .loop-test .taken) (l .loop .inv .1) _ (simp there) _ _ line)
 
 same-length : tie.Need-same-length Inv-loop μ-loop
 same-length c = c .before .loop .inv .1 .same-length
 
 returns : tie.Need-returns Inv-loop μ-loop
-returns c = let l = c .before in all-put (l .loop .inv .1) (texts-all-put (text l) 16 (l .loop .i) (c .loop-test .left))
+returns c = let l = c .before in all-put (l .loop .inv .1) (texts-all-put (text l) addressCount (l .loop .i) (c .loop-test .left))
 
 pub put-registers-spec : {M : Type 1} → statement M
 put-registers-spec =

@@ -11,8 +11,11 @@ use Rattle.listing.proofs.put_state.Statement.{statement}
 use Rattle.listing.proofs.put_state.Tie as tie
 
 -- The places that the proofs look back to, each by the one after it.
+abbrev afterModel : tie.After-put-registers-arg → tie.After-model
+afterModel c = c .before .before .before
+
 abbrev beforeRegisters : tie.After-put-registers-arg → tie.Start
-beforeRegisters c = let m = c .before .before .before in m .before .before .before
+beforeRegisters c = afterModel c .before .before .before .before
 
 abbrev afterRegisters : tie.After-l1id-line → tie.After-put-registers
 afterRegisters c = c .before .before .before .before
@@ -40,7 +43,7 @@ abbrev registers : tie.Start → List ℕ
 registers b = allRegistersText (b .args .decoder .plan) (b .args .decoder .model)
 
 abbrev pointers : tie.Start → List ℕ
-pointers b = let m = b .args .decoder .model in allPointersText (m .pointers .writes) (m .pointers .reads)
+pointers b = allPointersText (b .args .decoder .model .pointers)
 
 abbrev words : tie.Start → List ℕ
 words b = allFifoWordsText (b .args .store .now)

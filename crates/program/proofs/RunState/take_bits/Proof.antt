@@ -36,8 +36,8 @@ reported c = c .before .before .before .before .before .before
 abbrev before : tie.After-take → Snapshot
 before c = let a = start c .args in snapshot (a .self) (a .store .now) (a .tray .now) (a .out .now)
 
-abbrev left : tie.After-take → CallResult
-left c = let buffers = c .take .last .1 .1 .1 .1 in
+abbrev result : tie.After-take → CallResult
+result c = let buffers = c .take .last .1 .1 .1 .1 in
     record { taken = c .take .result; store = buffers .0; tray = buffers .1 .0; list = buffers .1 .1 .0 }
 
 abbrev frames : tie.After-take → Bool
@@ -46,7 +46,7 @@ frames c = start c .args .frames
 slice-aggregate-take : tie.Need-slice-aggregate-take
 slice-aggregate-take c = search needs
 
-made : (c : tie.After-take) → CallMade (before c) (replicate listWords 0) (left c)
+made : (c : tie.After-take) → CallMade (before c) (replicate listWords 0) (result c)
 made c = record {
   ready = start c .pre .0;
   some = start c .pre .1;
@@ -55,7 +55,7 @@ made c = record {
   result = c .take .ensures;
 }
 
-printed : (c : tie.After-take) → CallPrints (frames c) (before c .state .decoder) (callOf (before c) (replicate listWords 0)) (left c)
+printed : (c : tie.After-take) → CallPrints (frames c) (before c .state .decoder) (callOf (before c) (replicate listWords 0)) (result c)
 printed c = call-printed (frames c) (made c)
 
 slice-aggregate-take-2 : tie.Need-slice-aggregate-take-2
