@@ -7,6 +7,8 @@ use lib.Dec.{leb, eqb}
 use lib.ListN.{length}
 use lib.Seq.{sets}
 use Rattle.bits.specs.Bits.{bitsOf}
+use Rattle.recogniser.specs.declared.Recogniser.{Recogniser}
+use Rattle.registers.specs.declared.Model.{Model}
 use Rattle.decoder.specs.declared.Decoder.{Decoder}
 use Rattle.limits.specs.Limits.{clockLimit, storeLength, trayLength, listUnit, inputLimit}
 use Rattle.decoder.specs.Sound.{soundOf}
@@ -59,6 +61,10 @@ result taken store tray list = record { taken = taken; store = store; tray = tra
 -- A state with what a call tells of itself.
 abbrev pub takenWith : Decoder → ℕ → ℕ → Ending → Taken
 takenWith d bits records ending = record { decoder = d; report = record { bits = bits; records = records; ending = ending } }
+
+-- A decoder after so many cycles, with its recogniser and model then.
+abbrev pub movedOn : Decoder → Recogniser → Model → ℕ → Decoder
+movedOn d r m taken = record { plan = d .plan; next = d .next + taken; recogniser = r; model = m }
 
 -- "a refused taking gives 0 bits, 0 records and the state and buffers it came with"
 abbrev pub refused : Decoder → Call → Ending → CallResult

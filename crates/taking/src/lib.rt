@@ -1,13 +1,13 @@
 // The taking call. It asks nothing of its caller: it refuses by number.
 ghost use mathlib.Core.Path.{_≡_};
-ghost use mathlib.Core.Bool.{true};
+ghost use mathlib.Core.Bool.{true, false};
 ghost use Prim.Native.Nat.{_+_, _*_, _-_, _/_, _<_, _≤_};
 ghost use lib.ListN.{length, set};
 ghost use Rattle.limits.specs.Limits.{clockLimit, storeLength, inputLimit, listUnit};
 ghost use Rattle.controller.specs.Records.{headOf};
 ghost use Rattle.controller.specs.Requests.{requestFits};
-ghost use Rattle.taking.specs.Perform.{performResult, performOf};
-ghost use Rattle.taking.specs.Take.{call, result, takenWith, buffersFit, rangeFits, takenOf, takeOf, endingNumber};
+ghost use Rattle.taking.specs.Perform.{performResult, performedWith, performOf};
+ghost use Rattle.taking.specs.Take.{call, result, takenWith, movedOn, buffersFit, rangeFits, takenOf, takeOf, endingNumber};
 use controller::Cycle;
 use controller::Record;
 use decoder::Decoder;
@@ -105,35 +105,35 @@ impl Taken {
 
     // A call at its end: the state that the loop's locals make up, the bits taken, and the list filled up to a word.
     fn ended(
-        plan: Plan,
-        start: u64,
+        decoder: Decoder,
         recogniser: Recogniser,
-        model: Model,
+        done: Performed,
         taken: usize,
-        at: usize,
         free: usize,
         ending: Ending,
     ) -> Taken
-        requires { ⌜ (start + taken ≤ clockLimit) × (free ≤ at) ⌝ }
-        ensures { λ r. ⌜ r ≡ takenWith (record { plan = plan; next = start + taken; recogniser = recogniser; model = model }) taken ((at - free) / listUnit) ending ⌝ }
+        requires { ⌜ (decoder .next + taken ≤ clockLimit) × (free ≤ done .at) ⌝ }
+        ensures { λ r. ⌜ r ≡ takenWith (movedOn decoder recogniser (done .model) taken) taken ((done .at - free) / listUnit) ending ⌝ }
     {
+        let plan = decoder.plan;
+        let model = done.model;
         Taken {
             decoder: Decoder {
                 plan: plan,
-                next: start + taken as u64,
+                next: decoder.next + taken as u64,
                 recogniser: recogniser,
                 model: model,
             },
             report: Report {
                 bits: taken,
-                records: (at - free) / Decoder::LIST_UNIT,
+                records: (done.at - free) / Decoder::LIST_UNIT,
                 ending: ending,
             },
         }
     }
 }
 
-// What is left once a request is performed: the model with its CNT, the next free word of the list, and whether the call stops here.
+// Where a call stands once a request is performed: the model with its CNT, the next free word of the list, and whether the call stops here.
 struct Performed {
     model: Model,
     cnt: u16,
@@ -141,20 +141,37 @@ struct Performed {
     stops: bool,
 }
 
+impl Performed {
+    // At a call's start.
+    fn nothing(decoder: Decoder, free: usize) -> Performed
+        ensures { λ r. ⌜ r ≡ performedWith (decoder .plan) (decoder .model) free false ⌝ }
+    {
+        let model = decoder.model;
+        let plan = decoder.plan;
+        Performed {
+            model: model,
+            cnt: model.cnt(plan),
+            at: free,
+            stops: false,
+        }
+    }
+}
+
 // Performs a request at its cycle: its effect, and its record in the list.
 fn perform(
-    model: Model,
+    from: Performed,
     plan: Plan,
     request: Request,
     time: u64,
     store: &mut [u32],
     list: &mut [u64],
-    at: usize,
 ) -> Performed
-    requires { ⌜ (time < clockLimit) × (length (now store) ≡ storeLength) × (requestFits request ≡ true) × (listUnit ≤ length (now list) - at) ⌝ }
+    requires { ⌜ (time < clockLimit) × (length (now store) ≡ storeLength) × (requestFits request ≡ true) × (listUnit ≤ length (now list) - from .at) ⌝ }
     ensures { λ r. ⌜ performResult r (now (store .exit)) (now (list .exit))
-        ≡ performOf plan model request time (now (store .entry)) (now (list .entry)) at ⌝ }
+        ≡ performOf plan (from .model) request time (now (store .entry)) (now (list .entry)) (from .at) ⌝ }
 {
+    let at = from.at;
+    let model = from.model;
     let acted = controller::act(model, plan, request, time, store);
     let m = acted.model;
     let cnt = m.cnt(plan);
@@ -176,8 +193,7 @@ fn perform(
     }
 }
 
-// A call that is not refused, stretch by stretch. The recogniser, CNT and the counts are locals; arrays are touched only when a frame bit or a request
-// asks for it.
+// A call that is not refused, stretch by stretch. Arrays are touched only when a frame bit or a request asks for it.
 fn run(
     decoder: Decoder,
     input: &[u8],
@@ -194,26 +210,14 @@ fn run(
         ≡ takenOf decoder (call (now (input .entry)) first count (now (store .entry)) (now (tray .entry)) (now (list .entry)) free) ⌝ }
 {
     let plan = decoder.plan;
-    let start = decoder.next;
     let mut recogniser = decoder.recogniser;
-    let mut model = decoder.model;
-    let mut cnt = model.cnt(plan);
+    let mut done = Performed::nothing(decoder, free);
     let mut taken: usize = 0;
-    let mut at = free;
     while taken < count {
-        if list.len() - at < Decoder::LIST_UNIT {
-            return Taken::ended(
-                plan,
-                start,
-                recogniser,
-                model,
-                taken,
-                at,
-                free,
-                Ending::ListFull,
-            );
+        if list.len() - done.at < Decoder::LIST_UNIT {
+            return Taken::ended(decoder, recogniser, done, taken, free, Ending::ListFull);
         }
-        let stretch = stretches::advance(recogniser, input, first + taken, first + count, cnt);
+        let stretch = stretches::advance(recogniser, input, first + taken, first + count, done.cnt);
         let next = stretch.next;
         recogniser = next;
         taken = taken + stretch.taken;
@@ -224,42 +228,13 @@ fn run(
         if let Request::Nothing = request {
             continue;
         }
-        let done = perform(
-            model,
-            plan,
-            request,
-            start + taken as u64 - 1,
-            store,
-            list,
-            at,
-        );
-        let m = done.model;
-        model = m;
-        cnt = done.cnt;
-        at = done.at;
+        let time = decoder.next + taken as u64 - 1;
+        done = perform(done, plan, request, time, store, list);
         if done.stops {
-            return Taken::ended(
-                plan,
-                start,
-                recogniser,
-                model,
-                taken,
-                at,
-                free,
-                Ending::Frame,
-            );
+            return Taken::ended(decoder, recogniser, done, taken, free, Ending::Frame);
         }
     }
-    Taken::ended(
-        plan,
-        start,
-        recogniser,
-        model,
-        taken,
-        at,
-        free,
-        Ending::Done,
-    )
+    Taken::ended(decoder, recogniser, done, taken, free, Ending::Done)
 }
 
 // Takes bits `first` to `first + count` of the input, one a cycle, and writes their records into the rest of the list from word `free` on. It stops

@@ -12,7 +12,7 @@ use Rattle.taking.proofs.perform.Tie as tie
 
 -- The places that the proofs look back to, each by the one after it: the call, after the request's effect, after its CNT.
 abbrev called : tie.After-act → tie.Start
-called a = a .before .before .before .before
+called a = let k = a .before .before .before .before in k .before
 
 abbrev acted : tie.After-cnt → tie.After-act
 acted n = n .before .before .before .before
@@ -25,7 +25,7 @@ time-low : (k : tie.After-cycle) → k .cycle .given .0 .0 .time < clockLimit
 time-low k =
     let a = acted (counted k) in
     let s = called a in
-    rw (at-time (s .args .plan) (s .args .model) (s .args .request) (s .args .time) _ _ _ (a .act .ensures) _ (k .cycle .given .1)) (s .pre .0)
+    rw (at-time (s .args .plan) (s .args .from .model) (s .args .request) (s .args .time) _ _ _ (a .act .ensures) _ (k .cycle .given .1)) (s .pre .0)
 
 act-requires : tie.Need-act-requires
 act-requires c κs = search needs
@@ -67,8 +67,8 @@ write-record-requires c κs =
     let s = called (acted (counted k)) in
     (time-low k, simp (length-take, length-drop) (omega (arith, s .pre .3)))
 
-add-t16 : tie.Need-add-t16
-add-t16 c =
+add-t17 : tie.Need-add-t17
+add-t17 c =
     let w = c .before .before in
     let s = called (acted (counted (w .before .before .before))) in
     omega (arith, s .pre .3, s)
@@ -90,7 +90,7 @@ returns-2 c =
     let a = acted n in
     let s = called a in
     recorded _ _ _ _ _ _ _ (a .act .ensures) _ _ _ (n .cnt .ensures) _ _ _ (k .cycle .given .1) (c .is-frame .ensures)
-    (rw (w .write-record .ensures) (two-put (s .args .list .now) (s .args .at) _ _ (s .pre .3)))
+    (rw (w .write-record .ensures) (two-put (s .args .list .now) (s .args .from .at) _ _ (s .pre .3)))
 
 pub perform-spec : {M : Type 1} → statement M
 perform-spec =
@@ -107,7 +107,7 @@ perform-spec =
     part-write-record-start
     part-write-record-end
     write-record-requires
-    add-t16
+    add-t17
     is-frame-requires
     same-length-2
     same-length-3

@@ -1,21 +1,20 @@
 -- The taking loop meets `takenOf`: each way through its body cites a lemma over what the loop keeps.
 -- Assumes nothing.
-use mathlib.Core.Path.{_∙_}
+use mathlib.Core.Path.{refl, _∙_}
 use Prim.Native.Nat.{_+_, _-_, _≤_}
 use native.Mathlib.Omega.{arith}
 use borrow.Author.Needs.{needs}
+use Rattle.taking.specs.Take.{call}
 use Rattle.taking.proofs.LoopInvariant.{Invariant, initially, done, full, quiet, performed, moved, stretched-fits}
 use Rattle.taking.proofs.run.Statement.{statement}
 use Rattle.taking.proofs.run.Tie as tie
 
 abbrev Inv-loop : tie.InvT-loop
-Inv-loop input first count store₀ tray₀ list₀ free plan start recogniser₀ model₀ cnt₀ taken₀ at₀ store tray list recogniser model cnt taken at =
-    Invariant (record { plan = plan; next = start; recogniser = recogniser₀; model = model₀ })
-    (record { input = input; first = first; count = count; store = store₀; tray = tray₀; list = list₀; free = free })
-    store tray list recogniser model cnt taken at
+Inv-loop decoder input first count store₀ tray₀ list₀ free plan recogniser₀ done₀ taken₀ store tray list recogniser done taken =
+    Invariant decoder (call input first count store₀ tray₀ list₀ free) store tray list recogniser (done .model) (done .cnt) taken (done .at)
 
 abbrev μ-loop : tie.MeasureT-loop
-μ-loop input first count store₀ tray₀ list₀ free plan start recogniser₀ model₀ cnt₀ taken₀ at₀ store tray list recogniser model cnt taken at = count - taken
+μ-loop decoder input first count store₀ tray₀ list₀ free plan recogniser₀ done₀ taken₀ store tray list recogniser done taken = count - taken
 
 -- The places that the proofs look back to, each by the one after it: the call, a turn's start, after a stretch, after its frame bit, after its request.
 abbrev Called : Type 0
@@ -33,16 +32,16 @@ Kept = tie.After-tray Inv-loop μ-loop
 abbrev Performed : Type 0
 Performed = tie.After-store Inv-loop μ-loop
 
-abbrev counted : tie.After-cnt Inv-loop μ-loop → Called
-counted n =
+abbrev begun : tie.After-nothing Inv-loop μ-loop → Called
+begun n =
     let k = n .before .before .before .before in
-    k .before .before .before .before
+    k .before .before .before
 
 abbrev called : Turn → Called
-called l = counted (l .before)
+called l = begun (l .before)
 
 abbrev turn : Walked → Turn
-turn a = a .before .before .before
+turn a = a .before .before .before .before
 
 abbrev walked : Kept → Walked
 walked k =
@@ -52,22 +51,25 @@ walked k =
 abbrev kept : Performed → Kept
 kept p =
     let m = p .before .before .before .before in
-    m .before .before
+    m .before .before .before
 
-abbrev stored : tie.After-m Inv-loop μ-loop → Performed
-stored m = m .before .before .before .before
+abbrev stopped : tie.Then2 Inv-loop μ-loop → Performed
+stopped c = c .before .before .before .before
+
+abbrev going-on : tie.Else2 Inv-loop μ-loop → Performed
+going-on c = c .before .before .before .before
 
 -- A stretch moves on, and stays within the call.
 moves : (a : Walked) → (1 ≤ a .advance .result .taken) × (turn a .loop .taken + a .advance .result .taken ≤ called (turn a) .args .count)
-moves a = moved (turn a .loop .inv) (a .before .before .loop-test .taken) (a .before .if1 .left) (a .advance .result) (a .advance .ensures)
+moves a = moved (turn a .loop .inv) (a .before .before .before .loop-test .taken) (a .before .if1 .left) (a .advance .result) (a .advance .ensures)
 
-cnt-requires : tie.Need-cnt-requires Inv-loop μ-loop
-cnt-requires c κs = search needs
+nothing-requires : tie.Need-nothing-requires Inv-loop μ-loop
+nothing-requires c κs = search needs
 
 loop-holds : tie.Need-loop-holds Inv-loop μ-loop
 loop-holds c =
-    let s = counted c in
-    initially (s .args .decoder) _ _ (omega (arith, s)) (c .cnt .ensures)
+    let s = begun c in
+    rw (c .nothing .ensures) (initially (s .args .decoder) _ _ (omega (arith, s)) refl)
 
 sub-if1 : tie.Need-sub-if1 Inv-loop μ-loop
 sub-if1 c = search needs
@@ -76,17 +78,18 @@ ended-requires : tie.Need-ended-requires Inv-loop μ-loop
 ended-requires c κs = search needs
 
 same-length : tie.Need-same-length Inv-loop μ-loop
-same-length c = c .before .before .before .loop .inv .long
+same-length c = c .before .before .before .before .loop .inv .long
 
 same-length-2 : tie.Need-same-length-2 Inv-loop μ-loop
-same-length-2 c = c .before .before .before .loop .inv .wide
+same-length-2 c = c .before .before .before .before .loop .inv .wide
 
 same-length-3 : tie.Need-same-length-3 Inv-loop μ-loop
-same-length-3 c = c .before .before .before .loop .inv .same
+same-length-3 c = c .before .before .before .before .loop .inv .same
 
 returns : tie.Need-returns Inv-loop μ-loop
 returns c =
-    rw (c .ended .ensures) (full (c .before .before .before .loop .inv) (c .before .before .loop-test .taken) (c .before .if1 .taken))
+    let l = c .before .before .before .before in
+    rw (c .ended .ensures) (full (l .loop .inv) (c .before .before .before .loop-test .taken) (c .before .if1 .taken))
 
 add-advance : tie.Need-add-advance Inv-loop μ-loop
 add-advance c = search needs
@@ -119,76 +122,77 @@ loop-again : tie.Need-loop-again Inv-loop μ-loop
 loop-again c =
     let k = c .before .before .before in
     let a = walked k in
-    quiet (turn a .loop .inv) (a .before .before .loop-test .taken) (a .before .if1 .left) (a .advance .result) (a .advance .ensures)
+    quiet (turn a .loop .inv) (a .before .before .before .loop-test .taken) (a .before .if1 .left) (a .advance .result) (a .advance .ensures)
     _ (k .before .keep .ensures) (k .tray .given) (c .enum-told .given .1)
 
-add-perform : tie.Need-add-perform Inv-loop μ-loop
-add-perform c =
-    let a = walked (c .before .before) in
+add-time : tie.Need-add-time Inv-loop μ-loop
+add-time c =
+    let a = walked (c .before .before .before) in
     let m = moves a in
     omega (arith, turn a, called (turn a))
 
-sub-perform : tie.Need-sub-perform Inv-loop μ-loop
-sub-perform c =
-    let a = walked (c .before .before) in
+sub-time : tie.Need-sub-time Inv-loop μ-loop
+sub-time c =
+    let a = walked (c .before .before .before) in
     let m = moves a in
     omega (arith, turn a, called (turn a))
 
 perform-requires : tie.Need-perform-requires Inv-loop μ-loop
 perform-requires c κs =
-    let a = walked (c .before .before .before .before) in
+    let t = c .before .before .before in
+    let a = walked (t .before .before) in
     let l = turn a in
     let m = moves a in
-    let fits = stretched-fits (l .loop .inv) (a .before .before .loop-test .taken) (a .before .if1 .left) (a .advance .result) (a .advance .ensures) in
+    let fits = stretched-fits (l .loop .inv) (a .before .before .before .loop-test .taken) (a .before .if1 .left) (a .advance .result) (a .advance .ensures) in
     (omega (arith, l, called l), (l .loop .inv .long ∙ called l .pre .0 .1), fits, a .before .if1 .left)
 
 ended-requires-2 : tie.Need-ended-requires-2 Inv-loop μ-loop
 ended-requires-2 c κs =
-    let p = stored (c .before) in
+    let p = stopped c in
     let k = kept p in
     let a = walked k in
     let l = turn a in
     let m = moves a in
-    let g = performed (l .loop .inv) (a .before .before .loop-test .taken) (a .before .if1 .left) (a .advance .result) (a .advance .ensures)
+    let g = performed (l .loop .inv) (a .before .before .before .loop-test .taken) (a .before .if1 .left) (a .advance .result) (a .advance .ensures)
     _ (k .before .keep .ensures) (k .tray .given) _ (p .before .perform .ensures) (p .store .given) in
     (omega (arith, l, called l), g .from)
 
 same-length-4 : tie.Need-same-length-4 Inv-loop μ-loop
 same-length-4 c =
-    let p = stored (c .before .before) in
+    let p = stopped (c .before) in
     p .store .given ∙ turn (walked (kept p)) .loop .inv .long
 
 same-length-5 : tie.Need-same-length-5 Inv-loop μ-loop
 same-length-5 c =
-    let k = kept (stored (c .before .before)) in
+    let k = kept (stopped (c .before)) in
     k .tray .given ∙ turn (walked k) .loop .inv .wide
 
 same-length-6 : tie.Need-same-length-6 Inv-loop μ-loop
 same-length-6 c =
-    let w = c .before .before .before .before in
+    let w = c .before .before .before in
     w .list .given ∙ turn (walked (kept (w .before .before))) .loop .inv .same
 
 returns-2 : tie.Need-returns-2 Inv-loop μ-loop
 returns-2 c =
-    let p = stored (c .before .before) in
+    let p = stopped (c .before) in
     let k = kept p in
     let a = walked k in
-    let g = performed (turn a .loop .inv) (a .before .before .loop-test .taken) (a .before .if1 .left) (a .advance .result) (a .advance .ensures)
+    let g = performed (turn a .loop .inv) (a .before .before .before .loop-test .taken) (a .before .if1 .left) (a .advance .result) (a .advance .ensures)
     _ (k .before .keep .ensures) (k .tray .given) _ (p .before .perform .ensures) (p .store .given) in
     rw (c .ended2 .ensures) (g .stopped (c .before .if2 .taken))
 
 loop-less-2 : tie.Need-loop-less-2 Inv-loop μ-loop
 loop-less-2 c =
-    let a = walked (kept (stored (c .before))) in
+    let a = walked (kept (going-on c)) in
     let m = moves a in
     omega (arith, turn a, called (turn a))
 
 loop-again-2 : tie.Need-loop-again-2 Inv-loop μ-loop
 loop-again-2 c =
-    let p = stored (c .before) in
+    let p = going-on c in
     let k = kept p in
     let a = walked k in
-    let g = performed (turn a .loop .inv) (a .before .before .loop-test .taken) (a .before .if1 .left) (a .advance .result) (a .advance .ensures)
+    let g = performed (turn a .loop .inv) (a .before .before .before .loop-test .taken) (a .before .if1 .left) (a .advance .result) (a .advance .ensures)
     _ (k .before .keep .ensures) (k .tray .given) _ (p .before .perform .ensures) (p .store .given) in
     g .onwards (c .if2 .left)
 
@@ -214,7 +218,7 @@ run-spec =
     (tie.spec
     Inv-loop
     μ-loop
-    cnt-requires
+    nothing-requires
     loop-holds
     sub-if1
     ended-requires
@@ -230,8 +234,8 @@ run-spec =
     enum-told
     loop-less
     loop-again
-    add-perform
-    sub-perform
+    add-time
+    sub-time
     perform-requires
     ended-requires-2
     same-length-4
