@@ -14,10 +14,10 @@ use Rattle.bits.proofs.Truth.{cases}
 use Rattle.output.specs.Block.{Block, block, putIfFits}
 use Rattle.output.proofs.Pieces.{put-when-fits, put-when-full}
 use Rattle.hexlines.specs.declared.HexLine.{HexLine}
-use Rattle.hexlines.specs.Line.{Read, hexNumber, readAs, readOf}
+use Rattle.hexlines.specs.Line.{Read, lineBytes, hexNumber, readAs, readOf}
 use Rattle.layout.specs.Digits.{charactersOf}
 use Rattle.layout.specs.ListingLines.{numbersLine, recordLine}
-use Rattle.kernelstill.specs.Lines.{lineBytes, lineResult, hexResultOf, recordResultOf}
+use Rattle.kernelstill.specs.Lines.{lineResult, hexResultOf, recordResultOf}
 
 module _ (line bytes : List ℕ) where
   pub small : length bytes < lineBytes → lineResult 4 bytes ≡ hexResultOf line bytes

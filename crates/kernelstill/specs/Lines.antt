@@ -6,7 +6,7 @@ use Prim.Native.Nat.{ℕ}
 use lib.Dec.{ltb, leb}
 use lib.ListN.{length}
 use lib.Seq.{sets}
-use Rattle.hexlines.specs.Line.{lineMeaning}
+use Rattle.hexlines.specs.Line.{lineBytes, lineMeaning}
 use Rattle.layout.specs.ListingLines.{recordLine}
 
 -- A refusal number, 0 for none, and the buffer's later contents.
@@ -16,10 +16,6 @@ pub record LineResult : Type 0 where
 
 abbrev pub lineResult : ℕ → List ℕ → LineResult
 lineResult number bytes = record { number = number; bytes = bytes }
-
--- The bytes of the longest hexadecimal line.
-abbrev pub lineBytes : ℕ
-lineBytes = 32
 
 -- A line's bytes stand at the buffer's start; a refused line has none. A buffer of fewer than 32 bytes is number 4.
 unfoldable pub hexResultOf : List ℕ → List ℕ → LineResult

@@ -19,9 +19,6 @@ use taking::Report;
 // The words of a taking call's result: bits taken, records written, ending.
 const RESULT_WORDS: usize = 3;
 
-// The bytes of the longest hexadecimal line.
-const LINE_BYTES: usize = 32;
-
 // The refusal numbers of what is checked here: an image, and the lengths of slices that no wrapped call checks.
 const UNSOUND: u64 = 3;
 
@@ -192,7 +189,7 @@ pub extern "C" fn kernelstill_frame_part(tray: &[u8], bits: usize) -> usize
 pub extern "C" fn kernelstill_hex_line(line: &[u8], bytes: &mut [u8]) -> u64
     ensures { λ r. ⌜ lineResult r (now (bytes .exit)) ≡ hexResultOf (now (line .entry)) (now (bytes .entry)) ⌝ }
 {
-    if bytes.len() < LINE_BYTES {
+    if bytes.len() < hexlines::LINE_BYTES {
         return WRONG_BUFFERS;
     }
     let answer = hexlines::read_line(line, bytes);
