@@ -1,17 +1,47 @@
-//! The benchmark's two inputs.
+//! The benchmark's inputs, each as the inputs of its calls.
 
 const BYTES: usize = 1 << 20;
 const CALL: usize = 65_536;
 
 /// One mebibyte of idle line.
-pub fn zeros() -> Vec<u8> {
-    vec![0; BYTES]
+pub fn zeros() -> Vec<Vec<u8>> {
+    vec![vec![0; CALL]; BYTES / CALL]
 }
 
 /// One mebibyte of commands as dense as the timing table allows; each call's
 /// part begins with an EnDataTake, so that they are acted on.
-pub fn dense() -> Vec<u8> {
-    (0..BYTES / CALL).flat_map(|_| dense_call()).collect()
+pub fn dense() -> Vec<Vec<u8>> {
+    vec![dense_call(); BYTES / CALL]
+}
+
+/// About one mebibyte of the longest front-end frames, CNT FFFF, one a call:
+/// a call stops after a frame.
+pub fn front_end_frames() -> Vec<Vec<u8>> {
+    frames("0100", 8 * 8_247)
+}
+
+/// The same of the longest WrReceiver.
+pub fn receiver_frames() -> Vec<Vec<u8>> {
+    frames("0110", 8 * 8_191)
+}
+
+fn frames(field3: &'static str, cycles: usize) -> Vec<Vec<u8>> {
+    const SLOW: &str = "101101011";
+    let mut bits: Vec<u8> = [
+        SLOW,
+        "0000",
+        "0101",
+        "1111111111111111",
+        SLOW,
+        field3,
+        "0000",
+    ]
+    .into_iter()
+    .flat_map(digits)
+    .collect();
+    bits.extend((0..cycles).map(|n| (n / 8 % 3 == 0) as u8));
+    let call = packed(&mut bits);
+    vec![call.clone(); BYTES / call.len()]
 }
 
 fn dense_call() -> Vec<u8> {
@@ -35,6 +65,12 @@ fn dense_call() -> Vec<u8> {
         }
     }
     bits.resize(8 * CALL, 0);
+    packed(&mut bits)
+}
+
+/// Bits as bytes, highest bit first, filled up with zeros.
+fn packed(bits: &mut Vec<u8>) -> Vec<u8> {
+    bits.resize(bits.len().div_ceil(8) * 8, 0);
     bits.chunks(8)
         .map(|b| b.iter().fold(0, |byte, bit| byte << 1 | bit))
         .collect()
