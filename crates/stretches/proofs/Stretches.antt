@@ -20,7 +20,7 @@ use Rattle.recogniser.specs.Parts.{shifted, startOf, noEvent, moveTo, gatheredO
 use Rattle.recogniser.specs.Hunting.{meaningOf, huntBy, bodyOf}
 use Rattle.recogniser.specs.Step.{stepOf}
 use Rattle.recogniser.proofs.Phase.{the-type}
-use Rattle.recogniser.proofs.Laws.{step-at}
+use Rattle.recogniser.proofs.StepByPhase.{step-at}
 use Rattle.stretches.specs.declared.Stretch.{Stretch}
 use Rattle.stretches.specs.Stretch.{stretched, oneMore, huntBeyond, huntOn, bodyOn, stepOn, stretchBy, stretchOf}
 
