@@ -15,7 +15,7 @@ use Rattle.recogniser.specs.declared.Request.the-variants as request
 use Rattle.recogniser.specs.declared.Recogniser.{Recogniser}
 use Rattle.stretches.specs.declared.Stretch.{Stretch}
 use Rattle.stretches.specs.Stretch.{stretchOf}
-use Rattle.stretches.proofs.Stretches.{Passes, ends, last, more, stretch-passes, stretch-some, stretch-within}
+use Rattle.stretches.proofs.SingleCycles.{Passes, ends, last, more, stretch-passes, stretch-some, stretch-within}
 use Rattle.frames.specs.Tray.{trayOf}
 use Rattle.registers.specs.declared.Plan.{Plan}
 use Rattle.registers.specs.declared.Model.{Model}

@@ -1,4 +1,4 @@
--- Laws of a stretch that callers cite: it is as many single cycles, all but the last of which ask for nothing.
+-- A stretch is as many single cycles, all but the last of which ask for nothing; it takes one at least, and no more than there are.
 -- Assumes nothing.
 use mathlib.Core.Path.{_≡_, _∙_, refl, ap}
 use mathlib.Core.List.{List, [], _∷_}
