@@ -3,7 +3,7 @@
 use mathlib.Core.Path.{sym, _∙_}
 use borrow.Author.Tests.{not-true, not-false}
 use borrow.Author.Needs.{needs}
-use Rattle.registers.proofs.Facts.{exists-low}
+use Rattle.registers.proofs.PlanAddresses.{exists-low}
 use Rattle.controller.proofs.write_register.Statement.{statement}
 use Rattle.controller.proofs.write_register.Tie as tie
 
