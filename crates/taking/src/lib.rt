@@ -115,7 +115,8 @@ impl Taken {
         ending: Ending,
     ) -> Taken
         requires { ⌜ (start + taken ≤ clockLimit) × (free ≤ at) ⌝ }
-        ensures { λ r. ⌜ r ≡ takenWith (record { plan = plan; next = start + taken; recogniser = recogniser; model = model }) taken ((at - free) / listUnit) ending ⌝ }
+        ensures { λ r. ⌜ r
+            ≡ takenWith (record { plan = plan; next = start + taken; recogniser = recogniser; model = model }) taken ((at - free) / listUnit) ending ⌝ }
     {
         Taken {
             decoder: Decoder {
