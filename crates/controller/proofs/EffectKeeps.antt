@@ -22,7 +22,6 @@ use Rattle.registers.specs.Parts.{pointers, zeroPointers}
 use Rattle.registers.specs.Fifos.{movedOn, writeOf}
 use Rattle.registers.specs.Sound.{everyFrom, fitsAt, pointersFit, zeroAt, missingZero}
 use Rattle.registers.proofs.WriteLoop.{fifos}
-use Rattle.controller.specs.declared.Acted.{Acted}
 use Rattle.controller.specs.Commands.{actOf}
 use Rattle.controller.specs.Requests.{changesRegisters, changesRunning}
 use Rattle.controller.proofs.EffectCases.{write-keeps, act-keeps}

@@ -52,7 +52,7 @@ abbrev pub lookUp : List Row → Command → ℕ → Outcome
 lookUp [] c bit = none
 lookUp (r ∷ rs) c bit = cond (speaksOf r c bit) (r .outcome) (lookUp rs c bit)
 
--- What stands in a command's place: nothing, or a request at one of its bits, countersAfter from 1.
+-- What stands in a command's place: nothing, or a request at one of its bits, counted from 1.
 pub data Replacement : Type 0 where
   nothing : Replacement
   at : ℕ → Request → Replacement
@@ -71,7 +71,7 @@ asReplacement c bit (badFastAt p) = at p (BadFast (damagedBody c bit))
 abbrev pub itself : Command → Replacement
 itself c = at (widthOf c) (requestOf c)
 
--- A bit of the command inverted, countersAfter from 1; bit 0 is a zero ahead of it.
+-- A bit of the command inverted, counted from 1; bit 0 is a zero ahead of it.
 abbrev pub damage : Command → ℕ → Replacement
 damage c bit = asReplacement c bit (lookUp table c bit)
 
@@ -79,7 +79,7 @@ damage c bit = asReplacement c bit (lookUp table c bit)
 abbrev pub hitsFast : Command → ℕ → Bool
 hitsFast c distance = isFastCommand c && leb distance 2
 
--- "Affected: the command holding the inverted bit; or .. that Fast; otherwise none": of an item whose bit k is inverted, countersAfter from 0 at the first of
+-- "Affected: the command holding the inverted bit; or .. that Fast; otherwise none": of an item whose bit k is inverted, counted from 0 at the first of
 -- its zeros.
 abbrev pub affected : Item → ℕ → Bool
 affected i k = cond (ltb k (i .ahead)) (hitsFast (i .command) (i .ahead - k)) true
