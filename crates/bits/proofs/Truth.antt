@@ -3,7 +3,7 @@
 use mathlib.Core.Bool.{Bool, true, false, cond, not, _&&_, _||_}
 use mathlib.Core.Logic.{_⊎_, inl, inr}
 use mathlib.Core.Path.{_≡_, refl}
-use Prim.Native.Nat.{ℕ}
+use Prim.Native.Nat.{ℕ, _≤_}
 use native.Mathlib.Omega.{arith}
 use lib.Dec.{T}
 
@@ -18,6 +18,9 @@ cases false = inr refl
 pub holds-true : (b : Bool) → T b → b ≡ true
 holds-true true t = refl
 holds-true false t = absurd t
+
+pub true-holds : (b : Bool) → b ≡ true → T b
+true-holds b e = rw e tt
 
 -- What holds of both branches holds of the choice.
 pub choice : {A : Type 0} (P : A → Type 0) (b : Bool) {x y : A} → (b ≡ true → P x) → (b ≡ false → P y) → P (cond b x y)
@@ -53,6 +56,29 @@ pub cond-taken : {A : Type 0} (b : Bool) (x y : A) → T b → cond b x y ≡ x
 cond-taken true x y t = refl
 cond-taken false x y t = absurd t
 
+pub cond-left : {A : Type 0} (b : Bool) (x y : A) → T (not b) → cond b x y ≡ y
+cond-left true x y t = absurd t
+cond-left false x y t = refl
+
+-- Two choices by one test; and a statement chosen by the test that chose its value.
+pub cond-pair : {A B : Type 0} (P : A → B → Type 0) (b : Bool) (x y : A) (u v : B) → (T b → P x u) → (T (not b) → P y v)
+    → P (cond b x y) (cond b u v)
+cond-pair P true x y u v f g = f tt
+cond-pair P false x y u v f g = g tt
+
+pub cond-statement : {A : Type 0} (P Q : A → Type 0) (b : Bool) (x y : A) → (T b → P x) → (T (not b) → Q y)
+    → cond b (P (cond b x y)) (Q (cond b x y))
+cond-statement P Q true x y f g = f tt
+cond-statement P Q false x y f g = g tt
+
+-- A choice of two numbers is at most what both are at most.
+pub cond-most : (b : Bool) {x y n : ℕ} → x ≤ n → y ≤ n → cond b x y ≤ n
+cond-most b {n = n} p q = cond-case (λ v. v ≤ n) b (λ _. p) (λ _. q)
+
+pub and-both : (a b : Bool) → T a → T b → T (a && b)
+and-both true b t u = u
+and-both false b t u = t
+
 pub and-left : (a b : Bool) → T (a && b) → T a
 and-left true b t = tt
 and-left false b t = t
@@ -72,3 +98,12 @@ or-else false b f = f tt
 pub stable : (b : Bool) → (T (not b) → ⊥) → T b
 stable true f = tt
 stable false f = f tt
+
+-- A test that fails wherever another passes.
+pub not-both : (a b : Bool) → (T a → b ≡ false) → (a && b) ≡ false
+not-both true b f = f tt
+not-both false b f = refl
+
+pub not-other : (a b : Bool) → (a && b) ≡ false → T a → b ≡ false
+not-other true b e t = e
+not-other false b e t = absurd t

@@ -17,10 +17,11 @@ use Rattle.registers.specs.declared.Plan.{Plan}
 use Rattle.registers.specs.declared.Pointers.{Pointers}
 use Rattle.registers.specs.declared.Model.{Model}
 use Rattle.registers.specs.Plan.{existsAt}
-use Rattle.registers.specs.Registers.{cntOf, zeros16}
-use Rattle.registers.specs.Fifos.{movedOn}
+use Rattle.registers.specs.Registers.{cntOf, writtenOf, zeros16}
+use Rattle.registers.specs.Parts.{pointers, zeroPointers}
+use Rattle.registers.specs.Fifos.{movedOn, writeOf}
 use Rattle.registers.specs.Sound.{everyFrom, fitsAt, pointersFit, zeroAt, missingZero}
-use Rattle.controller.specs.declared.Acted.{Acted}
+use Rattle.registers.proofs.WriteLoop.{fifos}
 use Rattle.controller.specs.Commands.{actOf}
 use Rattle.controller.specs.Requests.{changesRegisters, changesRunning}
 use Rattle.controller.proofs.EffectCases.{write-keeps, act-keeps}
@@ -82,42 +83,50 @@ zeros-missing plan m e = rw e (zeros-zero plan)
 
 -- What holds of the model before a request holds of it after.
 module _ (plan : Plan) (m : Model) (q : Request) (time : ℕ) (store : List ℕ) where
-  pub writes-fit : pointersFit (m .pointers .writes) ≡ true → pointersFit (after plan m q time store .pointers .writes) ≡ true
-  writes-fit h = act-keeps (λ r p c b. pointersFit (p .writes) ≡ true) plan m time store q (record {
-    now = h;
-    lv1 = h;
-    fast = λ body. choice (λ (p : Pointers). pointersFit (p .writes) ≡ true) (eqb body 0b0010) (λ _. zeros-fit) (λ _. h);
-    write = λ _ _ _ _. h;
-    push = λ feen word. write-keeps (λ f. pointersFit (f .writes) ≡ true) (λ n word f. moved-fits (f .writes) n) 16 0 feen word _ h;
-    pop = λ _. h;
-    reset = λ _. zeros-fit;
-    run = λ _ _. h;
+  -- A fact of the pointers: it holds now and of zeros, and each word written or read keeps it.
+  pointers-keep : (P : Pointers → Type 0) → P (m .pointers) → P zeroPointers
+      → ((feen word : ℕ) → P (pointers (writeOf 16 0 feen word (fifos (m .pointers .writes) store) .writes) (m .pointers .reads)))
+      → ((n : ℕ) → P (pointers (m .pointers .writes) (set (m .pointers .reads) n (movedOn (getD (m .pointers .reads) n 0)))))
+      → P (after plan m q time store .pointers)
+  pointers-keep P now none push pop = act-keeps (λ r p c b. P p) plan m time store q (record {
+    now = now;
+    lv1 = now;
+    fast = λ body. choice P (eqb body 0b0010) (λ _. none) (λ _. now);
+    write = λ _ _ _ _. now;
+    push = push;
+    pop = pop;
+    reset = λ _. none;
+    run = λ _ _. now;
   })
 
+  pub writes-fit : pointersFit (m .pointers .writes) ≡ true → pointersFit (after plan m q time store .pointers .writes) ≡ true
+  writes-fit h =
+      pointers-keep (λ p. pointersFit (p .writes) ≡ true) h zeros-fit
+      (λ feen word. write-keeps (λ f. pointersFit (f .writes) ≡ true) (λ n word f. moved-fits (f .writes) n) 16 0 feen word _ h) (λ _. h)
+
   pub reads-fit : pointersFit (m .pointers .reads) ≡ true → pointersFit (after plan m q time store .pointers .reads) ≡ true
-  reads-fit h = act-keeps (λ r p c b. pointersFit (p .reads) ≡ true) plan m time store q (record {
-    now = h;
-    lv1 = h;
-    fast = λ body. choice (λ (p : Pointers). pointersFit (p .reads) ≡ true) (eqb body 0b0010) (λ _. zeros-fit) (λ _. h);
-    write = λ _ _ _ _. h;
-    push = λ _ _. h;
-    pop = λ n. moved-fits (m .pointers .reads) n h;
-    reset = λ _. zeros-fit;
-    run = λ _ _. h;
+  reads-fit h =
+      pointers-keep (λ p. pointersFit (p .reads) ≡ true) h zeros-fit (λ _ _. h) (λ n. moved-fits (m .pointers .reads) n h)
+
+  -- A fact of the registers: it holds now, and after a write and a reset by a request that changes them.
+  registers-keep : (P : List ℕ → Type 0) → P (m .registers)
+      → ((address value : ℕ) → existsAt plan address ≡ true → changesRegisters q ≡ true → P (writtenOf plan m address value))
+      → (changesRegisters q ≡ true → P zeros16) → P (after plan m q time store .registers)
+  registers-keep P now write reset = act-keeps (λ r p c b. P r) plan m time store q (record {
+    now = now;
+    lv1 = now;
+    fast = λ _. now;
+    write = write;
+    push = λ _ _. now;
+    pop = λ _. now;
+    reset = reset;
+    run = λ _ _. now;
   })
 
   pub missing-zero : missingZero plan m ≡ true → missingZero plan (after plan m q time store) ≡ true
   unfolding missingZero
-  missing-zero h = act-keeps (λ r p c b. ZeroIn plan r) plan m time store q (record {
-    now = h;
-    lv1 = h;
-    fast = λ _. h;
-    write = λ address value there _. written-zero plan (m .registers) address _ there h;
-    push = λ _ _. h;
-    pop = λ _. h;
-    reset = λ _. zeros-zero plan;
-    run = λ _ _. h;
-  })
+  missing-zero h =
+      registers-keep (ZeroIn plan) h (λ address value there _. written-zero plan (m .registers) address _ there h) (λ _. zeros-zero plan)
 
   pub base-low : m .counters .base ≤ time → after plan m q time store .counters .base ≤ time
   base-low h = act-keeps (λ r p c b. c .base ≤ time) plan m time store q (record {
@@ -132,16 +141,7 @@ module _ (plan : Plan) (m : Model) (q : Request) (time : ℕ) (store : List ℕ)
   })
 
   pub registers-kept : changesRegisters q ≡ false → after plan m q time store .registers ≡ m .registers
-  registers-kept h = act-keeps (λ r p c b. r ≡ m .registers) plan m time store q (record {
-    now = refl;
-    lv1 = refl;
-    fast = λ _. refl;
-    write = λ _ _ _ t. clash t h;
-    push = λ _ _. refl;
-    pop = λ _. refl;
-    reset = λ t. clash t h;
-    run = λ _ _. refl;
-  })
+  registers-kept h = registers-keep (λ r. r ≡ m .registers) refl (λ _ _ _ t. clash t h) (λ t. clash t h)
 
   pub cnt-kept : changesRegisters q ≡ false → cntOf plan (after plan m q time store) ≡ cntOf plan m
   cnt-kept h = ap (λ l. getD l (plan .cnt) 0) (registers-kept h)

@@ -12,8 +12,6 @@ use Rattle.controller.specs.Commands.{recorded, fastRecord, fastOf}
 pub unchanged : (m : Model) (body time : ℕ) → m .running ≡ true → eqb body 0b0001 ≡ false → eqb body 0b0010 ≡ false
     → recorded m (recordOf time (kindFast body) 1 0) ≡ fastOf m body time
 unchanged m body time on bcr ecr = sym (λ i.
-    recorded
-    (cond (on i)
-    (withCounters (counters (cond (ecr i) 0 (m .counters .l1id)) (cond (bcr i) time (m .counters .base))) (withPointers (cond (ecr i) zeroPointers (m .pointers)) m))
-    m)
-    (fastRecord (on i) body time))
+    let counted = counters (cond (ecr i) 0 (m .counters .l1id)) (cond (bcr i) time (m .counters .base)) in
+    let pointed = withPointers (cond (ecr i) zeroPointers (m .pointers)) m in
+    recorded (cond (on i) (withCounters counted pointed) m) (fastRecord (on i) body time))

@@ -1,13 +1,13 @@
 -- Lists of taking calls over a clean or damaged stream write the records of its trace.
 -- Assumes nothing.
 use mathlib.Core.Path.{_≡_, _∙_, refl, sym, ap, ap₂}
-use mathlib.Core.Bool.{Bool, true, false, _&&_}
+use mathlib.Core.Bool.{Bool, true, _&&_}
 use mathlib.Core.List.{List, [], _∷_, _++_, append-nil}
-use Prim.Native.Nat.{ℕ, zero, suc, _+_, _*_, _-_, _/_, _%_, _^_, _<_, _≤_}
+use Prim.Native.Nat.{ℕ, zero, suc, _+_, _-_, _/_, _%_, _^_, _<_}
 use native.Mathlib.Omega.{arith}
-use lib.Dec.{eqb, ltb, T, ltb→lt, nltb→le}
+use lib.Dec.{eqb, T}
 use lib.ListN.{length, getD, length-append}
-use Rattle.bits.proofs.Truth.{and-left, and-right, cond-case}
+use Rattle.bits.proofs.Truth.{and-both, and-left, and-right}
 use Rattle.recogniser.specs.declared.Phase.the-variants.{Hunt}
 use Rattle.recogniser.specs.declared.Request.{Request}
 use Rattle.recogniser.specs.declared.Recogniser.{Recogniser}
@@ -25,13 +25,13 @@ use Rattle.taking.specs.Calls.{bitsTaken, wordsStanding, allBits, allWords}
 use Rattle.taking.proofs.CallLists.{call-kept}
 use Rattle.damage.specs.Commands.{Command, widthOf}
 use Rattle.damage.specs.CleanStreams.{Item, itemSize, streamBits, timed, inverted}
-use Rattle.damage.specs.Table.{damage, hitsFast, itself, replacementOf}
+use Rattle.damage.specs.Table.{Replacement, replacementOf}
 use Rattle.damage.specs.Traces.{requestsOf, recogniserAfter, quiet, spread, commandTrace, itemTrace, cleanTrace, damagedItem, damagedTrace}
-use Rattle.damage.specs.Records.{countersOf, sends, requestRecords, countersAfter, cleanRecords, damagedRecords}
-use Rattle.damage.proofs.Computed.{below, below-at, each-at}
-use Rattle.damage.proofs.TraceLaws.{requests-append, after-append, length-requests}
+use Rattle.damage.specs.Records.{countersOf, sends, requestRecords, cleanRecords, damagedRecords}
+use Rattle.damage.proofs.TracesJoined.{requests-append, after-append, length-requests}
 use Rattle.damage.proofs.Recovery.{clean-run}
-use Rattle.damage.proofs.InvertedBit.{zeroDamage, replacement-by, damaged-run}
+use Rattle.damage.proofs.Replacements.{damaged-cases, Passes, own-passes, replacement-passes}
+use Rattle.damage.proofs.InvertedBit.{damaged-run}
 use Rattle.damage.proofs.TraceRecords.{performed, counting, performed-append, counting-append, performed-clean, performed-damaged}
 use Rattle.damage.proofs.RunModeEffects.{outsideSlow, noSlow, step-any-cnt, step-stays-outside, from-empty, does}
 
@@ -40,13 +40,9 @@ abbrev noSlowIn : List Request → Bool
 noSlowIn [] = true
 noSlowIn (e ∷ es) = noSlow e && noSlowIn es
 
-both : (a b : Bool) → T a → T b → T (a && b)
-both true b p q = q
-both false b p q = p
-
 noSlowIn-left : (es fs : List Request) → T (noSlowIn (es ++ fs)) → T (noSlowIn es)
 noSlowIn-left [] fs h = tt
-noSlowIn-left (e ∷ es) fs h = both (noSlow e) (noSlowIn es) (and-left (noSlow e) _ h) (noSlowIn-left es fs (and-right (noSlow e) _ h))
+noSlowIn-left (e ∷ es) fs h = and-both (noSlow e) (noSlowIn es) (and-left (noSlow e) _ h) (noSlowIn-left es fs (and-right (noSlow e) _ h))
 
 noSlowIn-right : (es fs : List Request) → T (noSlowIn (es ++ fs)) → T (noSlowIn fs)
 noSlowIn-right [] fs h = h
@@ -54,7 +50,7 @@ noSlowIn-right (e ∷ es) fs h = noSlowIn-right es fs (and-right (noSlow e) _ h)
 
 noSlowIn-append : (es fs : List Request) → T (noSlowIn es) → T (noSlowIn fs) → T (noSlowIn (es ++ fs))
 noSlowIn-append [] fs h k = k
-noSlowIn-append (e ∷ es) fs h k = both (noSlow e) (noSlowIn (es ++ fs)) (and-left (noSlow e) _ h) (noSlowIn-append es fs (and-right (noSlow e) _ h) k)
+noSlowIn-append (e ∷ es) fs h k = and-both (noSlow e) (noSlowIn (es ++ fs)) (and-left (noSlow e) _ h) (noSlowIn-append es fs (and-right (noSlow e) _ h) k)
 
 noSlowIn-quiet : (n : ℕ) → T (noSlowIn (quiet n))
 noSlowIn-quiet zero = tt
@@ -84,12 +80,14 @@ follows-none d r q = record { written = refl; stands = refl; counters = refl; ne
 follows-append : {d v u : Decoder} {xs ys : List ℕ} {ws zs : List ℕ} → Follows d xs v ws → Follows v ys u zs → Follows d (xs ++ ys) u (ws ++ zs)
 follows-append {d} {v} {u} {xs} {ys} {ws} {zs} a b = record {
   written =
-      rw (requests-append (d .recogniser) xs ys, performed-append (sends d) (countersOf d) (d .next) (trace d xs) (requestsOf (recogniserAfter (d .recogniser) xs) ys), length-requests (d .recogniser) xs)
+      let later : List Request = requestsOf (recogniserAfter (d .recogniser) xs) ys in
+      rw (requests-append (d .recogniser) xs ys, performed-append (sends d) (countersOf d) (d .next) (trace d xs) later, length-requests (d .recogniser) xs)
       (ap₂ _++_ (a .written) (b .written ∙ (λ i. recordWords (performed (a .sent i) (a .counters i) (a .next i) (requestsOf (a .stands i) ys))))
       ∙ sym (words-append (performed (sends d) (countersOf d) (d .next) (trace d xs)) _));
   stands = b .stands ∙ ap (λ (r : Recogniser). recogniserAfter r ys) (a .stands) ∙ sym (after-append (d .recogniser) xs ys);
   counters =
-      rw (requests-append (d .recogniser) xs ys, counting-append (countersOf d) (d .next) (trace d xs) (requestsOf (recogniserAfter (d .recogniser) xs) ys), length-requests (d .recogniser) xs)
+      let later : List Request = requestsOf (recogniserAfter (d .recogniser) xs) ys in
+      rw (requests-append (d .recogniser) xs ys, counting-append (countersOf d) (d .next) (trace d xs) later, length-requests (d .recogniser) xs)
       (b .counters ∙ (λ i. counting (a .counters i) (a .next i) (requestsOf (a .stands i) ys)));
   next = let e = a .next in let f = b .next in rw length-append (omega arith);
   running = b .running;
@@ -152,40 +150,27 @@ follows-calls (c ∷ cs) d r q h =
     let v : Decoder = takeOf d c .taken .decoder in
     let xs : List ℕ = bitsTaken d c in
     let ys : List ℕ = allBits v cs in
-    let k : T (noSlowIn (trace d xs ++ requestsOf (recogniserAfter (d .recogniser) xs) ys)) = rw (← requests-append (d .recogniser) xs ys) h in
-    let a = follows-call d c r q (noSlowIn-left (trace d xs) _ k) in
-    let b = follows-calls cs v (a .running) (a .outside) (rw (a .stands) (noSlowIn-right (trace d xs) (requestsOf (recogniserAfter (d .recogniser) xs) ys) k)) in
+    let later : List Request = requestsOf (recogniserAfter (d .recogniser) xs) ys in
+    let k : T (noSlowIn (trace d xs ++ later)) = rw (← requests-append (d .recogniser) xs ys) h in
+    let a = follows-call d c r q (noSlowIn-left (trace d xs) later k) in
+    let b = follows-calls cs v (a .running) (a .outside) (rw (a .stands) (noSlowIn-right (trace d xs) later k)) in
     (b .0, follows-append a (b .1))
 
 -- clean and damaged traces have no Slow command: computed for what stands in a command's place
-holds : (b : Bool) → b ≡ true → T b
-holds b e = rw e tt
+abbrev noSlowAt : Command → Replacement → Bool
+noSlowAt c x = noSlowIn (spread (widthOf c) x)
 
-noSlow-itself : (c : Command) → T (noSlowIn (spread (widthOf c) (itself c)))
-noSlow-itself c = holds _ (each-at (λ c. noSlowIn (spread (widthOf c) (itself c))) (λ c. true) refl c)
-
-noSlow-damage : (c : Command) (k : ℕ) → k < widthOf c → T (noSlowIn (spread (widthOf c) (damage c (suc k))))
-noSlow-damage c k h =
-    holds _
-    (below-at (widthOf c) (λ k. noSlowIn (spread (widthOf c) (damage c (suc k)))) (λ k. true)
-    (each-at (λ c. below (widthOf c) (λ k. noSlowIn (spread (widthOf c) (damage c (suc k))))) (λ c. below (widthOf c) (λ k. true)) refl c) k h)
-
-noSlow-zero : (c : Command) (distance : ℕ) → T (noSlowIn (spread (widthOf c) (zeroDamage c distance)))
-noSlow-zero c distance =
-    cond-case (λ x. T (noSlowIn (spread (widthOf c) x))) (hitsFast c distance) {x = damage c 0} {y = itself c}
-    (λ _. holds _ (each-at (λ c. noSlowIn (spread (widthOf c) (damage c 0))) (λ c. true) refl c))
-    (λ _. noSlow-itself c)
+noSlow-passes : Passes noSlowAt
+noSlow-passes = record { own = refl; hit = refl; ahead = refl }
 
 noSlow-item : (i : Item) → T (noSlowIn (itemTrace i))
-noSlow-item i = noSlowIn-append (quiet (i .ahead)) (commandTrace (i .command)) (noSlowIn-quiet (i .ahead)) (noSlow-itself (i .command))
+noSlow-item i =
+    noSlowIn-append (quiet (i .ahead)) (commandTrace (i .command)) (noSlowIn-quiet (i .ahead)) (own-passes noSlowAt noSlow-passes (i .command))
 
 noSlow-hit : (i : Item) (k : ℕ) → k < itemSize i → T (noSlowIn (damagedItem i k))
 noSlow-hit i k h =
     noSlowIn-append (quiet (i .ahead)) (spread (widthOf (i .command)) (replacementOf i k)) (noSlowIn-quiet (i .ahead))
-    (rw (replacement-by i k)
-    (cond-case (λ x. T (noSlowIn (spread (widthOf (i .command)) x))) (ltb k (i .ahead)) {x = zeroDamage (i .command) (i .ahead - k)} {y = damage (i .command) (suc (k - i .ahead))}
-    (λ _. noSlow-zero (i .command) (i .ahead - k))
-    (λ b. let g : i .ahead ≤ k = nltb→le k (i .ahead) b in noSlow-damage (i .command) (k - i .ahead) (omega arith))))
+    (replacement-passes noSlowAt noSlow-passes i k h)
 
 noSlow-clean : (is : List Item) (t : ℕ) → T (noSlowIn (cleanTrace is t))
 noSlow-clean [] t = noSlowIn-quiet t
@@ -194,9 +179,9 @@ noSlow-clean (i ∷ is) t = noSlowIn-append (itemTrace i) (cleanTrace is t) (noS
 noSlow-damaged : (is : List Item) (t k : ℕ) → T (noSlowIn (damagedTrace is t k))
 noSlow-damaged [] t k = noSlowIn-quiet t
 noSlow-damaged (i ∷ is) t k =
-    cond-case (λ es. T (noSlowIn es)) (ltb k (itemSize i)) {x = damagedItem i k ++ cleanTrace is t} {y = itemTrace i ++ damagedTrace is t (k - itemSize i)}
-    (λ b. noSlowIn-append (damagedItem i k) (cleanTrace is t) (noSlow-hit i k (ltb→lt k (itemSize i) b)) (noSlow-clean is t))
-    (λ b. noSlowIn-append (itemTrace i) (damagedTrace is t (k - itemSize i)) (noSlow-item i) (noSlow-damaged is t (k - itemSize i)))
+    damaged-cases (λ es. T (noSlowIn es)) i is t k
+    (λ h. noSlowIn-append (damagedItem i k) (cleanTrace is t) (noSlow-hit i k h) (noSlow-clean is t))
+    (λ _. noSlowIn-append (itemTrace i) (damagedTrace is t (k - itemSize i)) (noSlow-item i) (noSlow-damaged is t (k - itemSize i)))
 
 -- the trace from a state that hunts with an empty window is that of an empty recogniser
 hunting-trace : (r : Recogniser) (bits : List ℕ) → r .phase ≡ Hunt → r .shift ≡ 0 → requestsOf r bits ≡ requestsOf idle bits

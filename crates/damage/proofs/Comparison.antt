@@ -1,17 +1,19 @@
 -- The damaged records beside the clean ones: one replaced or left out, the others equal but for the two counters up to the next reset.
 -- Assumes nothing.
 use mathlib.Core.Path.{_≡_, refl, sym, ap}
-use mathlib.Core.Bool.{Bool, true, false, cond, not, _&&_}
+use mathlib.Core.Bool.{Bool, true, false, not, _&&_}
 use mathlib.Core.List.{List, [], _∷_, _++_}
 use Prim.Native.Nat.{ℕ, _+_, _-_, _%_}
 use native.Mathlib.Omega.{arith}
 use lib.Dec.{ltb, T}
+use Rattle.bits.proofs.Truth.{cond-left, cond-statement}
 use Rattle.registers.specs.declared.Counters.{Counters}
 use Rattle.controller.specs.declared.Record.{Record}
 use Rattle.damage.specs.Commands.{Command, lv1, bcr, ecr, cal, sync, requestOf}
 use Rattle.damage.specs.CleanStreams.{Item, itemSize}
 use Rattle.damage.specs.Table.{Replacement, itself, damage, affected, bitHit, replacementOf}
-use Rattle.damage.specs.Records.{requestRecords, countersAfter, lastCycle, itemRecords, itemCounters, cleanRecords, replacementRecords, replacementCounters, damagedRecords}
+use Rattle.damage.specs.Records.{requestRecords, countersAfter, lastCycle, itemRecords, itemCounters, cleanRecords}
+use Rattle.damage.specs.Records.{replacementRecords, replacementCounters, damagedRecords}
 use Rattle.damage.specs.Comparison.{SameAfter, Replaced}
 
 still : (a : Bool) → T (not (a && true)) → T (not a)
@@ -49,23 +51,14 @@ same-after : (sent : Bool) (n : ℕ) (is : List Item) → Onward sent n is
 same-after sent n [] c d a b g = tt
 same-after sent n (i ∷ is) c d a b g = same-one sent (lastCycle n i) (n + itemSize i) is (same-after sent (n + itemSize i) is) c d a b g (i .command)
 
-cond-no : {A : Type 0} (b : Bool) (x y : A) → T (not b) → cond b x y ≡ y
-cond-no true x y h = absurd h
-cond-no false x y h = refl
-
--- a statement by cases of a value by the same cases
-cond-of : {A : Type 0} (P Q : A → Type 0) (b : Bool) (x y : A) → (T b → P x) → (T (not b) → Q y) → cond b (P (cond b x y)) (Q (cond b x y))
-cond-of P Q true x y f g = f tt
-cond-of P Q false x y f g = g tt
-
 -- an unaffected command is itself
 spared : (i : Item) (k : ℕ) → T (not (affected i k)) → replacementOf i k ≡ itself (i .command)
-spared i k h = cond-no (affected i k) (damage (i .command) (bitHit i k)) (itself (i .command)) h
+spared i k h = cond-left (affected i k) (damage (i .command) (bitHit i k)) (itself (i .command)) h
 
 pub replaced : (sent : Bool) (c : Counters) (n : ℕ) (is : List Item) (k : ℕ) → Replaced sent c n is k (damagedRecords sent c n is k)
 replaced sent c n [] k = refl
 replaced sent c n (i ∷ is) k =
-    cond-of
+    cond-statement
     (λ ys. (rest : List Record) × (ys ≡ replacementRecords sent c (n + i .ahead) (replacementOf i k) ++ rest)
     × SameAfter (affected i k) (affected i k) (cleanRecords sent (itemCounters c n i) (n + itemSize i) is) rest)
     (λ ys. (rest : List Record) × (ys ≡ itemRecords sent c n i ++ rest) × Replaced sent (itemCounters c n i) (n + itemSize i) is (k - itemSize i) rest)

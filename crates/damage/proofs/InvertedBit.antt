@@ -1,7 +1,7 @@
 -- One inverted bit in a clean stream: the recogniser shows what the damage table says.
 -- Assumes nothing.
 use mathlib.Core.Path.{_≡_, _∙_, refl, ap}
-use mathlib.Core.Bool.{Bool, true, false, cond, _&&_}
+use mathlib.Core.Bool.{Bool, cond, _&&_, and-false}
 use mathlib.Core.List.{List, [], _∷_, _++_, append-assoc}
 use Prim.Native.Nat.{ℕ, zero, suc, _-_, _<_, _≤_}
 use native.Mathlib.Nat.{le-of-suc-le-suc, not-suc-le-zero, sub-zero, suc-sub-suc}
@@ -18,10 +18,11 @@ use Rattle.recogniser.specs.Parts.{idle, startOf}
 use Rattle.recogniser.specs.Step.{stepOf}
 use Rattle.damage.specs.Commands.{Command, lv1, bcr, ecr, cal, sync, codeOf, widthOf, isFastCommand}
 use Rattle.damage.specs.CleanStreams.{Item, zeros, zerosBetween, itemBits, itemSize, streamBits, spaced, timed, inverted}
-use Rattle.damage.specs.Table.{Replacement, damage, hitsFast, itself, replacementOf}
-use Rattle.damage.specs.Traces.{requestsOf, recogniserAfter, quiet, spread, itemTrace, cleanTrace, damagedItem, damagedTrace}
-use Rattle.damage.proofs.Computed.{below, below-at, each-at}
-use Rattle.damage.proofs.TraceLaws.{Shows, chain, onward}
+use Rattle.damage.specs.Table.{damage, itself}
+use Rattle.damage.specs.Traces.{requestsOf, recogniserAfter, quiet, spread, cleanTrace, damagedItem, damagedTrace}
+use Rattle.damage.proofs.FiniteFacts.{below, below-at, each-at}
+use Rattle.damage.proofs.TracesJoined.{Shows, chain, onward}
+use Rattle.damage.proofs.Replacements.{zeroDamage, replacement-cases, damaged-cases}
 use Rattle.damage.proofs.Recovery.{shownBy, shouldShow, Resumes, Settles, empty-resumes, idling, trailing, late, clean-item, resumed-run}
 
 -- where the inverted bit lies
@@ -81,21 +82,6 @@ in-command a c k h = record {
   resumes = below-at (widthOf c) (λ k. shownBy c (recogniserAfter idle (hit c k))) (λ k. shouldShow c) (hit-resumes c) k h;
 }
 
--- what stands in a command's place for a zero so far ahead of it
-abbrev pub zeroDamage : Command → ℕ → Replacement
-zeroDamage c distance = cond (hitsFast c distance) (damage c 0) (itself c)
-
--- by where the inverted bit lies
-replacement-test : (i : Item) (k : ℕ) (b : Bool)
-    → cond (cond b (hitsFast (i .command) (i .ahead - k)) true) (damage (i .command) (cond b 0 (suc (k - i .ahead)))) (itself (i .command))
-    ≡ cond b (zeroDamage (i .command) (i .ahead - k)) (damage (i .command) (suc (k - i .ahead)))
-replacement-test i k true = refl
-replacement-test i k false = refl
-
-pub replacement-by : (i : Item) (k : ℕ)
-    → replacementOf i k ≡ cond (ltb k (i .ahead)) (zeroDamage (i .command) (i .ahead - k)) (damage (i .command) (suc (k - i .ahead)))
-replacement-by i k = replacement-test i k (ltb k (i .ahead))
-
 -- a zero ahead of a command: the window after a one, and then z zeros more, computed for fewer than five
 abbrev one : Recogniser
 one = startOf Hunt 1 0 0
@@ -120,14 +106,10 @@ unfolding stepOf requestsOf recogniserAfter
 one-settles = record { few = refl; emptied = refl }
 
 -- three zeros or more ahead hit no Fast
-and-no : (a : Bool) → (a && false) ≡ false
-and-no true = refl
-and-no false = refl
-
 far : (c : Command) (z : ℕ) → 2 ≤ z → zeroDamage c (suc z) ≡ itself c
 far c z h =
     ap (λ b. cond (isFastCommand c && b) (damage c 0) (itself c)) (lt-leb (suc z) 2 (omega arith))
-    ∙ ap (λ b. cond b (damage c 0) (itself c)) (and-no (isFastCommand c))
+    ∙ ap (λ b. cond b (damage c 0) (itself c)) (and-false (isFastCommand c))
 
 pub behind-one : (c : Command) (z : ℕ) → Safely c one (near c z) (nearTrace c z)
 behind-one c z =
@@ -161,15 +143,13 @@ in-zeros a k c h =
 
 pub in-item : (i : Item) (k : ℕ) → k < itemSize i → Safely (i .command) idle (inverted k (itemBits i)) (damagedItem i k)
 in-item i k h =
-    rw (replacement-by i k)
-    (cond-case (λ x. Safely (i .command) idle (inverted k (itemBits i)) (quiet (i .ahead) ++ spread (widthOf (i .command)) x)) (ltb k (i .ahead)) {x = zeroDamage (i .command) (i .ahead - k)} {y = damage (i .command) (suc (k - i .ahead))}
-    (λ b.
-    let g : k < length (zeros (i .ahead)) = rw length-replicate (ltb→lt k (i .ahead) b) in
-    rw (inverted-left k (zeros (i .ahead)) (codeOf (i .command)) g) (in-zeros (i .ahead) k (i .command) (ltb→lt k (i .ahead) b)))
-    (λ b.
-    let g : i .ahead ≤ k = nltb→le k (i .ahead) b in
+    replacement-cases (λ x. Safely (i .command) idle (inverted k (itemBits i)) (quiet (i .ahead) ++ spread (widthOf (i .command)) x)) i k
+    (λ l.
+    let g : k < length (zeros (i .ahead)) = rw length-replicate l in
+    rw (inverted-left k (zeros (i .ahead)) (codeOf (i .command)) g) (in-zeros (i .ahead) k (i .command) l))
+    (λ g.
     let z : length (zeros (i .ahead)) ≡ i .ahead = length-replicate (i .ahead) 0 in
-    rw (inverted-right k (zeros (i .ahead)) (codeOf (i .command)) (omega arith), z) (in-command (i .ahead) (i .command) (k - i .ahead) (omega arith))))
+    rw (inverted-right k (zeros (i .ahead)) (codeOf (i .command)) (omega arith), z) (in-command (i .ahead) (i .command) (k - i .ahead) (omega arith)))
 
 -- an inverted bit in the zeros at the end
 in-tail : (k t : ℕ) → requestsOf idle (inverted k (zeros t)) ≡ quiet t
@@ -189,11 +169,11 @@ spaced-timed c (i ∷ is) h = and-right (leb (zerosBetween c (i .command)) (i .a
 pub damaged-run : (is : List Item) (t k : ℕ) → T (timed is) → requestsOf idle (inverted k (streamBits is t)) ≡ damagedTrace is t k
 damaged-run [] t k h = in-tail k t
 damaged-run (i ∷ is) t k h =
-    cond-case (λ l. requestsOf idle (inverted k (itemBits i ++ streamBits is t)) ≡ l) (ltb k (itemSize i)) {x = damagedItem i k ++ cleanTrace is t} {y = itemTrace i ++ damagedTrace is t (k - itemSize i)}
-    (λ b.
-    let g : k < length (itemBits i) = rw (item-length i) (ltb→lt k (itemSize i) b) in
-    rw (inverted-left k (itemBits i) (streamBits is t) g) (goes-on (in-item i k (ltb→lt k (itemSize i) b)) is t h))
-    (λ b.
-    let g : length (itemBits i) ≤ k = rw (item-length i) (nltb→le k (itemSize i) b) in
+    damaged-cases (λ l. requestsOf idle (inverted k (itemBits i ++ streamBits is t)) ≡ l) i is t k
+    (λ l.
+    let g : k < length (itemBits i) = rw (item-length i) l in
+    rw (inverted-left k (itemBits i) (streamBits is t) g) (goes-on (in-item i k l) is t h))
+    (λ l.
+    let g : length (itemBits i) ≤ k = rw (item-length i) l in
     rw (inverted-right k (itemBits i) (streamBits is t) g, item-length i)
     (onward (clean-item i) (inverted (k - itemSize i) (streamBits is t)) (damaged-run is t (k - itemSize i) (spaced-timed (i .command) is h))))

@@ -1,7 +1,8 @@
-pub mod Computed
+pub mod FiniteFacts
 pub mod TablesWhole
-pub mod TraceLaws
+pub mod TracesJoined
 pub mod Recovery
+pub mod Replacements
 pub mod InvertedBit
 pub mod TraceRecords
 pub mod Comparison

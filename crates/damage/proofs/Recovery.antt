@@ -16,8 +16,8 @@ use Rattle.recogniser.specs.Step.{stepOf}
 use Rattle.damage.specs.Commands.{Command, codeOf}
 use Rattle.damage.specs.CleanStreams.{Item, zeros, zerosBetween, itemBits, streamBits, spaced}
 use Rattle.damage.specs.Traces.{requestsOf, recogniserAfter, quiet, commandTrace, itemTrace, cleanTrace}
-use Rattle.damage.proofs.Computed.{below, below-at, each, each-at}
-use Rattle.damage.proofs.TraceLaws.{Shows, chain, onward}
+use Rattle.damage.proofs.FiniteFacts.{below, below-at, each, each-at}
+use Rattle.damage.proofs.TracesJoined.{Shows, chain, onward}
 
 -- What a recogniser shows over a few zeros, over five, and over each command behind a few more zeros than the timing table asks after c.
 pub record Shown : Type 0 where
@@ -28,6 +28,9 @@ pub record Shown : Type 0 where
 
 abbrev behind : Command → Command → ℕ → List ℕ
 behind c d y = zeros (zerosBetween c d + y) ++ codeOf d
+
+abbrev behindTrace : Command → Command → ℕ → List Request
+behindTrace c d y = quiet (zerosBetween c d + y) ++ commandTrace d
 
 abbrev pub shownBy : Command → Recogniser → Shown
 shownBy c r = record {
@@ -42,7 +45,7 @@ abbrev pub shouldShow : Command → Shown
 shouldShow c = record {
   few = below 6 quiet;
   emptied = idle;
-  next = each (λ d. below 5 (λ y. quiet (zerosBetween c d + y) ++ commandTrace d));
+  next = each (λ d. below 5 (behindTrace c d));
   left = each (λ d. below 5 (λ y. idle));
 }
 
@@ -101,15 +104,17 @@ module _ (r : Recogniser) (settles : Settles r) where
   -- a command behind five zeros or more
   pub late : (d : Command) (z : ℕ) → 5 ≤ z → Shows r (zeros z ++ codeOf d) (quiet z ++ commandTrace d) idle
   late d z h =
-      rw (five-more {A = ℕ} 0 z h, five-more Nothing z h, append-assoc (zeros 5) (zeros (z - 5)) (codeOf d), append-assoc (quiet 5) (quiet (z - 5)) (commandTrace d))
+      let bits = append-assoc (zeros 5) (zeros (z - 5)) (codeOf d) in
+      let requests = append-assoc (quiet 5) (quiet (z - 5)) (commandTrace d) in
+      rw (five-more {A = ℕ} 0 z h, five-more Nothing z h, bits, requests)
       (chain five (chain (idling (z - 5)) (clean-command d)))
 
 -- the next command, from a recogniser that resumes
 module _ (c : Command) (r : Recogniser) (resumes : Resumes c r) (d : Command) where
-  soon : (y : ℕ) → y < 5 → Shows r (behind c d y) (quiet (zerosBetween c d + y) ++ commandTrace d) idle
+  soon : (y : ℕ) → y < 5 → Shows r (behind c d y) (behindTrace c d y) idle
   soon y h = record {
-    seen = below-at 5 (λ y. requestsOf r (behind c d y)) (λ y. quiet (zerosBetween c d + y) ++ commandTrace d)
-        (each-at (λ d. below 5 (λ y. requestsOf r (behind c d y))) (λ d. below 5 (λ y. quiet (zerosBetween c d + y) ++ commandTrace d)) (ap (λ (s : Shown). s .next) resumes) d) y h;
+    seen = below-at 5 (λ y. requestsOf r (behind c d y)) (behindTrace c d)
+        (each-at (λ d. below 5 (λ y. requestsOf r (behind c d y))) (λ d. below 5 (behindTrace c d)) (ap (λ (s : Shown). s .next) resumes) d) y h;
     left = below-at 5 (λ y. recogniserAfter r (behind c d y)) (λ y. idle)
         (each-at (λ d. below 5 (λ y. recogniserAfter r (behind c d y))) (λ d. below 5 (λ y. idle)) (ap (λ (s : Shown). s .left) resumes) d) y h;
   }
@@ -128,9 +133,9 @@ clean-run [] t = idling t .seen
 clean-run (i ∷ is) t = onward (clean-item i) (streamBits is t) (clean-run is t)
 
 -- and from a recogniser that resumes too, where what follows is spaced as the timing table asks
-pub resumed-run : (c : Command) (r : Recogniser) → Resumes c r → (is : List Item) (t : ℕ) → T (spaced c is) → requestsOf r (streamBits is t) ≡ cleanTrace is t
+pub resumed-run : (c : Command) (r : Recogniser) → Resumes c r → (is : List Item) (t : ℕ) → T (spaced c is)
+    → requestsOf r (streamBits is t) ≡ cleanTrace is t
 resumed-run c r resumes [] t h = trailing r (resumes-settles c r resumes) t
 resumed-run c r resumes (i ∷ is) t h =
-    onward
-    (resumed c r resumes (i .command) (i .ahead) (leb→le (zerosBetween c (i .command)) (i .ahead) (and-left (leb (zerosBetween c (i .command)) (i .ahead)) _ h)))
-    (streamBits is t) (clean-run is t)
+    let asked = leb→le (zerosBetween c (i .command)) (i .ahead) (and-left (leb (zerosBetween c (i .command)) (i .ahead)) _ h) in
+    onward (resumed c r resumes (i .command) (i .ahead) asked) (streamBits is t) (clean-run is t)

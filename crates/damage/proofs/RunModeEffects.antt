@@ -1,7 +1,7 @@
 -- What a request of a clean or damaged stream does to the model in RunMode, and the phases that such a stream keeps to.
 -- Assumes nothing.
 use mathlib.Core.Path.{_≡_, _∙_, refl, ap}
-use mathlib.Core.Bool.{Bool, true, false, cond}
+use mathlib.Core.Bool.{Bool, true, false, cond, not}
 use mathlib.Core.List.{List}
 use Prim.Native.Nat.{ℕ}
 use lib.Dec.{eqb, ltb, T}
@@ -22,15 +22,12 @@ use Rattle.registers.specs.declared.Plan.{Plan}
 use Rattle.registers.specs.declared.Model.{Model}
 use Rattle.controller.specs.Records.{wordsOf, recordWords}
 use Rattle.controller.specs.Commands.{sendsOf, actOf, fastEffect}
+use Rattle.decoder.specs.Sound.{insideSlow}
 use Rattle.damage.specs.Records.{requestRecords, countersAfter}
 
 -- The phases outside Slow commands, and the requests that lead into none.
 abbrev pub outsideSlow : Phase → Bool
-outsideSlow Hunt = true
-outsideSlow Body = true
-outsideSlow Field3 = false
-outsideSlow Field4 = false
-outsideSlow Field5 = false
+outsideSlow p = not (insideSlow p)
 
 abbrev pub noSlow : Request → Bool
 noSlow Nothing = true

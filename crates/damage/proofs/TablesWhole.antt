@@ -6,7 +6,7 @@ use Prim.Native.Nat.{suc}
 use Rattle.damage.specs.Commands.{Command, bcr, ecr, cal, sync, widthOf}
 use Rattle.damage.specs.CleanStreams.{zerosBetween, table13, distances}
 use Rattle.damage.specs.Table.{table, rowsFor}
-use Rattle.damage.proofs.Computed.{below, each, each-at}
+use Rattle.damage.proofs.FiniteFacts.{below, each, each-at}
 
 -- document 01's sentence and the chip paper's Table 1-3 say the same of all 25 pairs
 pub timing : (c d : Command) → distances table13 c d ≡ zerosBetween c d ∷ []

@@ -5,19 +5,19 @@ use mathlib.Core.Bool.{Bool, true, _&&_}
 use mathlib.Core.List.{List, [], _∷_, _++_, append-assoc}
 use Prim.Native.Nat.{ℕ, zero, suc, _+_, _-_, _<_, _≤_}
 use native.Mathlib.Omega.{arith}
-use lib.Dec.{leb, ltb, T, leb→le, ltb→lt, nltb→le}
+use lib.Dec.{leb, ltb, T, leb→le, ltb→lt}
 use lib.ListN.{length}
-use Rattle.bits.proofs.Truth.{and-left, and-right, cond-case}
+use Rattle.bits.proofs.Truth.{and-left, and-right, cond-pair}
 use Rattle.recogniser.specs.declared.Request.{Request}
 use Rattle.registers.specs.declared.Counters.{Counters}
 use Rattle.controller.specs.declared.Record.{Record}
 use Rattle.damage.specs.Commands.{Command, widthOf}
 use Rattle.damage.specs.CleanStreams.{Item, itemSize}
-use Rattle.damage.specs.Table.{Replacement, nothing, at, itself, damage, hitsFast, replacementOf}
+use Rattle.damage.specs.Table.{Replacement, nothing, at, itself, replacementOf}
 use Rattle.damage.specs.Traces.{quiet, spread, itemTrace, cleanTrace, damagedItem, damagedTrace}
-use Rattle.damage.specs.Records.{requestRecords, countersAfter, itemRecords, itemCounters, cleanRecords, replacementRecords, replacementCounters, damagedRecords}
-use Rattle.damage.proofs.InvertedBit.{zeroDamage, replacement-by}
-use Rattle.damage.proofs.Computed.{below, below-at, each-at, by-both}
+use Rattle.damage.specs.Records.{requestRecords, countersAfter, itemRecords, itemCounters, cleanRecords}
+use Rattle.damage.specs.Records.{replacementRecords, replacementCounters, damagedRecords}
+use Rattle.damage.proofs.Replacements.{Passes, own-passes, replacement-passes}
 
 -- The records of a trace that begins at cycle n, and the counters after it.
 unfoldable pub performed : Bool → Counters → ℕ → List Request → List Record
@@ -36,8 +36,9 @@ pub performed-append : (sent : Bool) (c : Counters) (n : ℕ) (es fs : List Requ
 unfolding performed counting
 performed-append sent c n [] fs = ap (λ m. performed sent c m fs) (omega arith)
 performed-append sent c n (e ∷ es) fs =
-    ap (λ l. requestRecords sent c n e ++ l) (performed-append sent (countersAfter c n e) (suc n) es fs)
-    ∙ ap (λ m. requestRecords sent c n e ++ (performed sent (countersAfter c n e) (suc n) es ++ performed sent (counting (countersAfter c n e) (suc n) es) m fs)) (suc-shift n (length es))
+    let c₁ : Counters = countersAfter c n e in
+    ap (λ l. requestRecords sent c n e ++ l) (performed-append sent c₁ (suc n) es fs)
+    ∙ ap (λ m. requestRecords sent c n e ++ (performed sent c₁ (suc n) es ++ performed sent (counting c₁ (suc n) es) m fs)) (suc-shift n (length es))
     ∙ sym (append-assoc (requestRecords sent c n e) _ _)
 
 pub counting-append : (c : Counters) (n : ℕ) (es fs : List Request) → counting c n (es ++ fs) ≡ counting (counting c n es) (n + length es) fs
@@ -78,37 +79,26 @@ module _ (sent : Bool) (c : Counters) where
 
   -- an item in whose command's place x stands
   performed-item : (n a width : ℕ) (x : Replacement) (es : List Request) → T (within width x)
-      → performed sent c n ((quiet a ++ spread width x) ++ es) ≡ replacementRecords sent c (n + a) x ++ performed sent (replacementCounters c (n + a) x) (n + (a + width)) es
+      → performed sent c n ((quiet a ++ spread width x) ++ es)
+      ≡ replacementRecords sent c (n + a) x ++ performed sent (replacementCounters c (n + a) x) (n + (a + width)) es
   performed-item n a width x es h =
       let z : n + a + width ≡ n + (a + width) = omega arith in
       rw (append-assoc (quiet a) (spread width x) es)
       (performed-quiet sent c n a (spread width x ++ es) ∙ performed-spread (n + a) width x es h
       ∙ ap (λ m. replacementRecords sent c (n + a) x ++ performed sent (replacementCounters c (n + a) x) m es) z)
 
-holds : (b : Bool) → b ≡ true → T b
-holds b e = rw e tt
+-- computed for what stands in a command's place
+abbrev withinAt : Command → Replacement → Bool
+withinAt d x = within (widthOf d) x
+
+within-passes : Passes withinAt
+within-passes = record { own = refl; hit = refl; ahead = refl }
 
 itself-within : (d : Command) → T (within (widthOf d) (itself d))
-itself-within d = holds _ (each-at (λ d. within (widthOf d) (itself d)) (λ d. true) refl d)
-
-damage-within : (d : Command) (k : ℕ) → k < widthOf d → T (within (widthOf d) (damage d (suc k)))
-damage-within d k h =
-    holds _
-    (below-at (widthOf d) (λ k. within (widthOf d) (damage d (suc k))) (λ k. true)
-    (each-at (λ d. below (widthOf d) (λ k. within (widthOf d) (damage d (suc k)))) (λ d. below (widthOf d) (λ k. true)) refl d) k h)
-
-zero-within : (d : Command) (distance : ℕ) → T (within (widthOf d) (zeroDamage d distance))
-zero-within d distance =
-    cond-case (λ x. T (within (widthOf d) x)) (hitsFast d distance) {x = damage d 0} {y = itself d}
-    (λ b. holds _ (each-at (λ d. within (widthOf d) (damage d 0)) (λ d. true) refl d))
-    (λ b. itself-within d)
+itself-within = own-passes withinAt within-passes
 
 item-within : (i : Item) (k : ℕ) → k < itemSize i → T (within (widthOf (i .command)) (replacementOf i k))
-item-within i k h =
-    rw (replacement-by i k)
-    (cond-case (λ x. T (within (widthOf (i .command)) x)) (ltb k (i .ahead)) {x = zeroDamage (i .command) (i .ahead - k)} {y = damage (i .command) (suc (k - i .ahead))}
-    (λ b. zero-within (i .command) (i .ahead - k))
-    (λ b. let g : i .ahead ≤ k = nltb→le k (i .ahead) b in damage-within (i .command) (k - i .ahead) (omega arith)))
+item-within = replacement-passes withinAt within-passes
 
 pub performed-clean : (sent : Bool) (c : Counters) (n : ℕ) (is : List Item) (t : ℕ) → performed sent c n (cleanTrace is t) ≡ cleanRecords sent c n is
 performed-clean sent c n [] t = performed-silence sent c n t
@@ -116,14 +106,18 @@ performed-clean sent c n (i ∷ is) t =
     performed-item sent c n (i .ahead) (widthOf (i .command)) (itself (i .command)) (cleanTrace is t) (itself-within (i .command))
     ∙ ap (λ l. itemRecords sent c n i ++ l) (performed-clean sent (itemCounters c n i) (n + itemSize i) is t)
 
-pub performed-damaged : (sent : Bool) (c : Counters) (n : ℕ) (is : List Item) (t k : ℕ) → performed sent c n (damagedTrace is t k) ≡ damagedRecords sent c n is k
+pub performed-damaged : (sent : Bool) (c : Counters) (n : ℕ) (is : List Item) (t k : ℕ)
+    → performed sent c n (damagedTrace is t k) ≡ damagedRecords sent c n is k
 performed-damaged sent c n [] t k = performed-silence sent c n t
 performed-damaged sent c n (i ∷ is) t k =
-    by-both (λ es xs. performed sent c n es ≡ xs) (ltb k (itemSize i))
-    (damagedItem i k ++ cleanTrace is t) (itemTrace i ++ damagedTrace is t (k - itemSize i))
-    (replacementRecords sent c (n + i .ahead) (replacementOf i k) ++ cleanRecords sent (replacementCounters c (n + i .ahead) (replacementOf i k)) (n + itemSize i) is)
+    let x : Replacement = replacementOf i k in
+    let hit : List Record = replacementRecords sent c (n + i .ahead) x in
+    let c₁ : Counters = replacementCounters c (n + i .ahead) x in
+    let later : List Request = damagedTrace is t (k - itemSize i) in
+    cond-pair (λ es xs. performed sent c n es ≡ xs) (ltb k (itemSize i)) (damagedItem i k ++ cleanTrace is t) (itemTrace i ++ later)
+    (hit ++ cleanRecords sent c₁ (n + itemSize i) is)
     (itemRecords sent c n i ++ damagedRecords sent (itemCounters c n i) (n + itemSize i) is (k - itemSize i))
-    (λ b. performed-item sent c n (i .ahead) (widthOf (i .command)) (replacementOf i k) (cleanTrace is t) (item-within i k (ltb→lt k (itemSize i) b))
-    ∙ ap (λ l. replacementRecords sent c (n + i .ahead) (replacementOf i k) ++ l) (performed-clean sent (replacementCounters c (n + i .ahead) (replacementOf i k)) (n + itemSize i) is t))
-    (λ b. performed-item sent c n (i .ahead) (widthOf (i .command)) (itself (i .command)) (damagedTrace is t (k - itemSize i)) (itself-within (i .command))
+    (λ b. performed-item sent c n (i .ahead) (widthOf (i .command)) x (cleanTrace is t) (item-within i k (ltb→lt k (itemSize i) b))
+    ∙ ap (λ l. hit ++ l) (performed-clean sent c₁ (n + itemSize i) is t))
+    (λ b. performed-item sent c n (i .ahead) (widthOf (i .command)) (itself (i .command)) later (itself-within (i .command))
     ∙ ap (λ l. itemRecords sent c n i ++ l) (performed-damaged sent (itemCounters c n i) (n + itemSize i) is t (k - itemSize i)))

@@ -1,3 +1,3 @@
-pub mod Field5
-pub mod Fits
+pub mod Field5Commands
+pub mod StepsFit
 pub mod Soundness

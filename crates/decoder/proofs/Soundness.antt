@@ -1,11 +1,11 @@
 -- The test of soundness, taken apart and put together.
 -- Assumes nothing.
-use mathlib.Core.Bool.{Bool, true, false, _&&_}
-use mathlib.Core.Path.{_≡_, refl, subst⁻¹}
+use mathlib.Core.Bool.{true, false}
+use mathlib.Core.Path.{_≡_, subst⁻¹}
 use Prim.Native.Nat.{_≤_}
 use lib.Dec.{T}
 use borrow.Author.Tests.{le-leb, leb-true, not-true}
-use Rattle.bits.proofs.Truth.{holds-true, both}
+use Rattle.bits.proofs.Truth.{holds-true, both, not-both, not-other}
 use Rattle.registers.specs.Plan.{planFits}
 use Rattle.registers.specs.Registers.{cntOf}
 use Rattle.registers.specs.Sound.{pointersFit, missingZero}
@@ -13,15 +13,6 @@ use Rattle.decoder.specs.Fit.{fitOf}
 use Rattle.decoder.specs.declared.Decoder.{Decoder}
 use Rattle.limits.specs.Limits.{clockLimit}
 use Rattle.decoder.specs.Sound.{insideSlow, soundOf}
-
--- A test that fails wherever another passes.
-off-where : (a b : Bool) → (T a → b ≡ false) → (a && b) ≡ false
-off-where true b f = f tt
-off-where false b f = refl
-
-where-off : (a b : Bool) → (a && b) ≡ false → T a → b ≡ false
-where-off true b e t = e
-where-off false b e t = absurd t
 
 -- What the test says, part by part.
 pub record Sound (d : Decoder) : Type 0 where
@@ -45,7 +36,7 @@ module _ (d : Decoder) where
         s .writes,
         s .reads,
         s .missing,
-        off-where (insideSlow (d .recogniser .phase)) (d .model .running) (s .stopped),
+        not-both (insideSlow (d .recogniser .phase)) (d .model .running) (s .stopped),
       ) (s .fits)
 
   pub sound-parts : T (soundOf d) → Sound d
@@ -65,6 +56,6 @@ module _ (d : Decoder) where
         writes = w .0;
         reads = r .0;
         missing = m .0;
-        stopped = where-off (insideSlow (d .recogniser .phase)) _ (not-true _ (s .0));
+        stopped = not-other (insideSlow (d .recogniser .phase)) _ (not-true _ (s .0));
         fits = subst⁻¹ T (s .1) tt;
       }

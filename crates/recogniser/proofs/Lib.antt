@@ -1,3 +1,3 @@
 pub mod Shift
-pub mod Lengths
-pub mod Laws
+pub mod Field5Lengths
+pub mod StepByPhase

@@ -1,3 +1,3 @@
-pub mod Facts
-pub mod Every
+pub mod PlanAddresses
+pub mod TestLoop
 pub mod WriteLoop

@@ -1,4 +1,4 @@
--- One FIFO of the write loop, against those that are left.
+-- What the loop keeps that writes a word to the FIFOs: those that are left do the rest of what all 16 do; and what one FIFO does to that.
 -- Assumes nothing.
 use mathlib.Core.List.{List}
 use mathlib.Core.Path.{_≡_, _∙_, refl, sym}

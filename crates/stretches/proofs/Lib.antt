@@ -1,2 +1,2 @@
-pub mod Walk
-pub mod Stretches
+pub mod StretchLoops
+pub mod SingleCycles

@@ -1,5 +1,5 @@
 -- Several cycles at once, as the taking loop walks them: hunting up to the first window that means something, a body up to its end, else one cycle.
--- How far a stretch goes is no promise to anybody: `proofs/Stretches.antt` shows that each is as many single cycles, all but the last of which ask for nothing.
+-- How far a stretch goes is no promise to anybody: `proofs/SingleCycles.antt` shows it as so many single cycles, all but the last of which ask for nothing.
 -- Assumes nothing.
 use mathlib.Core.Bool.{Bool, true, false, cond}
 use mathlib.Core.List.{List, [], _∷_}

@@ -1,12 +1,13 @@
 -- A taking call takes a first part of what it is offered, leaves what that part leads to, and writes what that part says; so does a list of calls.
 -- Assumes nothing.
 use mathlib.Core.Path.{_≡_, _∙_, refl, sym, ap, ap₂}
-use mathlib.Core.Bool.{Bool, true, false, cond, not}
+use mathlib.Core.Bool.{not}
 use mathlib.Core.List.{List, [], _∷_, _++_, append-assoc}
 use Prim.Native.Nat.{ℕ, _+_, _*_, _-_, _/_, _≤_}
 use native.Mathlib.Omega.{arith}
 use lib.ListN.{length, take, drop}
 use lib.Seq.{sets, sets-eq, length-take-le, drop-at, take-at}
+use Rattle.bits.proofs.Truth.{choice}
 use Rattle.decoder.specs.declared.Decoder.{Decoder}
 use Rattle.limits.specs.Limits.{listUnit}
 use Rattle.decoder.specs.Sound.{soundOf}
@@ -26,8 +27,9 @@ module _ (words list : List ℕ) (free : ℕ) (whole : length words / 2 * 2 ≡ 
       let n : 2 * (0 + length words / 2) ≡ length words = omega arith in
       let room : free + length words ≤ length list = omega arith in
       let front : length (take free list) ≡ free = length-take-le free list (omega arith) in
-      rw (n, sets-eq words list free room, append-assoc (take free list) words (drop (free + length words) list), drop-at (take free list) (words ++ drop (free + length words) list) free front)
-      (take-at words (drop (free + length words) list) (length words) refl)
+      let behind : List ℕ = drop (free + length words) list in
+      rw (n, sets-eq words list free room, append-assoc (take free list) words behind, drop-at (take free list) (words ++ behind) free front)
+      (take-at words behind (length words) refl)
 
 standing : (words list : List ℕ) (free : ℕ) → length words / 2 * 2 ≡ length words → length words ≤ length list - free
     → take (2 * (0 + length words / 2)) (drop free (sets list free words)) ≡ words
@@ -58,33 +60,34 @@ module _ (d : Decoder) (c : Call) where
         words = rw z (standing (run .words) (c .list) (c .free) (f .whole) (f .fits) ∙ f .words);
       }
 
-  either : (b : Bool) (e : Ending) (l : CallResult) → Kept d c l → Kept d c (cond b (refused d c e) l)
-  either true e l k = away e
-  either false e l k = k
-
   pub call-kept : Kept d c (takeOf d c)
   unfolding takeOf
   call-kept =
-      either (not (soundOf d)) Unsound _
-      (either (not (buffersFit (length (c .store)) (length (c .tray)) (length (c .list)) (c .free))) WrongBuffers _
-      (either (not (rangeFits (length (c .input)) (c .first) (c .count))) WrongRange _
-      (either (not (clockFits (d .next) (c .count))) ClockOver _ through)))
+      choice (Kept d c) (not (soundOf d)) (λ _. away Unsound)
+      (λ _. choice (Kept d c) (not (buffersFit (length (c .store)) (length (c .tray)) (length (c .list)) (c .free))) (λ _. away WrongBuffers)
+      (λ _. choice (Kept d c) (not (rangeFits (length (c .input)) (c .first) (c .count))) (λ _. away WrongRange)
+      (λ _. choice (Kept d c) (not (clockFits (d .next) (c .count))) (λ _. away ClockOver) (λ _. through))))
 
 -- a list of calls, store and tray carried over
+abbrev after : System → Part → System
+after s p = systemAfter (resultOf s p)
+
+part-kept : (s : System) (p : Part) → Kept (decoderOf s) (callOf s p) (resultOf s p)
+part-kept s p = call-kept (decoderOf s) (callOf s p)
+
 pub carried-system : (s : System) (ps : List Part) → carriedSystem s ps ≡ stateAfter turnOf s (carriedBits s ps)
 unfolding carriedSystem carriedBits
 carried-system s [] = refl
 carried-system s (p ∷ ps) =
-    let k = call-kept (decoderOf s) (callOf s p) in
-    let t : System = systemAfter (resultOf s p) in
-    carried-system t ps ∙ ap (λ u. stateAfter turnOf u (carriedBits t ps)) (k .system)
-    ∙ sym (state-append turnOf s (bitsTaken (decoderOf s) (callOf s p)) (carriedBits t ps))
+    let later : List ℕ = carriedBits (after s p) ps in
+    carried-system (after s p) ps ∙ ap (λ u. stateAfter turnOf u later) (part-kept s p .system)
+    ∙ sym (state-append turnOf s (bitsTaken (decoderOf s) (callOf s p)) later)
 
 pub carried-words : (s : System) (ps : List Part) → carriedWords s ps ≡ wordsAfter turnOf s (carriedBits s ps)
 unfolding carriedWords carriedBits
 carried-words s [] = refl
 carried-words s (p ∷ ps) =
-    let k = call-kept (decoderOf s) (callOf s p) in
-    let t : System = systemAfter (resultOf s p) in
-    ap₂ _++_ (k .words) (carried-words t ps ∙ ap (λ u. wordsAfter turnOf u (carriedBits t ps)) (k .system))
-    ∙ sym (words-append turnOf s (bitsTaken (decoderOf s) (callOf s p)) (carriedBits t ps))
+    let later : List ℕ = carriedBits (after s p) ps in
+    let k = part-kept s p in
+    ap₂ _++_ (k .words) (carried-words (after s p) ps ∙ ap (λ u. wordsAfter turnOf u later) (k .system))
+    ∙ sym (words-append turnOf s (bitsTaken (decoderOf s) (callOf s p)) later)

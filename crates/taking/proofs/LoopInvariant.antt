@@ -3,19 +3,21 @@
 use mathlib.Core.Path.{_≡_, _∙_, refl, sym, ap}
 use mathlib.Core.Bool.{Bool, true, false, cond}
 use mathlib.Core.List.{List, _∷_, _++_}
-use Prim.Native.Nat.{ℕ, zero, suc, _+_, _-_, _/_, _<_, _≤_}
+use Prim.Native.Nat.{ℕ, suc, _+_, _-_, _/_, _<_, _≤_}
 use native.Mathlib.Nat.{add-zero}
 use native.Mathlib.Omega.{arith}
 use borrow.Author.Tests.{lt-ltb}
 use lib.ListN.{length, set, take, drop, length-set, length-take, length-drop, take-append-drop}
 use lib.Seq.{sets, set-append-left, take-set-le, drop-set-add}
 use Rattle.bits.specs.Bits.{bitOf, bitsOf}
+use Rattle.bits.proofs.BitRanges.{first-bit, drop-bits}
+pub use Rattle.bits.proofs.BitRanges.{length-bits}
 use Rattle.bits.proofs.Truth.{clash}
 use Rattle.recogniser.specs.declared.Request.the-variants as request
 use Rattle.recogniser.specs.declared.Recogniser.{Recogniser}
 use Rattle.stretches.specs.declared.Stretch.{Stretch}
 use Rattle.stretches.specs.Stretch.{stretchOf}
-use Rattle.stretches.proofs.Stretches.{Passes, ends, last, more, stretch-passes, stretch-some, stretch-within}
+use Rattle.stretches.proofs.SingleCycles.{Passes, ends, last, more, stretch-passes, stretch-some, stretch-within}
 use Rattle.frames.specs.Tray.{trayOf}
 use Rattle.registers.specs.declared.Plan.{Plan}
 use Rattle.registers.specs.declared.Model.{Model}
@@ -75,23 +77,6 @@ ending : (c : Call) (w : System) (e : Ending) (taken at : ℕ) (list : List ℕ)
     → answered c w taken at e list ≡ finished taken ((at - c .free) / 2) list at (ended w e)
 ending c w e taken at list = simp add-zero
 
--- the bits left, where one is; and those after some of them
-one-bit : (s : List ℕ) (place n : ℕ) → 0 < n → bitsOf s place n ≡ bitOf s place ∷ bitsOf s (place + 1) (n - 1)
-one-bit s place zero h = absurd (omega arith)
-one-bit s place (suc n) h = let e : suc n - 1 ≡ n = omega arith in rw e
-
-pub length-bits : (s : List ℕ) (place n : ℕ) → length (bitsOf s place n) ≡ n
-length-bits s place zero = refl
-length-bits s place (suc n) = ap suc (length-bits s (place + 1) n)
-
-drop-bits : (s : List ℕ) (place n k : ℕ) → k ≤ n → drop k (bitsOf s place n) ≡ bitsOf s (place + k) (n - k)
-drop-bits s place n zero h = let e : place + 0 ≡ place = omega arith in let f : n - 0 ≡ n = omega arith in rw (e, f)
-drop-bits s place zero (suc k) h = absurd (omega arith)
-drop-bits s place (suc n) (suc k) h =
-    let e : place + 1 + k ≡ place + suc k = omega arith in
-    let f : suc n - suc k ≡ n - k = omega arith in
-    rw f (drop-bits s (place + 1) n k (omega arith) ∙ ap (λ p. bitsOf s p (n - k)) e)
-
 -- a record through the part of the list that begins at its place
 pub two-put : (l : List ℕ) (at x v : ℕ) → 2 ≤ length l - at
     → take at l ++ (set (set (take (length l - at) (drop at l)) 0 x) 1 v ++ drop (length l - at) (drop at l)) ≡ set (set l at x) (at + 1) v
@@ -132,7 +117,8 @@ wrote-one taken at free x list r h =
 pub record AfterRequest (d : Decoder) (c : Call) (tray : List ℕ) (r : Recogniser) (taken : ℕ) (p : PerformResult) : Type 0 where
   pub from : c .free ≤ p .performed .at
   pub onwards : p .performed .stops ≡ false → Invariant d c (p .store) tray (p .list) r (p .performed .model) (p .performed .cnt) taken (p .performed .at)
-  pub stopped : p .performed .stops ≡ true → answered c (systemAt d (p .store) tray r (p .performed .model) taken) taken (p .performed .at) Frame (p .list) ≡ takenOf d c
+  pub stopped : p .performed .stops ≡ true
+      → answered c (systemAt d (p .store) tray r (p .performed .model) taken) taken (p .performed .at) Frame (p .list) ≡ takenOf d c
 
 -- a record leaves the store
 same-store : (plan : Plan) (m : Model) (y : Cycle) (store list : List ℕ) (at : ℕ) → length (recordedAt plan m y store list at .store) ≡ length store
@@ -144,7 +130,8 @@ passes-fit (ends r) = refl
 passes-fit {cnt} (last r bit bits) = step-request-fits r bit cnt
 passes-fit (more r bit bits s noEvent p) = passes-fit p
 
-module _ {d : Decoder} {c : Call} {store tray list : List ℕ} {r : Recogniser} {m : Model} {cnt taken at : ℕ} (g : Invariant d c store tray list r m cnt taken at) where
+module _ {d : Decoder} {c : Call} {store tray list : List ℕ} {r : Recogniser} {m : Model} {cnt taken at : ℕ}
+    (g : Invariant d c store tray list r m cnt taken at) where
   abbrev here : System
   here = systemAt d store tray r m taken
 
@@ -154,13 +141,20 @@ module _ {d : Decoder} {c : Call} {store tray list : List ℕ} {r : Recogniser} 
       ending c here Done taken at list ∙ (rw e at (g .rest))
 
   module _ (more : taken < c .count) where
-    first : left c taken ≡ bitOf (c .input) (c .first + taken) ∷ bitsOf (c .input) (c .first + taken + 1) (c .count - taken - 1)
-    first = one-bit (c .input) (c .first + taken) (c .count - taken) (omega arith)
+    -- the bit that comes next, and those behind it
+    abbrev next-bit : ℕ
+    next-bit = bitOf (c .input) (c .first + taken)
+
+    abbrev behind : List ℕ
+    behind = bitsOf (c .input) (c .first + taken + 1) (c .count - taken - 1)
+
+    first : left c taken ≡ next-bit ∷ behind
+    first = first-bit (c .input) (c .first + taken) (c .count - taken) (omega arith)
 
     pub full : length list - at < 2 → answered c here taken at ListFull list ≡ takenOf d c
     full h =
         ending c here ListFull taken at list
-        ∙ ap (finished taken ((at - c .free) / 2) list at) (sym (no-room here (bitOf (c .input) (c .first + taken)) (bitsOf (c .input) (c .first + taken + 1) (c .count - taken - 1)) (length list - at) h))
+        ∙ ap (finished taken ((at - c .free) / 2) list at) (sym (no-room here next-bit behind (length list - at) h))
         ∙ (rw first at (g .rest))
 
     -- after a stretch, given what its event did
@@ -270,5 +264,7 @@ module _ {d : Decoder} {c : Call} {store tray list : List ℕ} {r : Recogniser} 
         unfolding performOf
         performed p e kept =
             let f : Effect = actOf (d .plan) m (s .event .request) (d .next + on - 1) store in
-            let k : length (f .store) ≡ length store = sym (ap (λ (q : PerformResult). length (q .store)) e ∙ same-store (d .plan) (f .acted .model) (f .acted .cycle) (f .store) list at) ∙ kept in
+            let same : length (p .store) ≡ length (f .store) =
+            ap (λ (q : PerformResult). length (q .store)) e ∙ same-store (d .plan) (f .acted .model) (f .acted .cycle) (f .store) list at in
+            let k : length (f .store) ≡ length store = sym same ∙ kept in
             rw e (goes f refl k (f .acted .cycle) refl)

@@ -75,8 +75,8 @@ pub record May (next store input first count list free : ℕ) : Type 0 where
   pub in-range : first + count ≤ 8 * input
   pub list-long : free ≤ list
 
-pub run-may : (next store tray list free input first count : ℕ) → next ≤ clockLimit → buffersFit store tray list free ≡ true → rangeFits input first count ≡ true
-    → count ≤ clockLimit - next → May next store input first count list free
+pub run-may : (next store tray list free input first count : ℕ) → next ≤ clockLimit → buffersFit store tray list free ≡ true
+    → rangeFits input first count ≡ true → count ≤ clockLimit - next → May next store input first count list free
 run-may next store tray list free input first count n b r k =
     let p = both (eqb store storeLength) _ b in
     let q = both (eqb tray trayLength) (leb free list) (p .1) in

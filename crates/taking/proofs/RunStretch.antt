@@ -15,7 +15,7 @@ use Rattle.recogniser.specs.Parts.{noEvent, transition, moveTo}
 use Rattle.recogniser.specs.Step.{stepOf}
 use Rattle.stretches.specs.declared.Stretch.{Stretch}
 use Rattle.stretches.specs.Stretch.{stretched, oneMore}
-use Rattle.stretches.proofs.Stretches.{Passes, ends, last, more}
+use Rattle.stretches.proofs.SingleCycles.{Passes, ends, last, more}
 use Rattle.frames.specs.Tray.{trayOf}
 use Rattle.controller.specs.declared.Cycle.the-variants.{Silent}
 use Rattle.controller.specs.Commands.{Effect, actOf}

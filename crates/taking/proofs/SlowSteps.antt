@@ -31,7 +31,8 @@ pub record Keeps (e : Request) : Type 0 where
 pub data Steps (r : Recogniser) : Transition → Type 0 where
   over : {f : FrameBit} {e : Request} → Steps r (transition idle (record { frame = f; request = e }))
   begins : {next : Recogniser} {f : FrameBit} → Steps r (transition next (record { frame = f; request = Slow LeaveRunMode }))
-  goes-on : {next : Recogniser} {f : FrameBit} {e : Request} → Keeps e → (T (insideSlow (next .phase)) → T (insideSlow (r .phase))) → Steps r (transition next (record { frame = f; request = e }))
+  goes-on : {next : Recogniser} {f : FrameBit} {e : Request} → Keeps e → (T (insideSlow (next .phase)) → T (insideSlow (r .phase)))
+      → Steps r (transition next (record { frame = f; request = e }))
 
 nothing-keeps : Keeps Nothing
 nothing-keeps = record { registers = refl; running = refl }

@@ -26,7 +26,7 @@ use Rattle.decoder.specs.declared.Opened.{Opened}
 use Rattle.limits.specs.Limits.{clockLimit}
 use Rattle.decoder.specs.Opening.{openedAt, openOf}
 use Rattle.decoder.specs.Sound.{insideSlow, soundOf}
-use Rattle.decoder.proofs.Fits.{start-fits, step-fits}
+use Rattle.decoder.proofs.StepsFit.{start-fits, step-fits}
 use Rattle.decoder.proofs.Soundness.{sound, sound-parts}
 use Rattle.taking.specs.Run.{runOf, stateAfter}
 use Rattle.taking.specs.Turn.{System, decoderOf, transitionOf, turnOf}

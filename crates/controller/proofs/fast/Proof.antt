@@ -1,10 +1,16 @@
 -- `fast` answers `fastOf`, by RunMode and the body.
 -- Assumes nothing.
+use mathlib.Core.Bool.{true}
+use mathlib.Core.Path.{_≡_}
 use borrow.Author.Tests.{ne-eqb, not-true, not-false}
 use borrow.Author.Needs.{needs}
 use Rattle.controller.proofs.FastCases.{unchanged}
 use Rattle.controller.proofs.fast.Statement.{statement}
 use Rattle.controller.proofs.fast.Tie as tie
+
+-- Past the first test RunMode is on.
+running : (c : tie.Else1) → c .before .before .args .model .running ≡ true
+running c = not-false _ (c .if1 .left)
 
 add-kind : tie.Need-add-kind
 add-kind c = search needs
@@ -19,17 +25,13 @@ answer-requires-2 : tie.Need-answer-requires-2
 answer-requires-2 c κs = search needs
 
 returns-2 : tie.Need-returns-2
-returns-2 c =
-    let d = c .before .before .before in
-    simp (not-false (d .before .before .args .model .running) (d .if1 .left), c .before .if2 .taken, c .answer2 .ensures)
+returns-2 c = simp (running (c .before .before .before), c .before .if2 .taken, c .answer2 .ensures)
 
 answer-requires-3 : tie.Need-answer-requires-3
 answer-requires-3 c κs = search needs
 
 returns-3 : tie.Need-returns-3
-returns-3 c =
-    let d = c .before .before .before .before in
-    simp (not-false (d .before .before .args .model .running) (d .if1 .left), c .before .if3 .taken, c .answer3 .ensures)
+returns-3 c = simp (running (c .before .before .before .before), c .before .if3 .taken, c .answer3 .ensures)
 
 answer-requires-4 : tie.Need-answer-requires-4
 answer-requires-4 c κs = search needs
@@ -37,9 +39,8 @@ answer-requires-4 c κs = search needs
 returns-4 : tie.Need-returns-4
 returns-4 c =
     let d = c .before .before .before .before in
-    let m = d .before .before .args .model in
     rw (c .answer4 .ensures)
-    (unchanged m _ _ (not-false (m .running) (d .if1 .left)) (ne-eqb _ _ (c .before .before .if2 .left)) (ne-eqb _ _ (c .before .if3 .left)))
+    (unchanged (d .before .before .args .model) _ _ (running d) (ne-eqb _ _ (c .before .before .if2 .left)) (ne-eqb _ _ (c .before .if3 .left)))
 
 pub fast-spec : {M : Type 1} → statement M
 fast-spec =

@@ -61,7 +61,8 @@ answer-requires-2 c κs = search needs
 
 returns-2 : tie.Need-returns-2
 returns-2 c =
-    let sent = c .before .before .before .before .before in
+    let timed = c .before .before in
+    let sent = timed .before .before .before in
     let f = sent .before .before .before .before in
     simp (
       not-false (f .before .before .before .args .model .running) (sent .before .before .if1 .left),
@@ -69,7 +70,7 @@ returns-2 c =
       f .flag .ensures .0,
       sent .flag2 .ensures .0,
       sent .before .register .ensures,
-      c .before .before .bunch .ensures,
+      timed .bunch .ensures,
     )
 
 pub lv1-spec : {M : Type 1} → statement M

@@ -1,11 +1,17 @@
 -- `write_register` answers `writeRegisterOf`; an address that exists is below 16.
 -- Assumes nothing.
-use mathlib.Core.Path.{sym, _∙_}
+use mathlib.Core.Bool.{true}
+use mathlib.Core.Path.{_≡_, sym, _∙_}
 use borrow.Author.Tests.{not-true, not-false}
 use borrow.Author.Needs.{needs}
-use Rattle.registers.proofs.Facts.{exists-low}
+use Rattle.registers.specs.Plan.{existsAt}
+use Rattle.registers.proofs.PlanAddresses.{exists-low}
 use Rattle.controller.proofs.write_register.Statement.{statement}
 use Rattle.controller.proofs.write_register.Tie as tie
+
+-- Past the test the address exists.
+there : (c : tie.Else1) → let a = c .before .before .args in existsAt (a .plan) (a .address) ≡ true
+there c = sym (c .before .exists-at .ensures) ∙ not-false _ (c .if1 .left)
 
 cast-bits : tie.Need-cast-bits
 cast-bits c = search needs
@@ -38,9 +44,7 @@ mul-m : tie.Need-mul-m
 mul-m c = search needs
 
 element-write-m : tie.Need-element-write-m
-element-write-m c =
-    let d = c .before .before in
-    exists-low (d .before .args .plan) _ (sym (d .exists-at .ensures) ∙ not-false (d .exists-at .result) (c .before .if1 .left))
+element-write-m c = exists-low (c .before .before .before .args .plan) _ (there (c .before))
 
 add-answer-2 : tie.Need-add-answer-2
 add-answer-2 c = search needs
@@ -49,10 +53,7 @@ answer-requires-2 : tie.Need-answer-requires-2
 answer-requires-2 c κs = search needs
 
 returns-2 : tie.Need-returns-2
-returns-2 c =
-    let d = c .before .before .before in
-    simp
-    (← d .exists-at .ensures, not-false (d .exists-at .result) (c .before .before .if1 .left), c .answer2 .ensures, c .before .stored .ensures)
+returns-2 c = simp (there (c .before .before), c .answer2 .ensures, c .before .stored .ensures)
 
 pub write-register-spec : {M : Type 1} → statement M
 write-register-spec =

@@ -1,7 +1,7 @@
 -- `fit` tells whether a sound state may hold the recogniser.
 -- Assumes nothing.
 use mathlib.Core.Path.{sym, _∙_}
-use Rattle.decoder.proofs.Fits.{fit-at}
+use Rattle.decoder.proofs.StepsFit.{fit-at}
 use borrow.Author.Needs.{needs}
 use Rattle.decoder.proofs.fit.Statement.{statement}
 use Rattle.decoder.proofs.fit.Tie as tie
@@ -34,29 +34,19 @@ field5-fits-requires : tie.Need-field5-fits-requires
 field5-fits-requires c κs = search needs
 
 returns : tie.Need-returns
-returns c =
-    let a = c .before .before .before .args in
-    sym (fit-at (a .r) (a .cnt) (c .before .enum-told .given .1))
+returns c = sym (fit-at _ _ (c .before .enum-told .given .1))
 
 returns-2 : tie.Need-returns-2
-returns-2 c =
-    let a = c .before .before .before .args in
-    c .nibble-fits .ensures ∙ sym (fit-at (a .r) (a .cnt) (c .before .enum-told2 .given .1))
+returns-2 c = c .nibble-fits .ensures ∙ sym (fit-at _ _ (c .before .enum-told2 .given .1))
 
 returns-3 : tie.Need-returns-3
-returns-3 c =
-    let a = c .before .before .before .args in
-    c .nibble-fits2 .ensures ∙ sym (fit-at (a .r) (a .cnt) (c .before .enum-told3 .given .1))
+returns-3 c = c .nibble-fits2 .ensures ∙ sym (fit-at _ _ (c .before .enum-told3 .given .1))
 
 returns-4 : tie.Need-returns-4
-returns-4 c =
-    let a = c .before .before .before .args in
-    c .field4-fits .ensures ∙ sym (fit-at (a .r) (a .cnt) (c .before .enum-told4 .given .1))
+returns-4 c = c .field4-fits .ensures ∙ sym (fit-at _ _ (c .before .enum-told4 .given .1))
 
 returns-5 : tie.Need-returns-5
-returns-5 c =
-    let a = c .before .before .before .args in
-    c .field5-fits .ensures ∙ sym (fit-at (a .r) (a .cnt) (c .before .enum-told5 .given .1))
+returns-5 c = c .field5-fits .ensures ∙ sym (fit-at _ _ (c .before .enum-told5 .given .1))
 
 pub fit-spec : {M : Type 1} → statement M
 fit-spec =

@@ -23,7 +23,9 @@ same-length c = search needs
 
 returns-2 : tie.Need-returns-2
 unfolding trayOf
-returns-2 c = simp (c .before .before .before .before .before .frame .given .1, c .before .before .store-bit .ensures)
+returns-2 c =
+    let stored = c .before .before in
+    simp (stored .before .before .before .frame .given .1, stored .store-bit .ensures)
 
 pub keep-spec : {M : Type 1} → statement M
 keep-spec = tie.close (tie.spec enum-told enum-known-frame store-bit-requires returns same-length returns-2)

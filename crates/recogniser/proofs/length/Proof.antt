@@ -1,7 +1,9 @@
 -- `length` is the length of Field 5 by the command and CNT.
 -- Assumes nothing.
+use mathlib.Core.Path.{_∙_, sym}
 use borrow.Author.Needs.{needs}
 use borrow.Author.Tests.{le-leb, lt-leb, eq-eqb, ne-eqb}
+use Rattle.recogniser.proofs.Field5Lengths.{length-beyond}
 use Rattle.recogniser.proofs.length.Statement.{statement}
 use Rattle.recogniser.proofs.length.Tie as tie
 
@@ -31,36 +33,13 @@ mul-result-4 : tie.Need-mul-result-4
 mul-result-4 c = search needs
 
 returns-4 : tie.Need-returns-4
-returns-4 c =
-    let c3 = c .before .before .before in
-    simp (
-      lt-leb _ _ (c3 .if1 .left),
-      lt-leb _ _ (c .before .before .if2 .left),
-      lt-leb _ _ (c .before .if3 .left),
-      eq-eqb _ _ (c .if4 .taken),
-    )
+returns-4 c = sym (length-beyond _ _ (c .before .if3 .left) ∙ simp (eq-eqb _ _ (c .if4 .taken)))
 
 returns-5 : tie.Need-returns-5
-returns-5 c =
-    let c3 = c .before .before .before in
-    simp (
-      lt-leb _ _ (c3 .before .if1 .left),
-      lt-leb _ _ (c3 .if2 .left),
-      lt-leb _ _ (c .before .before .if3 .left),
-      ne-eqb _ _ (c .before .if4 .left),
-      eq-eqb _ _ (c .if5 .taken),
-    )
+returns-5 c = sym (length-beyond _ _ (c .before .before .if3 .left) ∙ simp (ne-eqb _ _ (c .before .if4 .left), eq-eqb _ _ (c .if5 .taken)))
 
 returns-6 : tie.Need-returns-6
-returns-6 c =
-    let c3 = c .before .before .before in
-    simp (
-      lt-leb _ _ (c3 .before .if1 .left),
-      lt-leb _ _ (c3 .if2 .left),
-      lt-leb _ _ (c .before .before .if3 .left),
-      ne-eqb _ _ (c .before .if4 .left),
-      ne-eqb _ _ (c .if5 .left),
-    )
+returns-6 c = sym (length-beyond _ _ (c .before .before .if3 .left) ∙ simp (ne-eqb _ _ (c .before .if4 .left), ne-eqb _ _ (c .if5 .left)))
 
 pub length-spec : {M : Type 1} → statement M
 length-spec =

@@ -4,18 +4,18 @@ use Prim.Native.Nat.{_-_}
 use borrow.Author.Tests.{lt-ltb, le-ltb}
 use borrow.Author.Needs.{needs}
 use Rattle.registers.specs.Sound.{fitsAt, pointersFit}
-use Rattle.registers.proofs.Every.{Left, begun, failed, passed, over}
+use Rattle.registers.proofs.TestLoop.{Invariant, initially, failed, passed, over}
 use Rattle.registers.proofs.pointers_fit.Statement.{statement}
 use Rattle.registers.proofs.pointers_fit.Tie as tie
 
 abbrev Inv-loop : tie.InvT-loop
-Inv-loop pointers i₀ i = Left (fitsAt pointers) i
+Inv-loop pointers i₀ i = Invariant (fitsAt pointers) i
 
 abbrev μ-loop : tie.MeasureT-loop
 μ-loop pointers i₀ i = 16 - i
 
 loop-holds : tie.Need-loop-holds Inv-loop μ-loop
-loop-holds c = begun (fitsAt (c .args .t1))
+loop-holds c = initially (fitsAt (c .args .t1))
 
 array-read-if1 : tie.Need-array-read-if1 Inv-loop μ-loop
 array-read-if1 c = search needs

@@ -60,7 +60,10 @@ loop-again c =
     let l = c .before .before .loop in
     let more = c .before .loop-test .taken in
     ⊎-elim
-    (λ w. rw (w .2, w .3, w .1 .ensures) (again (l .inv) more _ _ (length-set (l .store) _ _) (length-set (l .p) _ _) (put (a .feen) (a .word) (l .store) (l .p) (l .n) (w .0 .taken))))
+    (λ w.
+    rw (w .2, w .3, w .1 .ensures)
+    (again (l .inv) more _ _ (length-set (l .store) _ _) (length-set (l .p) _ _)
+    (put (a .feen) (a .word) (l .store) (l .p) (l .n) (w .0 .taken))))
     (λ w. rw (w .1, w .2) (again (l .inv) more _ _ refl refl (kept (a .feen) (a .word) (l .store) (l .p) (l .n) (w .0 .left))))
     (c .if1 .came)
 

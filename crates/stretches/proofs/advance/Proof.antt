@@ -2,8 +2,8 @@
 -- Assumes nothing.
 use mathlib.Core.Path.{_∙_, sym}
 use borrow.Author.Needs.{needs}
-use Rattle.stretches.proofs.Walk.{step-left}
-use Rattle.stretches.proofs.Stretches.{stretch-at, stretch-once}
+use Rattle.stretches.proofs.StretchLoops.{step-left}
+use Rattle.stretches.proofs.SingleCycles.{stretch-at, stretch-once}
 use Rattle.stretches.proofs.advance.Statement.{statement}
 use Rattle.stretches.proofs.advance.Tie as tie
 
@@ -36,10 +36,11 @@ returns-2 c = c .body-on .ensures ∙ sym (stretch-at _ _ _ (c .before .enum-tol
 
 returns-3 : tie.Need-returns-3
 returns-3 c =
-    let s = c .before .before .before .before .before in
+    let read = c .before .before in
+    let s = read .before .before .before in
     c .of .ensures
-    ∙ step-left _ _ _ _ (s .args .cnt) _ _ (s .pre .0) (c .before .before .bit-at .ensures) (c .before .step .ensures)
-    ∙ sym (stretch-once (s .args .r) (s .args .cnt) _ (c .before .before .before .match .keys3))
+    ∙ step-left _ _ _ _ (s .args .cnt) _ _ (s .pre .0) (read .bit-at .ensures) (c .before .step .ensures)
+    ∙ sym (stretch-once (s .args .r) (s .args .cnt) _ (read .before .match .keys3))
 
 pub advance-spec : {M : Type 1} → statement M
 advance-spec =

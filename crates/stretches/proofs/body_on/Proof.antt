@@ -4,14 +4,15 @@ use Prim.Native.Nat.{_-_}
 use native.Mathlib.Omega.{arith}
 use Rattle.bits.specs.Bits.{bitsOf}
 use Rattle.stretches.specs.Stretch.{standing, bodyOn}
-use Rattle.stretches.proofs.Walk.{Walked, begun, further, ended, bits-over, body-left, body-last}
+use Rattle.bits.proofs.BitRanges.{bits-over}
+use Rattle.stretches.proofs.StretchLoops.{Invariant, initially, again, over, body-left, body-last}
 use borrow.Author.Needs.{needs}
 use Rattle.stretches.proofs.body_on.Statement.{statement}
 use Rattle.stretches.proofs.body_on.Tie as tie
 
 abbrev Inv-loop : tie.InvT-loop
 Inv-loop self input place end nibble₀ count₀ at₀ nibble count at =
-    Walked
+    Invariant
     (bodyOn self (bitsOf input place (end - place)))
     (bodyOn (standing self nibble count) (bitsOf input at (end - at)))
     place at end
@@ -19,8 +20,12 @@ Inv-loop self input place end nibble₀ count₀ at₀ nibble count at =
 abbrev μ-loop : tie.MeasureT-loop
 μ-loop self input place end nibble₀ count₀ at₀ nibble count at = end - at
 
+-- A turn's start, from where its bit is read.
+abbrev looped : tie.After-bit-at Inv-loop μ-loop → tie.At-loop Inv-loop μ-loop
+looped b = b .before .before
+
 loop-holds : tie.Need-loop-holds Inv-loop μ-loop
-loop-holds c = begun _ _ _ (c .before .pre .0)
+loop-holds c = initially _ _ _ (c .before .pre .0)
 
 bit-at-requires : tie.Need-bit-at-requires Inv-loop μ-loop
 bit-at-requires c κs = search needs
@@ -42,11 +47,12 @@ of-requires c κs = search needs
 
 returns : tie.Need-returns Inv-loop μ-loop
 returns c =
-    let l = c .before .before .before .before .before .before in
-    let e = c .before .before .before .before .before .loop-test .taken in
+    let b = c .before .before .before .before in
+    let l = looped b in
     rw (c .of .ensures, c .before .body .ensures, c .before .before .standing .ensures)
-    (ended (l .loop .inv) _ 1 _
-    (body-last _ _ _ (l .before .before .args .r) _ _ _ e (c .before .before .before .before .bit-at .ensures) (c .before .before .before .if1 .taken)) (omega arith))
+    (over (l .loop .inv) _ 1 _
+    (body-last _ _ _ (l .before .before .args .r) _ _ _ (b .before .loop-test .taken) (b .bit-at .ensures) (c .before .before .before .if1 .taken))
+    (omega arith))
 
 nibble-with-requires : tie.Need-nibble-with-requires Inv-loop μ-loop
 nibble-with-requires c κs = search needs
@@ -59,10 +65,12 @@ loop-less c = search needs
 
 loop-again : tie.Need-loop-again Inv-loop μ-loop
 loop-again c =
-    let l = c .before .before .before .before in
-    let e = c .before .before .before .loop-test .taken in
-    further (l .loop .inv) _
-    (body-left _ _ _ (l .before .before .args .r) _ _ _ e (c .before .before .bit-at .ensures) _ (c .nibble-with .ensures) (omega (arith, c .before .if1 .left))) e
+    let b = c .before .before in
+    let l = looped b in
+    let e = b .before .loop-test .taken in
+    again (l .loop .inv) _
+    (body-left _ _ _ (l .before .before .args .r) _ _ _ e (b .bit-at .ensures) _ (c .nibble-with .ensures) (omega (arith, c .before .if1 .left)))
+    e
 
 sub-t13 : tie.Need-sub-t13 Inv-loop μ-loop
 sub-t13 c = search needs
@@ -74,7 +82,7 @@ returns-2 : tie.Need-returns-2 Inv-loop μ-loop
 returns-2 c =
     let l = c .before .before in
     rw (c .standing2 .ensures)
-    (ended (l .loop .inv) _ 0 _ (rw (bits-over _ _ _ (c .before .loop-test .left))) (omega arith))
+    (over (l .loop .inv) _ 0 _ (rw (bits-over _ _ _ (c .before .loop-test .left))) (omega arith))
 
 pub body-on-spec : {M : Type 1} → statement M
 body-on-spec =

@@ -5,20 +5,21 @@ use Prim.Native.Nat.{_-_}
 use native.Mathlib.Omega.{arith}
 use Rattle.bits.specs.Bits.{bitsOf}
 use Rattle.stretches.specs.Stretch.{huntOn}
-use Rattle.stretches.proofs.Walk.{Walked, begun, further, ended, bits-over, hunt-left, hunt-last}
+use Rattle.bits.proofs.BitRanges.{bits-over}
+use Rattle.stretches.proofs.StretchLoops.{Invariant, initially, again, over, hunt-left, hunt-last}
 use borrow.Author.Needs.{needs}
 use Rattle.stretches.proofs.hunt_on.Statement.{statement}
 use Rattle.stretches.proofs.hunt_on.Tie as tie
 
 abbrev Inv-loop : tie.InvT-loop
 Inv-loop shift input place end window₀ at₀ window at =
-    Walked (huntOn window₀ (bitsOf input place (end - place))) (huntOn window (bitsOf input at (end - at))) place at end
+    Invariant (huntOn window₀ (bitsOf input place (end - place))) (huntOn window (bitsOf input at (end - at))) place at end
 
 abbrev μ-loop : tie.MeasureT-loop
 μ-loop shift input place end window₀ at₀ window at = end - at
 
 loop-holds : tie.Need-loop-holds Inv-loop μ-loop
-loop-holds c = begun _ _ _ (c .before .pre .0)
+loop-holds c = initially _ _ _ (c .before .pre .0)
 
 bit-at-requires : tie.Need-bit-at-requires Inv-loop μ-loop
 bit-at-requires c κs = search needs
@@ -39,7 +40,7 @@ loop-again : tie.Need-loop-again Inv-loop μ-loop
 loop-again c =
     let looked = c .before .before .before in
     let e = looked .before .loop-test .taken in
-    further (looked .before .before .loop .inv) _
+    again (looked .before .before .loop .inv) _
     (hunt-left _ _ _ _ _ _ e (looked .bit-at .ensures) (c .before .before .window-with .ensures)
     (sym (c .before .is-quiet .ensures) ∙ c .if1 .taken)) e
 
@@ -54,12 +55,12 @@ of-requires c κs = search needs
 
 returns : tie.Need-returns Inv-loop μ-loop
 returns c =
-    let looked = c .before .before .before .before .before in
+    let told = c .before .before .before in
+    let looked = told .before .before in
     rw (c .of .ensures, c .before .hunted .ensures)
-    (ended (looked .before .before .loop .inv) _ 1 _
-    (hunt-last _ _ _ _ _ _ (looked .before .loop-test .taken) (looked .bit-at .ensures)
-    (c .before .before .before .before .window-with .ensures)
-    (sym (c .before .before .before .is-quiet .ensures) ∙ c .before .before .if1 .left)) (omega arith))
+    (over (looked .before .before .loop .inv) _ 1 _
+    (hunt-last _ _ _ _ _ _ (looked .before .loop-test .taken) (looked .bit-at .ensures) (told .before .window-with .ensures)
+    (sym (told .is-quiet .ensures) ∙ c .before .before .if1 .left)) (omega arith))
 
 sub-of-2 : tie.Need-sub-of-2 Inv-loop μ-loop
 sub-of-2 c = search needs
@@ -73,7 +74,7 @@ of-requires-2 c κs = search needs
 returns-2 : tie.Need-returns-2 Inv-loop μ-loop
 returns-2 c =
     rw (c .of2 .ensures, c .before .hunting .ensures)
-    (ended (c .before .before .before .loop .inv) _ 0 _ (rw (bits-over _ _ _ (c .before .before .loop-test .left))) (omega arith))
+    (over (c .before .before .before .loop .inv) _ 0 _ (rw (bits-over _ _ _ (c .before .before .loop-test .left))) (omega arith))
 
 pub hunt-on-spec : {M : Type 1} → statement M
 hunt-on-spec =

@@ -29,15 +29,16 @@ fit-requires c κs = search needs
 returns : tie.Need-returns
 unfolding soundOf
 returns c =
-    let c4 = c .before .before .before .before in
+    let slow = c .before .before .before in
+    let writes = slow .before .before .before in
     simp (
       c .fit .ensures,
       c .before .cnt .ensures,
-      c .before .before .before .inside-slow .ensures,
-      c4 .missing-zero .ensures,
-      c4 .before .pointers-fit2 .ensures,
-      c4 .before .before .pointers-fit .ensures,
-      c4 .before .before .before .before .before .before .fits2 .ensures,
+      slow .inside-slow .ensures,
+      slow .before .missing-zero .ensures,
+      slow .before .before .pointers-fit2 .ensures,
+      writes .pointers-fit .ensures,
+      writes .before .before .before .before .fits2 .ensures,
     )
 
 pub sound-spec : {M : Type 1} → statement M

@@ -1,9 +1,28 @@
 -- `body` is one cycle of a body.
 -- Assumes nothing.
+use mathlib.Core.Bool.{cond}
+use mathlib.Core.Path.{_≡_}
+use lib.Dec.{eqb}
 use borrow.Author.Needs.{needs}
 use borrow.Author.Tests.{lt-ltb, le-ltb, eq-eqb, ne-eqb}
+use Rattle.recogniser.specs.declared.Phase.the-variants.{Field3}
+use Rattle.recogniser.specs.declared.Request.the-variants.{BadFast, Slow}
+use Rattle.recogniser.specs.declared.SlowRequest.the-variants.{LeaveRunMode}
+use Rattle.recogniser.specs.Parts.{startOf, idle, moveTo}
+use Rattle.recogniser.specs.Hunting.{bodyOf}
 use Rattle.recogniser.proofs.Recogniser.body.Statement.{statement}
 use Rattle.recogniser.proofs.Recogniser.body.Tie as tie
+
+-- A whole body that is no Fast: a Slow, or bad.
+abbrev received : tie.Else2 → tie.After-nibble-with
+received c = c .before .before .before .before
+
+no-fast : (c : tie.Else2) →
+    let body = received c .nibble-with .result in
+    let a = received c .before .args in
+    bodyOf (a .self) (a .bit) ≡ cond (eqb body 0b1011) (moveTo (startOf Field3 0 0 0) (Slow LeaveRunMode)) (moveTo idle (BadFast body))
+no-fast c =
+    simp (← received c .nibble-with .ensures, le-ltb _ _ (c .before .before .if1 .left), ← c .before .is-fast .ensures, c .if2 .left)
 
 nibble-with-requires : tie.Need-nibble-with-requires
 nibble-with-requires c κs = search needs
@@ -37,33 +56,13 @@ start-requires : tie.Need-start-requires
 start-requires c κs = search needs
 
 returns-3 : tie.Need-returns-3
-returns-3 c =
-    let c3 = c .before .before .before in
-    let c6 = c3 .before .before .before in
-    simp (
-      ← c6 .nibble-with .ensures,
-      le-ltb _ _ (c3 .before .if1 .left),
-      ← c3 .is-fast .ensures,
-      c .before .before .if2 .left,
-      eq-eqb _ _ (c .before .if3 .taken),
-      c .start .ensures,
-    )
+returns-3 c = rw (no-fast (c .before .before)) (simp (eq-eqb _ _ (c .before .if3 .taken), c .start .ensures))
 
 hunting-requires-2 : tie.Need-hunting-requires-2
 hunting-requires-2 c κs = search needs
 
 returns-4 : tie.Need-returns-4
-returns-4 c =
-    let c3 = c .before .before .before in
-    let c6 = c3 .before .before .before in
-    simp (
-      ← c6 .nibble-with .ensures,
-      le-ltb _ _ (c3 .before .if1 .left),
-      ← c3 .is-fast .ensures,
-      c .before .before .if2 .left,
-      ne-eqb _ _ (c .before .if3 .left),
-      c .hunting2 .ensures,
-    )
+returns-4 c = rw (no-fast (c .before .before)) (simp (ne-eqb _ _ (c .before .if3 .left), c .hunting2 .ensures))
 
 pub body-spec : {M : Type 1} → statement M
 body-spec =

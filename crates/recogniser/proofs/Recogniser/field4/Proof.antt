@@ -1,9 +1,28 @@
 -- `field4` is one cycle of Field 4.
 -- Assumes nothing.
+use mathlib.Core.Bool.{false, cond}
+use mathlib.Core.Path.{_≡_}
 use borrow.Author.Needs.{needs}
 use borrow.Author.Tests.{lt-ltb, le-ltb}
+use Rattle.recogniser.specs.declared.Request.the-variants.{Slow}
+use Rattle.recogniser.specs.declared.SlowRequest.the-variants.{Frame}
+use Rattle.recogniser.specs.Parts.{idle, moveTo}
+use Rattle.recogniser.specs.Fields.{isFrame, slowRequestOf, field4Of}
 use Rattle.recogniser.proofs.Recogniser.field4.Statement.{statement}
 use Rattle.recogniser.proofs.Recogniser.field4.Tie as tie
+
+-- A whole Field 4 with no Field 5 behind it: an empty frame, or the command's end.
+abbrev received : tie.Else2 → tie.After-nibble-with
+received c = c .before .before .before .before
+
+no-field5 : (c : tie.Else2) →
+    let address = received c .nibble-with .result in
+    let a = received c .before .args in
+    let command = a .self .command in
+    field4Of (a .self) (a .bit) (a .cnt)
+    ≡ cond (isFrame command) (moveTo idle (Slow (Frame command false))) (moveTo idle (slowRequestOf command address 0))
+no-field5 c =
+    simp (← received c .nibble-with .ensures, le-ltb _ _ (c .before .before .if1 .left), ← c .before .length .ensures, le-ltb _ _ (c .if2 .left))
 
 nibble-with-requires : tie.Need-nibble-with-requires
 nibble-with-requires c κs = search needs
@@ -41,17 +60,7 @@ hunting-requires c κs = search needs
 
 returns-3 : tie.Need-returns-3
 returns-3 c =
-    let c3 = c .before .before .before in
-    let c6 = c3 .before .before .before in
-    simp (
-      ← c6 .before .nibble-with .ensures,
-      le-ltb _ _ (c3 .before .before .if1 .left),
-      ← c3 .before .length .ensures,
-      le-ltb _ _ (c3 .if2 .left),
-      ← c .before .before .is-frame .ensures,
-      c .before .if3 .taken,
-      c .hunting .ensures,
-    )
+    rw (no-field5 (c .before .before .before)) (simp (← c .before .before .is-frame .ensures, c .before .if3 .taken, c .hunting .ensures))
 
 slow-requires : tie.Need-slow-requires
 slow-requires c κs = search needs
@@ -61,18 +70,8 @@ hunting-requires-2 c κs = search needs
 
 returns-4 : tie.Need-returns-4
 returns-4 c =
-    let c3 = c .before .before .before in
-    let c6 = c3 .before .before .before in
-    simp (
-      ← c6 .before .before .nibble-with .ensures,
-      le-ltb _ _ (c6 .if1 .left),
-      ← c3 .before .before .length .ensures,
-      le-ltb _ _ (c3 .before .if2 .left),
-      ← c3 .is-frame .ensures,
-      c .before .before .if3 .left,
-      c .before .slow .ensures,
-      c .hunting2 .ensures,
-    )
+    let f = c .before .before .before in
+    rw (no-field5 (f .before)) (simp (← f .is-frame .ensures, c .before .before .if3 .left, c .before .slow .ensures, c .hunting2 .ensures))
 
 pub field4-spec : {M : Type 1} → statement M
 field4-spec =

@@ -1,7 +1,7 @@
 -- `frame_field` is one cycle of the Field 5 of a frame.
 -- Assumes nothing.
 use mathlib.Core.Path.{sym, _∙_}
-use Rattle.recogniser.proofs.Lengths.{count-fits}
+use Rattle.recogniser.proofs.Field5Lengths.{count-fits}
 use borrow.Author.Needs.{needs}
 use Rattle.recogniser.proofs.Recogniser.frame_field.Statement.{statement}
 use Rattle.recogniser.proofs.Recogniser.frame_field.Tie as tie
@@ -35,7 +35,13 @@ add-next c =
 returns-2 : tie.Need-returns-2
 returns-2 c =
     let e = c .before .before .before .before in
-    simp (← e .ends .ensures, c .before .before .before .if1 .left, e .before .before .frame-bit .ensures, e .before .unsteady-with .ensures, c .before .with .ensures)
+    simp (
+      ← e .ends .ensures,
+      c .before .before .before .if1 .left,
+      e .before .before .frame-bit .ensures,
+      e .before .unsteady-with .ensures,
+      c .before .with .ensures,
+    )
 
 pub frame-field-spec : {M : Type 1} → statement M
 frame-field-spec =

@@ -1,7 +1,7 @@
 -- `kept_field` is one cycle of the Field 5 of a command that carries no frame.
 -- Assumes nothing.
 use mathlib.Core.Path.{sym, _∙_}
-use Rattle.recogniser.proofs.Lengths.{count-fits}
+use Rattle.recogniser.proofs.Field5Lengths.{count-fits}
 use borrow.Author.Needs.{needs}
 use Rattle.recogniser.proofs.Recogniser.kept_field.Statement.{statement}
 use Rattle.recogniser.proofs.Recogniser.kept_field.Tie as tie

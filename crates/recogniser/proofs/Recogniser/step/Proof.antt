@@ -1,7 +1,7 @@
 -- `step` is one cycle, by the phase.
 -- Assumes nothing.
 use mathlib.Core.Path.{_∙_, sym}
-use Rattle.recogniser.proofs.Laws.{step-at}
+use Rattle.recogniser.proofs.StepByPhase.{step-at}
 use borrow.Author.Needs.{needs}
 use Rattle.recogniser.proofs.Recogniser.step.Statement.{statement}
 use Rattle.recogniser.proofs.Recogniser.step.Tie as tie
@@ -37,29 +37,19 @@ field5-requires : tie.Need-field5-requires
 field5-requires c κs = search needs
 
 returns : tie.Need-returns
-returns c =
-    let a = c .before .before .before .args in
-    c .hunt .ensures ∙ sym (step-at (a .self) (a .bit) (a .cnt) (c .before .enum-told .given .1))
+returns c = c .hunt .ensures ∙ sym (step-at _ _ _ (c .before .enum-told .given .1))
 
 returns-2 : tie.Need-returns-2
-returns-2 c =
-    let a = c .before .before .before .args in
-    c .body .ensures ∙ sym (step-at (a .self) (a .bit) (a .cnt) (c .before .enum-told2 .given .1))
+returns-2 c = c .body .ensures ∙ sym (step-at _ _ _ (c .before .enum-told2 .given .1))
 
 returns-3 : tie.Need-returns-3
-returns-3 c =
-    let a = c .before .before .before .args in
-    c .field3 .ensures ∙ sym (step-at (a .self) (a .bit) (a .cnt) (c .before .enum-told3 .given .1))
+returns-3 c = c .field3 .ensures ∙ sym (step-at _ _ _ (c .before .enum-told3 .given .1))
 
 returns-4 : tie.Need-returns-4
-returns-4 c =
-    let a = c .before .before .before .args in
-    c .field4 .ensures ∙ sym (step-at (a .self) (a .bit) (a .cnt) (c .before .enum-told4 .given .1))
+returns-4 c = c .field4 .ensures ∙ sym (step-at _ _ _ (c .before .enum-told4 .given .1))
 
 returns-5 : tie.Need-returns-5
-returns-5 c =
-    let a = c .before .before .before .args in
-    c .field5 .ensures ∙ sym (step-at (a .self) (a .bit) (a .cnt) (c .before .enum-told5 .given .1))
+returns-5 c = c .field5 .ensures ∙ sym (step-at _ _ _ (c .before .enum-told5 .given .1))
 
 pub step-spec : {M : Type 1} → statement M
 step-spec =

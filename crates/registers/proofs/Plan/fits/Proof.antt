@@ -16,7 +16,9 @@ exists-at-requires-3 c κs = search needs
 
 returns : tie.Need-returns
 unfolding planFits
-returns c = simp (c .before .before .before .before .before .exists-at .ensures, c .before .before .before .before .exists-at2 .ensures, c .before .before .before .exists-at3 .ensures)
+returns c =
+    let cnt = c .before .before .before in
+    simp (cnt .before .before .exists-at .ensures, cnt .before .exists-at2 .ensures, cnt .exists-at3 .ensures)
 
 pub fits-spec : {M : Type 1} → statement M
 fits-spec =

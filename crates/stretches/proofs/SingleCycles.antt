@@ -1,4 +1,4 @@
--- Laws of a stretch that callers cite: it is as many single cycles, all but the last of which ask for nothing.
+-- A stretch is as many single cycles, all but the last of which ask for nothing; it takes one at least, and no more than there are.
 -- Assumes nothing.
 use mathlib.Core.Path.{_≡_, _∙_, refl, ap}
 use mathlib.Core.List.{List, [], _∷_}
@@ -20,7 +20,7 @@ use Rattle.recogniser.specs.Parts.{shifted, startOf, noEvent, moveTo, gatheredO
 use Rattle.recogniser.specs.Hunting.{meaningOf, huntBy, bodyOf}
 use Rattle.recogniser.specs.Step.{stepOf}
 use Rattle.recogniser.proofs.Phase.{the-type}
-use Rattle.recogniser.proofs.Laws.{step-at}
+use Rattle.recogniser.proofs.StepByPhase.{step-at}
 use Rattle.stretches.specs.declared.Stretch.{Stretch}
 use Rattle.stretches.specs.Stretch.{stretched, oneMore, huntBeyond, huntOn, bodyOn, stepOn, stretchBy, stretchOf}
 

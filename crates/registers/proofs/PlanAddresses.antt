@@ -1,4 +1,4 @@
--- What a plan says of an address.
+-- An address that a plan has is below 16.
 -- Assumes nothing.
 use mathlib.Core.Bool.{true}
 use mathlib.Core.Path.{_≡_}

@@ -1,4 +1,4 @@
--- A test of 16 numbers, one a turn, against what is left of it.
+-- What a loop keeps that tests 16 numbers, one a turn: what is left of the test decides as the whole.
 -- Assumes nothing.
 use mathlib.Core.Bool.{Bool, true, false}
 use mathlib.Core.Path.{_≡_, refl}
@@ -7,20 +7,20 @@ use native.Mathlib.Omega.{arith}
 use Rattle.registers.specs.Sound.{everyFrom}
 
 -- What is left from i on decides as the whole does.
-pub record Left (f : ℕ → Bool) (i : ℕ) : Type 0 where
+pub record Invariant (f : ℕ → Bool) (i : ℕ) : Type 0 where
   pub low : i ≤ 16
   pub rest : everyFrom (16 - i) i f ≡ everyFrom 16 0 f
 
 module _ (f : ℕ → Bool) where
-  pub begun : Left f 0
-  begun = record { low = omega arith; rest = refl }
+  pub initially : Invariant f 0
+  initially = record { low = omega arith; rest = refl }
 
-  module _ {i : ℕ} (l : Left f i) where
+  module _ {i : ℕ} (l : Invariant f i) where
     pub failed : i < 16 → f i ≡ false → false ≡ everyFrom 16 0 f
     unfolding everyFrom
     failed more e = let k : 16 - i ≡ suc (16 - (i + 1)) = omega arith in simp e at (rw k at (l .rest))
 
-    pub passed : i < 16 → f i ≡ true → Left f (i + 1)
+    pub passed : i < 16 → f i ≡ true → Invariant f (i + 1)
     unfolding everyFrom
     passed more e =
         let k : 16 - i ≡ suc (16 - (i + 1)) = omega arith in

@@ -1,14 +1,15 @@
--- The lengths of Field 5 of the commands that keep their bits, and of those that have none.
+-- The commands that have a Field 5, and those that keep its bits, by its length.
 -- Assumes nothing.
-use mathlib.Core.Path.{_≡_}
+use mathlib.Core.Path.{_≡_, _∙_}
 use mathlib.Core.Bool.{_||_}
 use mathlib.Core.Logic.{⊎-elim}
 use Prim.Native.Nat.{ℕ, _≤_, _<_}
 use native.Mathlib.Omega.{arith}
-use borrow.Author.Tests.{lt-leb, ne-eqb}
+use borrow.Author.Tests.{ne-eqb}
 use lib.Dec.{T, leb, eqb, eqb→eq, nleb→lt, lit≤, T-not}
 use Rattle.bits.proofs.Truth.{or-case, or-else, stable}
 use Rattle.recogniser.specs.Fields.{lengthOf}
+use Rattle.recogniser.proofs.Field5Lengths.{length-beyond}
 use Rattle.decoder.specs.Fit.{hasField5, keeps}
 
 -- What is kept of a Field 5 is at most 27 bits.
@@ -21,13 +22,7 @@ kept-most command cnt t =
 
 length-none : (command cnt : ℕ) → 6 < command → (command ≡ 10 → ⊥) → lengthOf command cnt ≡ 0
 length-none command cnt h n =
-    simp (
-      lt-leb command 1 (omega arith),
-      lt-leb command 3 (omega arith),
-      lt-leb command 5 (omega arith),
-      ne-eqb command 6 (omega arith),
-      ne-eqb command 10 n,
-    )
+    length-beyond command cnt (omega arith) ∙ simp (ne-eqb command 6 (omega arith), ne-eqb command 10 n)
 
 -- A command with bits of Field 5 is one that has it.
 pub length-has : (command cnt : ℕ) → 0 < lengthOf command cnt → T (hasField5 command)

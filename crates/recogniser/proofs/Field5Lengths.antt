@@ -1,19 +1,20 @@
--- The longest Field 5, and that the count of its bits fits.
+-- The length of Field 5 past the rows for front ends, the longest one, and that the count of its bits fits.
 -- Assumes nothing.
 use mathlib.Core.Path.{_≡_}
-use mathlib.Core.Bool.{Bool, false, cond}
+use mathlib.Core.Bool.{false, cond}
 use Prim.Native.Nat.{ℕ, _+_, _^_, _≤_, _<_}
 use native.Mathlib.Omega.{arith}
-use borrow.Author.Tests.{leb-false}
+use borrow.Author.Tests.{leb-false, lt-leb}
 use mir.Syntax.{w32}
 use mir.Val.{Fits}
 use lib.Dec.{leb, eqb}
-use Rattle.bits.proofs.Truth.{cond-case}
+use Rattle.bits.proofs.Truth.{cond-most}
 use Rattle.recogniser.specs.declared.Recogniser.{Recogniser}
-use Rattle.recogniser.specs.Fields.{lengthOf, endsOf}
+use Rattle.recogniser.specs.Fields.{receiverBits, lengthOf, endsOf}
 
-cond-most : (b : Bool) {x y n : ℕ} → x ≤ n → y ≤ n → cond b x y ≤ n
-cond-most b {n = n} p q = cond-case (λ v. v ≤ n) b (λ _. p) (λ _. q)
+-- Past RdFrontEnd a WrReceiver and a GlobalResetFE have a Field 5.
+pub length-beyond : (command cnt : ℕ) → 5 < command → lengthOf command cnt ≡ cond (eqb command 6) (receiverBits cnt) (cond (eqb command 10) 4 0)
+length-beyond command cnt h = simp (lt-leb command 1 (omega arith), lt-leb command 3 (omega arith), lt-leb command 5 h)
 
 -- "The largest is 65,976 cycles."
 pub length-most : (command cnt : ℕ) → cnt < 2 ^ 16 → lengthOf command cnt ≤ 65976

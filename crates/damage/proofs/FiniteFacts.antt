@@ -1,11 +1,9 @@
 -- Finite facts as computed equations: a function's values in a list, and its value at a variable read off that list.
 -- Assumes nothing.
 use mathlib.Core.Path.{_≡_}
-use mathlib.Core.Bool.{Bool, true, false, cond, not}
 use mathlib.Core.List.{List, [], _∷_}
 use Prim.Native.Nat.{ℕ, zero, suc, _<_}
 use native.Mathlib.Nat.{le-of-suc-le-suc, not-suc-le-zero}
-use lib.Dec.{T}
 use Rattle.damage.specs.Commands.{Command, lv1, bcr, ecr, cal, sync}
 
 module _ {A : Type 0} where
@@ -31,9 +29,3 @@ module _ {A : Type 0} where
   each-at f g e ecr = cc
   each-at f g e cal = cc
   each-at f g e sync = cc
-
--- Two choices by one test, taken apart.
-module _ {A : Type 0} where
-  pub by-both : {B : Type 0} (P : A → B → Type 0) (b : Bool) (x y : A) (u v : B) → (T b → P x u) → (T (not b) → P y v) → P (cond b x y) (cond b u v)
-  by-both P true x y u v f g = f tt
-  by-both P false x y u v f g = g tt

@@ -5,8 +5,7 @@ use mathlib.Core.Bool.{Bool, not, _||_}
 use Prim.Native.Nat.{ℕ, _+_, _^_, _<_}
 use native.Mathlib.Omega.{arith}
 use lib.Dec.{T, ltb, eqb, ltb→lt, lt→ltb, nleb→lt}
-use lib.Ieee.Fits.{and-i, and-l, and-r}
-use Rattle.bits.proofs.Truth.{cond-case, cond-taken}
+use Rattle.bits.proofs.Truth.{cond-case, cond-taken, and-both, and-left, and-right}
 use Rattle.recogniser.specs.declared.Phase.{Phase}
 use Rattle.recogniser.specs.declared.Phase.the-variants.{Hunt, Body, Field3, Field4, Field5}
 use Rattle.recogniser.specs.declared.Meaning.{Meaning}
@@ -21,7 +20,7 @@ use Rattle.recogniser.specs.Groups.{groupOf, unsteadyOf}
 use Rattle.recogniser.specs.Step.{field5Of, stepBy, stepOf}
 use Rattle.recogniser.proofs.Shift.{below, wider, grown}
 use Rattle.decoder.specs.Fit.{hasField5, keeps, nibbleFits, field4Fits, heldFits, field5Fits, fitBy, fitOf}
-use Rattle.decoder.proofs.Field5.{length-has}
+use Rattle.decoder.proofs.Field5Commands.{length-has}
 
 -- What the test of Field 5 says.
 record InField5 (r : Recogniser) (cnt : ℕ) : Type 0 where
@@ -32,27 +31,27 @@ record InField5 (r : Recogniser) (cnt : ℕ) : Type 0 where
 
 module _ (r : Recogniser) where
   nibble : r .count < 4 → r .shift < 2 ^ r .count → T (nibbleFits r)
-  nibble p q = and-i (ltb (r .count) 4) _ (lt→ltb (r .count) 4 p) (lt→ltb (r .shift) (2 ^ r .count) q)
+  nibble p q = and-both (ltb (r .count) 4) _ (lt→ltb (r .count) 4 p) (lt→ltb (r .shift) (2 ^ r .count) q)
 
   shift-fits : T (nibbleFits r) → r .shift < 2 ^ r .count
-  shift-fits t = ltb→lt (r .shift) (2 ^ r .count) (and-r (ltb (r .count) 4) _ t)
+  shift-fits t = ltb→lt (r .shift) (2 ^ r .count) (and-right (ltb (r .count) 4) _ t)
 
   in-field5 : (cnt : ℕ) → InField5 r cnt → T (field5Fits r cnt)
   in-field5 cnt f =
-      and-i (hasField5 (r .command)) _ (f .has)
-      (and-i (ltb (r .address) 16) _ (lt→ltb (r .address) 16 (f .address))
-      (and-i (ltb (r .count) (lengthOf (r .command) cnt)) _ (lt→ltb (r .count) _ (f .count))
+      and-both (hasField5 (r .command)) _ (f .has)
+      (and-both (ltb (r .address) 16) _ (lt→ltb (r .address) 16 (f .address))
+      (and-both (ltb (r .count) (lengthOf (r .command) cnt)) _ (lt→ltb (r .count) _ (f .count))
       (cond-case T (keeps (r .command)) (λ k. lt→ltb (r .held) (2 ^ r .count) (f .held k)) (λ _. tt))))
 
   of-field5 : (cnt : ℕ) → T (field5Fits r cnt) → InField5 r cnt
   of-field5 cnt t =
-      let u = and-r (hasField5 (r .command)) _ t in
-      let v = and-r (ltb (r .address) 16) _ u in
-      let w = and-r (ltb (r .count) (lengthOf (r .command) cnt)) (heldFits r) v in
+      let u = and-right (hasField5 (r .command)) _ t in
+      let v = and-right (ltb (r .address) 16) _ u in
+      let w = and-right (ltb (r .count) (lengthOf (r .command) cnt)) (heldFits r) v in
       record {
-        has = and-l (hasField5 (r .command)) _ t;
-        address = ltb→lt (r .address) 16 (and-l (ltb (r .address) 16) _ u);
-        count = ltb→lt (r .count) _ (and-l (ltb (r .count) (lengthOf (r .command) cnt)) _ v);
+        has = and-left (hasField5 (r .command)) _ t;
+        address = ltb→lt (r .address) 16 (and-left (ltb (r .address) 16) _ u);
+        count = ltb→lt (r .count) _ (and-left (ltb (r .count) (lengthOf (r .command) cnt)) _ v);
         held = λ k. ltb→lt (r .held) (2 ^ r .count) (rw (cond-taken (keeps (r .command)) _ _ k) at w);
       }
 
@@ -103,8 +102,8 @@ module _ (r : Recogniser) (bit cnt : ℕ) (b : bit < 2) where
   field4-fits e t =
       cond-case (Fit cnt) (ltb (r .count) 3)
       (λ q. rw e
-      (and-i (nibbleFits (gatheredOf r (shifted 4 (r .shift) bit) .next)) _
-      (gathered (and-l (nibbleFits r) _ t) q) (and-r (nibbleFits r) _ t)))
+      (and-both (nibbleFits (gatheredOf r (shifted 4 (r .shift) bit) .next)) _
+      (gathered (and-left (nibbleFits r) _ t) q) (and-right (nibbleFits r) _ t)))
       (λ _. cond-case (Fit cnt) (ltb 0 (lengthOf (r .command) cnt))
       (λ q. in-field5 (startOf Field5 0 (r .command) (shifted 4 (r .shift) bit)) cnt (record {
         has = length-has (r .command) cnt (ltb→lt 0 _ q);

@@ -1,4 +1,4 @@
--- The step by the phase, which callers cite.
+-- A step is the step of the phase that the recogniser stands in, as callers cite it.
 -- Assumes nothing.
 use mathlib.Core.Path.{_≡_, ap}
 use Prim.Native.Nat.{ℕ}
