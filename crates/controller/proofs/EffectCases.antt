@@ -56,7 +56,7 @@ module _ (P : List ℕ → Pointers → Counters → Bool → Type 0) where
   Holds m = P (m .registers) (m .pointers) (m .counters) (m .running)
 
   -- What must be shown of a fact: that it holds now, and after each command that changes what it is about.
-  pub record Kept (plan : Plan) (m : Model) (q : Request) (time : ℕ) (store : List ℕ) : Type 0 where
+  pub record KeptByEach (plan : Plan) (m : Model) (q : Request) (time : ℕ) (store : List ℕ) : Type 0 where
     pub now : Holds m
     pub lv1 : P (m .registers) (m .pointers) (lv1Counted (m .counters)) (m .running)
     pub fast : (body : ℕ) → P (m .registers) (fastPointers body (m .pointers)) (fastCounted body time (m .counters)) (m .running)
@@ -70,7 +70,7 @@ module _ (P : List ℕ → Pointers → Counters → Bool → Type 0) where
     pub run : (b : Bool) → changesRunning q ≡ true → P (m .registers) (m .pointers) (m .counters) b
 
   module _ (plan : Plan) (m : Model) (time : ℕ) (store : List ℕ) where
-    slow-keeps : (s : SlowRequest) → Kept plan m (Slow s) time store → Holds (slowOf plan m s time store .acted .model)
+    slow-keeps : (s : SlowRequest) → KeptByEach plan m (Slow s) time store → Holds (slowOf plan m s time store .acted .model)
     slow-keeps LeaveRunMode k = k .run false refl
     slow-keeps (Command command address value) k =
         let R : Acted → Type 0 = λ a. Holds (a .model) in
@@ -85,7 +85,7 @@ module _ (P : List ℕ → Pointers → Counters → Bool → Type 0) where
     slow-keeps (Bad command) k = k .now
     slow-keeps (Frame command unsteady) k = k .now
 
-    pub act-keeps : (q : Request) → Kept plan m q time store → Holds (actOf plan m q time store .acted .model)
+    pub act-keeps : (q : Request) → KeptByEach plan m q time store → Holds (actOf plan m q time store .acted .model)
     unfolding actOf
     act-keeps Nothing k = k .now
     act-keeps (Lv1 flip) k =

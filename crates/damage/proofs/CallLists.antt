@@ -56,9 +56,9 @@ noSlowIn-quiet : (n : ℕ) → T (noSlowIn (quiet n))
 noSlowIn-quiet zero = tt
 noSlowIn-quiet (suc n) = noSlowIn-quiet n
 
-words-append : (es fs : List Record) → recordWords (es ++ fs) ≡ recordWords es ++ recordWords fs
-words-append [] fs = refl
-words-append (e ∷ es) fs = ap (λ l. headOf e ∷ e .value ∷ l) (words-append es fs)
+record-words-append : (es fs : List Record) → recordWords (es ++ fs) ≡ recordWords es ++ recordWords fs
+record-words-append [] fs = refl
+record-words-append (e ∷ es) fs = ap (λ l. headOf e ∷ e .value ∷ l) (record-words-append es fs)
 
 abbrev trace : Decoder → List ℕ → List Request
 trace d bits = requestsOf (d .recogniser) bits
@@ -83,7 +83,7 @@ follows-append {d} {v} {u} {xs} {ys} {ws} {zs} a b = record {
       let later : List Request = requestsOf (recogniserAfter (d .recogniser) xs) ys in
       rw (requests-append (d .recogniser) xs ys, performed-append (sends d) (countersOf d) (d .next) (trace d xs) later, length-requests (d .recogniser) xs)
       (ap₂ _++_ (a .written) (b .written ∙ (λ i. recordWords (performed (a .sent i) (a .counters i) (a .next i) (requestsOf (a .stands i) ys))))
-      ∙ sym (words-append (performed (sends d) (countersOf d) (d .next) (trace d xs)) _));
+      ∙ sym (record-words-append (performed (sends d) (countersOf d) (d .next) (trace d xs)) _));
   stands = b .stands ∙ ap (λ (r : Recogniser). recogniserAfter r ys) (a .stands) ∙ sym (after-append (d .recogniser) xs ys);
   counters =
       let later : List Request = requestsOf (recogniserAfter (d .recogniser) xs) ys in

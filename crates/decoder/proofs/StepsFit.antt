@@ -18,7 +18,7 @@ use Rattle.recogniser.specs.Hunting.{isFast, meaningOf, huntBy, bodyOf}
 use Rattle.recogniser.specs.Fields.{isFrame, lengthOf, endsOf, keptOf, field3Of, field4Of}
 use Rattle.recogniser.specs.Groups.{groupOf, unsteadyOf}
 use Rattle.recogniser.specs.Step.{field5Of, stepBy, stepOf}
-use Rattle.recogniser.proofs.Shift.{below, wider, grown}
+use Rattle.recogniser.proofs.Shift.{shifted-fits, fits-wider, shifted-grows}
 use Rattle.decoder.specs.Fit.{hasField5, keeps, nibbleFits, field4Fits, heldFits, field5Fits, fitBy, fitOf}
 use Rattle.decoder.proofs.Field5Commands.{length-has}
 
@@ -82,7 +82,7 @@ module _ (r : Recogniser) (bit cnt : ℕ) (b : bit < 2) where
   gathered t q =
       nibble (gatheredOf r (shifted 4 (r .shift) bit) .next)
       (omega (arith, ltb→lt (r .count) 3 q))
-      (grown (r .shift) bit b 4 (r .count) (shift-fits r t))
+      (shifted-grows (r .shift) bit b 4 (r .count) (shift-fits r t))
 
   pub body-fits : r .phase ≡ Body → T (nibbleFits r) → Fit cnt (bodyOf r bit)
   unfolding fitOf
@@ -95,7 +95,7 @@ module _ (r : Recogniser) (bit cnt : ℕ) (b : bit < 2) where
   unfolding fitOf
   field3-fits e t =
       cond-case (Fit cnt) (ltb (r .count) 3) (λ q. rw e (gathered t q))
-      (λ _. lt→ltb (shifted 4 (r .shift) bit) 16 (below 4 (r .shift) bit))
+      (λ _. lt→ltb (shifted 4 (r .shift) bit) 16 (shifted-fits 4 (r .shift) bit))
 
   pub field4-fits : r .phase ≡ Field4 → T (field4Fits r) → Fit cnt (field4Of r bit cnt)
   unfolding fitOf
@@ -107,7 +107,7 @@ module _ (r : Recogniser) (bit cnt : ℕ) (b : bit < 2) where
       (λ _. cond-case (Fit cnt) (ltb 0 (lengthOf (r .command) cnt))
       (λ q. in-field5 (startOf Field5 0 (r .command) (shifted 4 (r .shift) bit)) cnt (record {
         has = length-has (r .command) cnt (ltb→lt 0 _ q);
-        address = below 4 (r .shift) bit;
+        address = shifted-fits 4 (r .shift) bit;
         count = ltb→lt 0 _ q;
         held = λ _. omega arith;
       }))
@@ -128,7 +128,7 @@ module _ (r : Recogniser) (bit cnt : ℕ) (b : bit < 2) where
 
   kept-fits : r .held < 2 ^ r .count → keptOf (r .command) (r .held) bit < 2 ^ (r .count + 1)
   kept-fits h =
-      let g = grown (r .held) bit b 32 (r .count) h in
+      let g = shifted-grows (r .held) bit b 32 (r .count) h in
       cond-case (λ (v : ℕ). v < 2 ^ (r .count + 1)) (eqb (r .command) 1 || eqb (r .command) 3) (λ _. omega arith) (λ _. g)
 
   pub field5-fits : r .phase ≡ Field5 → T (field5Fits r cnt) → Fit cnt (field5Of r bit cnt)
@@ -138,7 +138,7 @@ module _ (r : Recogniser) (bit cnt : ℕ) (b : bit < 2) where
       cond-case (Fit cnt) (isFrame (r .command))
       (λ _. cond-case (Fit cnt) (endsOf r cnt) (λ _. tt)
       (λ q. rw e
-      (goes-on (r .held) (groupOf (r .group) (r .count) bit) (unsteadyOf r bit) t q (λ k. wider (r .held) (r .count) (h k)))))
+      (goes-on (r .held) (groupOf (r .group) (r .count) bit) (unsteadyOf r bit) t q (λ k. fits-wider (r .held) (r .count) (h k)))))
       (λ _. cond-case (Fit cnt) (endsOf r cnt) (λ _. tt)
       (λ q. rw e (goes-on (keptOf (r .command) (r .held) bit) (r .group) (r .unsteady) t q (λ k. kept-fits (h k)))))
 
@@ -153,7 +153,7 @@ unfolding fitOf
 start-fits cnt = tt
 
 step-fits-by : (r : Recogniser) (bit cnt : ℕ) → bit < 2 → (p : Phase) → r .phase ≡ p → T (fitBy p r cnt) → Fit cnt (stepBy p r bit cnt)
-step-fits-by r bit cnt b Hunt e t = hunt-fits (shifted 5 (r .shift) bit) cnt (below 5 (r .shift) bit) (meaningOf (shifted 5 (r .shift) bit))
+step-fits-by r bit cnt b Hunt e t = hunt-fits (shifted 5 (r .shift) bit) cnt (shifted-fits 5 (r .shift) bit) (meaningOf (shifted 5 (r .shift) bit))
 step-fits-by r bit cnt b Body e t = body-fits r bit cnt b e t
 step-fits-by r bit cnt b Field3 e t = field3-fits r bit cnt b e t
 step-fits-by r bit cnt b Field4 e t = field4-fits r bit cnt b e t

@@ -13,12 +13,12 @@ halved : (v : ℕ) → (v * 2 ^ 1) % 2 ^ 8 ≡ v % 128 * 2 ^ 1
 halved v = omega arith
 
 -- A register's number fits its width.
-pub below : (width v b : ℕ) → shifted width v b < 2 ^ width
-below width v b = mod-lt (v * 2 + b) (one-le-pow width 2 (omega arith))
+pub shifted-fits : (width v b : ℕ) → shifted width v b < 2 ^ width
+shifted-fits width v b = mod-lt (v * 2 + b) (one-le-pow width 2 (omega arith))
 
 -- A number of so many bits is one of one bit more.
-pub wider : (v count : ℕ) → v < 2 ^ count → v < 2 ^ (count + 1)
-wider v count l = rw (add-one, pow-suc) (omega arith)
+pub fits-wider : (v count : ℕ) → v < 2 ^ count → v < 2 ^ (count + 1)
+fits-wider v count l = rw (add-one, pow-suc) (omega arith)
 
 module _ (v b : ℕ) (h : b < 2) where
   joined : bitOr ((v * 2 ^ 1) % 2 ^ 8) b ≡ shifted 8 v b
@@ -35,5 +35,5 @@ module _ (v b : ℕ) (h : b < 2) where
   doubled = omega arith
 
   -- With a bit shifted in, a number of so many bits is one of one bit more.
-  pub grown : (width count : ℕ) → v < 2 ^ count → shifted width v b < 2 ^ (count + 1)
-  grown width count l = rw (add-one, pow-suc) (omega (arith, mod-le (v * 2 + b) (2 ^ width)))
+  pub shifted-grows : (width count : ℕ) → v < 2 ^ count → shifted width v b < 2 ^ (count + 1)
+  shifted-grows width count l = rw (add-one, pow-suc) (omega (arith, mod-le (v * 2 + b) (2 ^ width)))

@@ -19,14 +19,14 @@ use Rattle.stretches.specs.declared.Stretch.{Stretch}
 use Rattle.stretches.specs.Stretch.{stretched, oneMore, isQuiet, standing, huntBeyond, huntOn, bodyOn, stepOn}
 
 -- So many cycles, and then a stretch.
-abbrev pub before : ℕ → Stretch → Stretch
-before walked s = stretched (walked + s .taken) (transition (s .next) (s .event))
+abbrev pub cyclesAhead : ℕ → Stretch → Stretch
+cyclesAhead walked s = stretched (walked + s .taken) (transition (s .next) (s .event))
 
 -- Walked from a place to another: the whole stretch, and what is left of it.
 pub record Invariant (whole left : Stretch) (place at end : ℕ) : Type 0 where
   pub low : place ≤ at
   pub high : at ≤ end
-  pub same : before (at - place) left ≡ whole
+  pub same : cyclesAhead (at - place) left ≡ whole
 
 pub initially : (s : Stretch) (place end : ℕ) → place < end → Invariant s s place place end
 initially s place end h = record {

@@ -37,19 +37,19 @@ standing [] list free whole fits = refl
 standing (x ∷ xs) list free whole fits = standing-some (x ∷ xs) list free whole (omega arith) fits
 
 -- what holds of an answer to a call: it took a first part of the bits offered, and its buffers are those of that part
-pub record Kept (d : Decoder) (c : Call) (l : CallResult) : Type 0 where
+pub record CallKept (d : Decoder) (c : Call) (l : CallResult) : Type 0 where
   pub taken : l .taken .report .bits ≤ length (offered c)
   pub system : systemAfter l ≡ stateAfter turnOf (lent d c) (take (l .taken .report .bits) (offered c))
   pub words : take (listUnit * l .taken .report .records) (drop (c .free) (l .list)) ≡ wordsAfter turnOf (lent d c) (take (l .taken .report .bits) (offered c))
 
 module _ (d : Decoder) (c : Call) where
-  away : (e : Ending) → Kept d c (refused d c e)
+  away : (e : Ending) → CallKept d c (refused d c e)
   away e = record { taken = omega arith; system = refl; words = refl }
 
   run : Run System
   run = runOf turnOf (offered c) (lent d c) (length (c .list) - c .free)
 
-  through : Kept d c (takenOf d c)
+  through : CallKept d c (takenOf d c)
   unfolding takenOf run
   through =
       let f = run-faithful turnOf (offered c) (lent d c) (length (c .list) - c .free) in
@@ -60,34 +60,34 @@ module _ (d : Decoder) (c : Call) where
         words = rw z (standing (run .words) (c .list) (c .free) (f .whole) (f .fits) ∙ f .words);
       }
 
-  pub call-kept : Kept d c (takeOf d c)
+  pub call-kept : CallKept d c (takeOf d c)
   unfolding takeOf
   call-kept =
-      choice (Kept d c) (not (soundOf d)) (λ _. away Unsound)
-      (λ _. choice (Kept d c) (not (buffersFit (length (c .store)) (length (c .tray)) (length (c .list)) (c .free))) (λ _. away WrongBuffers)
-      (λ _. choice (Kept d c) (not (rangeFits (length (c .input)) (c .first) (c .count))) (λ _. away WrongRange)
-      (λ _. choice (Kept d c) (not (clockFits (d .next) (c .count))) (λ _. away ClockOver) (λ _. through))))
+      choice (CallKept d c) (not (soundOf d)) (λ _. away Unsound)
+      (λ _. choice (CallKept d c) (not (buffersFit (length (c .store)) (length (c .tray)) (length (c .list)) (c .free))) (λ _. away WrongBuffers)
+      (λ _. choice (CallKept d c) (not (rangeFits (length (c .input)) (c .first) (c .count))) (λ _. away WrongRange)
+      (λ _. choice (CallKept d c) (not (clockFits (d .next) (c .count))) (λ _. away ClockOver) (λ _. through))))
 
 -- a list of calls, store and tray carried over
-abbrev after : System → Part → System
-after s p = systemAfter (resultOf s p)
+abbrev afterPart : System → Part → System
+afterPart s p = systemAfter (resultOf s p)
 
-part-kept : (s : System) (p : Part) → Kept (decoderOf s) (callOf s p) (resultOf s p)
+part-kept : (s : System) (p : Part) → CallKept (decoderOf s) (callOf s p) (resultOf s p)
 part-kept s p = call-kept (decoderOf s) (callOf s p)
 
 pub carried-system : (s : System) (ps : List Part) → carriedSystem s ps ≡ stateAfter turnOf s (carriedBits s ps)
 unfolding carriedSystem carriedBits
 carried-system s [] = refl
 carried-system s (p ∷ ps) =
-    let later : List ℕ = carriedBits (after s p) ps in
-    carried-system (after s p) ps ∙ ap (λ u. stateAfter turnOf u later) (part-kept s p .system)
+    let later : List ℕ = carriedBits (afterPart s p) ps in
+    carried-system (afterPart s p) ps ∙ ap (λ u. stateAfter turnOf u later) (part-kept s p .system)
     ∙ sym (state-append turnOf s (bitsTaken (decoderOf s) (callOf s p)) later)
 
 pub carried-words : (s : System) (ps : List Part) → carriedWords s ps ≡ wordsAfter turnOf s (carriedBits s ps)
 unfolding carriedWords carriedBits
 carried-words s [] = refl
 carried-words s (p ∷ ps) =
-    let later : List ℕ = carriedBits (after s p) ps in
+    let later : List ℕ = carriedBits (afterPart s p) ps in
     let k = part-kept s p in
-    ap₂ _++_ (k .words) (carried-words (after s p) ps ∙ ap (λ u. wordsAfter turnOf u later) (k .system))
+    ap₂ _++_ (k .words) (carried-words (afterPart s p) ps ∙ ap (λ u. wordsAfter turnOf u later) (k .system))
     ∙ sym (words-append turnOf s (bitsTaken (decoderOf s) (callOf s p)) later)
