@@ -45,7 +45,8 @@ plan-by true true true false false z = refl
 plan-row : (plan : Plan) → planFits plan ≡ (threeInMask plan && threeDiffer plan)
 unfolding planFits
 plan-row plan =
-    plan-by (existsAt plan (plan .csr)) (existsAt plan (plan .feen)) (existsAt plan (plan .cnt)) (eqb (plan .csr) (plan .feen)) (eqb (plan .csr) (plan .cnt)) (eqb (plan .feen) (plan .cnt))
+    plan-by (existsAt plan (plan .csr)) (existsAt plan (plan .feen)) (existsAt plan (plan .cnt))
+    (eqb (plan .csr) (plan .feen)) (eqb (plan .csr) (plan .cnt)) (eqb (plan .feen) (plan .cnt))
 
 opens-by : (plan : Plan) (cycle : ℕ) (p q : Bool) → planFits plan ≡ p → (threeInMask plan && threeDiffer plan) ≡ p → leb clockLimit cycle ≡ q → Opens plan cycle
 unfolding openOf

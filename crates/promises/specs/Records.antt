@@ -3,19 +3,17 @@
 -- endings and soundness.
 -- Assumes nothing.
 use mathlib.Core.Path.{_≡_}
-use mathlib.Core.Bool.{true}
-use mathlib.Core.List.{List, [], _∷_, _++_}
+use mathlib.Core.List.{List}
 use Prim.Native.Nat.{ℕ, _*_, _-_, _<_}
 use lib.Dec.{T}
 use lib.ListN.{length, take}
 use Rattle.registers.specs.declared.Plan.{Plan}
-use Rattle.controller.specs.Records.{isFrameHead}
 use Rattle.decoder.specs.declared.Decoder.{Decoder}
 use Rattle.limits.specs.Limits.{listUnit}
 use Rattle.decoder.specs.Opening.{openOf}
 use Rattle.decoder.specs.Sound.{soundOf}
 use Rattle.taking.specs.declared.Ending.the-variants.{Done, Frame, ListFull}
-use Rattle.taking.specs.Run.{stateAfter, wordsAfter}
+use Rattle.taking.specs.Run.{LastIsFrame, stateAfter, wordsAfter}
 use Rattle.taking.specs.Turn.{System, turnOf}
 use Rattle.taking.specs.Take.{Call, offered, lent, takenOf, takeOf}
 use Rattle.taking.specs.Calls.{bitsTaken, wordsStanding, systemAfter, Part, carriedBits, carriedWords, carriedSystem}
@@ -24,14 +22,6 @@ use Rattle.taking.specs.Calls.{bitsTaken, wordsStanding, systemAfter, Part, car
 pub record Exact (d : Decoder) (c : Call) : Type 0 where
   pub state : systemAfter (takeOf d c) ≡ stateAfter turnOf (lent d c) (bitsTaken d c)
   pub words : wordsStanding d c ≡ wordsAfter turnOf (lent d c) (bitsTaken d c)
-
--- The last record of some words is a frame's.
-pub record LastIsFrame (words : List ℕ) : Type 0 where
-  pub before : List ℕ
-  pub head : ℕ
-  pub value : ℕ
-  pub parts : words ≡ before ++ (head ∷ value ∷ [])
-  pub frame : isFrameHead head ≡ true
 
 -- Each ending of a call that is not refused has its condition: "'done' .. with every bit of its count taken", 'list full' "when bits remain and fewer than
 -- two words are free", 'frame' "after a record of kind 24, 25 or 26".

@@ -46,15 +46,19 @@ noEvent = requesting Nothing
 abbrev pub moveTo : Recogniser → Request → Transition
 moveTo next request = transition next (requesting request)
 
--- One bit more of a body, Field 3 or Field 4 that is not whole yet.
-abbrev pub gatheredOf : Recogniser → ℕ → Transition
-gatheredOf r nibble = moveTo (record {
+-- The same phase, with these bits of it received.
+abbrev pub standing : Recogniser → ℕ → ℕ → Recogniser
+standing r shift count = record {
   phase = r .phase;
-  shift = nibble;
-  count = r .count + 1;
+  shift = shift;
+  count = count;
   command = r .command;
   address = r .address;
   held = r .held;
   group = r .group;
   unsteady = r .unsteady;
-}) Nothing
+}
+
+-- One bit more of a body, Field 3 or Field 4 that is not whole yet.
+abbrev pub gatheredOf : Recogniser → ℕ → Transition
+gatheredOf r nibble = moveTo (standing r nibble (r .count + 1)) Nothing

@@ -12,11 +12,11 @@ use Rattle.recogniser.specs.declared.Meaning.{Meaning}
 use Rattle.recogniser.specs.declared.Meaning.the-variants.{Quiet, Trigger, Header}
 use Rattle.recogniser.specs.declared.Recogniser.{Recogniser}
 use Rattle.recogniser.specs.declared.Transition.{Transition}
-use Rattle.recogniser.specs.Parts.{shifted, transition}
+use Rattle.recogniser.specs.Parts.{shifted, transition, standing}
 use Rattle.recogniser.specs.Hunting.{meaningOf, huntBy, bodyOf}
 use Rattle.recogniser.specs.Step.{stepOf}
 use Rattle.stretches.specs.declared.Stretch.{Stretch}
-use Rattle.stretches.specs.Stretch.{stretched, oneMore, isQuiet, standing, huntBeyond, huntOn, bodyOn, stepOn}
+use Rattle.stretches.specs.Stretch.{stretched, oneMore, isQuiet, huntBeyond, huntOn, bodyOn, stepOn}
 
 -- So many cycles, and then a stretch.
 abbrev pub cyclesAhead : ℕ → Stretch → Stretch

@@ -24,19 +24,6 @@ stretched taken h = record { taken = taken; next = h .next; event = h .event }
 abbrev pub oneMore : Stretch → Stretch
 oneMore s = record { taken = suc (s .taken); next = s .next; event = s .event }
 
--- The same phase, with these bits of it received.
-abbrev pub standing : Recogniser → ℕ → ℕ → Recogniser
-standing r shift count = record {
-  phase = r .phase;
-  shift = shift;
-  count = count;
-  command = r .command;
-  address = r .address;
-  held = r .held;
-  group = r .group;
-  unsteady = r .unsteady;
-}
-
 -- Whether a window's meaning is nothing.
 abbrev pub isQuiet : Meaning → Bool
 isQuiet Quiet = true

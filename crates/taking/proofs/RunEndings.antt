@@ -13,16 +13,8 @@ use Rattle.controller.specs.declared.Record.{Record}
 use Rattle.controller.specs.Records.{headOf, isFrameHead}
 use Rattle.taking.specs.declared.Ending.{Ending}
 use Rattle.taking.specs.declared.Ending.the-variants.{Done, Frame, ListFull}
-use Rattle.taking.specs.Run.{Turned, Run, ended, oneBit, oneRecord, afterCycle, runOf}
+use Rattle.taking.specs.Run.{Turned, Run, LastIsFrame, ended, oneBit, oneRecord, afterCycle, runOf}
 use Rattle.taking.specs.Take.{endingNumber}
-
--- The last record of some words is a frame's.
-pub record LastIsFrame (words : List ℕ) : Type 0 where
-  pub before : List ℕ
-  pub head : ℕ
-  pub value : ℕ
-  pub parts : words ≡ before ++ (head ∷ value ∷ [])
-  pub frame : isFrameHead head ≡ true
 
 -- What holds of a run of some bits into a room.
 pub record Ended {W : Type 0} (bits : List ℕ) (room : ℕ) (r : Run W) : Type 0 where

@@ -1,6 +1,7 @@
 -- A run over bits, for any state: what a taking call does once it is not refused (document 01, "A taking call").
 -- Assumes nothing.
-use mathlib.Core.Bool.{cond}
+use mathlib.Core.Bool.{true, cond}
+use mathlib.Core.Path.{_≡_}
 use mathlib.Core.List.{List, [], _∷_, _++_}
 use Prim.Native.Nat.{ℕ, suc, _-_}
 use lib.Dec.{ltb}
@@ -23,6 +24,14 @@ pub record Run (S : Type 0) : Type 0 where
   pub bits : ℕ
   pub words : List ℕ
   pub ending : Ending
+
+-- The last record of some words is a frame's.
+pub record LastIsFrame (words : List ℕ) : Type 0 where
+  pub before : List ℕ
+  pub head : ℕ
+  pub value : ℕ
+  pub parts : words ≡ before ++ (head ∷ value ∷ [])
+  pub frame : isFrameHead head ≡ true
 
 module _ {S : Type 0} where
   abbrev pub ended : S → Ending → Run S

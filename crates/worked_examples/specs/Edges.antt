@@ -9,7 +9,7 @@ use Rattle.recogniser.specs.declared.Phase.the-variants.{Field5}
 use Rattle.recogniser.specs.declared.FrameBit.{FrameBit}
 use Rattle.recogniser.specs.declared.FrameBit.the-variants.{None, At}
 use Rattle.recogniser.specs.declared.Recogniser.{Recogniser}
-use Rattle.recogniser.specs.Parts.{startOf}
+use Rattle.recogniser.specs.Parts.{startOf, standing}
 use Rattle.recogniser.specs.Fields.{lengthOf}
 use Rattle.recogniser.specs.Step.{stepOf}
 use Rattle.frames.specs.Tray.{partOf}
@@ -25,20 +25,9 @@ use Rattle.taking.specs.Take.{Call, call, takeOf, endingNumber}
 use Rattle.taking.specs.Calls.{wordsStanding}
 use Rattle.worked_examples.specs.MarkedStreams.{running}
 
--- The recogniser at the start of a WrFrontEnd's Field 5, and with so many of its bits received.
+-- The recogniser in a WrFrontEnd's Field 5, with so many of its bits received.
 abbrev pub inField : ℕ → Recogniser
-inField count =
-    let r = startOf Field5 0 4 0 in
-    record {
-      phase = r .phase;
-      shift = r .shift;
-      count = count;
-      command = r .command;
-      address = r .address;
-      held = r .held;
-      group = r .group;
-      unsteady = r .unsteady;
-    }
+inField count = standing (startOf Field5 0 4 0) 0 count
 
 abbrev pub isFrameBit : FrameBit → ℕ
 isFrameBit None = 0

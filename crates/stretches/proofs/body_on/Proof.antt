@@ -3,7 +3,8 @@
 use Prim.Native.Nat.{_-_}
 use native.Mathlib.Omega.{arith}
 use Rattle.bits.specs.Bits.{bitsOf}
-use Rattle.stretches.specs.Stretch.{standing, bodyOn}
+use Rattle.recogniser.specs.Parts.{standing}
+use Rattle.stretches.specs.Stretch.{bodyOn}
 use Rattle.bits.proofs.BitRanges.{bits-over}
 use Rattle.stretches.proofs.StretchLoops.{Invariant, initially, again, over, body-left, body-last}
 use borrow.Author.Needs.{needs}
