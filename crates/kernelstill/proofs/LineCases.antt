@@ -15,8 +15,8 @@ use Rattle.output.specs.Block.{Block, block, putIfFits}
 use Rattle.output.proofs.Pieces.{put-when-fits, put-when-full}
 use Rattle.hexlines.specs.declared.HexLine.{HexLine}
 use Rattle.hexlines.specs.Line.{Read, lineBytes, hexNumber, readAs, readOf}
-use Rattle.layout.specs.Digits.{charactersOf}
-use Rattle.layout.specs.ListingLines.{numbersLine, recordLine}
+use Rattle.layout.specs.ListingLines.{recordLine}
+use Rattle.layout.proofs.LineLengths.{record-line-length}
 use Rattle.kernelstill.specs.Lines.{lineResult, hexResultOf, recordResultOf}
 
 module _ (line bytes : List ℕ) where
@@ -28,10 +28,6 @@ module _ (line bytes : List ℕ) where
       → lineResult (hexNumber r) after ≡ hexResultOf line bytes
   unfolding hexResultOf readOf
   line-read h r after e = simp (le-ltb (length bytes) lineBytes h) (ap (λ (x : Read). lineResult (x .number) (x .buffer)) e)
-
-record-length : (head value : ℕ) → length (recordLine head value) ≡ 28
-unfolding numbersLine charactersOf
-record-length head value = refl
 
 module _ (head value : ℕ) (line after : List ℕ) (next : ℕ) (e : block after next ≡ putIfFits line 0 (recordLine head value)) where
   abbrev text : List ℕ
@@ -54,7 +50,7 @@ module _ (head value : ℕ) (line after : List ℕ) (next : ℕ) (e : block afte
       ⊎-elim
       (λ (f : leb (length text) (length line) ≡ true).
       let moved = ap (λ (b : Block). b .next) (fit f) in
-      absurd (omega (arith, z, moved, record-length head value)))
+      absurd (omega (arith, z, moved, record-line-length head value)))
       (λ (f : leb (length text) (length line) ≡ false). simp f (ap (λ (b : Block). lineResult 4 (b .bytes)) (over f)))
       (cases (leb (length text) (length line)))
 

@@ -19,7 +19,7 @@ use Rattle.taking.specs.declared.Ending.the-variants.{Frame, ListFull, Done}
 use Rattle.taking.specs.Run.{Run, ended, oneBit, oneRecord, afterCycle, runOf, stateAfter}
 use Rattle.taking.specs.Turn.{System, turnOf}
 use Rattle.layout.specs.ListingLines.{recordLine}
-use Rattle.layout.proofs.LineLengths.{line-length, frame-length}
+use Rattle.layout.proofs.LineLengths.{frame-length, record-line-length}
 use Rattle.listing.specs.Records.{frameText, recordText, recordsText}
 use Rattle.program.specs.Listing.{bitsText}
 
@@ -35,9 +35,6 @@ frame-text-length frames tray head value =
     choice P (frames && isFrameHead head)
     (λ _. choice P (eqb bits 0) (λ _. omega arith) (λ _. omega (arith, frame-length (partOf tray bits), part-length tray bits)))
     (λ _. omega arith)
-
-record-line-length : (head value : ℕ) → length (recordLine head value) ≡ 28
-record-line-length head value = line-length [] _ _ refl
 
 -- a record that is no frame's has only its line, whatever the tray holds
 text-without-frame : (frames : Bool) (tray : List ℕ) (head value : ℕ) → isFrameHead head ≡ false → recordText frames tray head value ≡ recordLine head value
