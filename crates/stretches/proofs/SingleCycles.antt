@@ -86,33 +86,18 @@ module _ (cnt : ℕ) where
   passes-by r bit bits Field4 e = last r bit bits
   passes-by r bit bits Field5 e = last r bit bits
 
-  some : {r : Recogniser} {bits : List ℕ} {s : Stretch} → Passes cnt r bits s → 1 ≤ length bits → 1 ≤ s .taken
-  some (ends r) h = h
-  some (last r bit bits) h = omega arith
-  some (more r bit bits s e p) h = omega arith
+-- It takes one at least where there is one, and no more than there are.
+pub passes-some : {cnt : ℕ} {r : Recogniser} {bits : List ℕ} {s : Stretch} → Passes cnt r bits s → 1 ≤ length bits → 1 ≤ s .taken
+passes-some (ends r) h = h
+passes-some (last r bit bits) h = omega arith
+passes-some (more r bit bits s e p) h = omega arith
 
-  within : {r : Recogniser} {bits : List ℕ} {s : Stretch} → Passes cnt r bits s → s .taken ≤ length bits
-  within (ends r) = omega arith
-  within (last r bit bits) = omega arith
-  within (more r bit bits s e p) = omega (arith, within p)
-
-  none : (r : Recogniser) (p : Phase) → stretchBy p r cnt [] .taken ≡ 0
-  none r Hunt = refl
-  none r Body = refl
-  none r Field3 = refl
-  none r Field4 = refl
-  none r Field5 = refl
+pub passes-within : {cnt : ℕ} {r : Recogniser} {bits : List ℕ} {s : Stretch} → Passes cnt r bits s → s .taken ≤ length bits
+passes-within (ends r) = omega arith
+passes-within (last r bit bits) = omega arith
+passes-within (more r bit bits s e p) = omega (arith, passes-within p)
 
 -- A stretch is single cycles.
 pub stretch-passes : (r : Recogniser) (cnt bit : ℕ) (bits : List ℕ) → Passes cnt r (bit ∷ bits) (stretchOf r cnt (bit ∷ bits))
 unfolding stretchOf
 stretch-passes r cnt bit bits = passes-by cnt r bit bits (r .phase) refl
-
--- It takes one at least, and no more than there are.
-pub stretch-some : (r : Recogniser) (cnt bit : ℕ) (bits : List ℕ) → 1 ≤ stretchOf r cnt (bit ∷ bits) .taken
-stretch-some r cnt bit bits = some cnt (stretch-passes r cnt bit bits) (omega arith)
-
-pub stretch-within : (r : Recogniser) (cnt : ℕ) (bits : List ℕ) → stretchOf r cnt bits .taken ≤ length bits
-unfolding stretchOf
-stretch-within r cnt [] = omega (arith, none cnt r (r .phase))
-stretch-within r cnt (bit ∷ bits) = within cnt (stretch-passes r cnt bit bits)

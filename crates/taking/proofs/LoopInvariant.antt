@@ -17,7 +17,7 @@ use Rattle.recogniser.specs.declared.Request.the-variants as request
 use Rattle.recogniser.specs.declared.Recogniser.{Recogniser}
 use Rattle.stretches.specs.declared.Stretch.{Stretch}
 use Rattle.stretches.specs.Stretch.{stretchOf}
-use Rattle.stretches.proofs.SingleCycles.{Passes, ends, last, more, stretch-passes, stretch-some, stretch-within}
+use Rattle.stretches.proofs.SingleCycles.{Passes, ends, last, more, passes-some, passes-within, stretch-passes}
 use Rattle.frames.specs.Tray.{trayOf}
 use Rattle.registers.specs.declared.Plan.{Plan}
 use Rattle.registers.specs.declared.Model.{Model}
@@ -157,28 +157,27 @@ module _ {d : Decoder} {c : Call} {store tray list : List ℕ} {r : Recogniser} 
         ∙ ap (finished taken ((at - c .free) / 2) list at) (sym (no-room here next-bit behind (length list - at) h))
         ∙ (rw first at (g .rest))
 
-    -- after a stretch, given what its event did
-    module _ (room : 2 ≤ length list - at) (s : Stretch)
-        (walked : s ≡ stretchOf r cnt (bitsOf (c .input) (c .first + taken) (c .first + c .count - (c .first + taken)))) where
+    -- a stretch of the input that is left, as single cycles
+    pub stretch-walks : (s : Stretch) → s ≡ stretchOf r cnt (bitsOf (c .input) (c .first + taken) (c .first + c .count - (c .first + taken)))
+        → Passes cnt r (left c taken) s
+    stretch-walks s walked =
+        let e : c .first + c .count - (c .first + taken) ≡ c .count - taken = omega arith in
+        let went : s ≡ stretchOf r cnt (left c taken) = rw e at walked in
+        rw (went, first) (stretch-passes r cnt _ _)
+
+    -- after single cycles of which only the last asks for anything, however far they go
+    module _ (room : 2 ≤ length list - at) (s : Stretch) (passes : Passes cnt r (left c taken) s) where
       abbrev on : ℕ
       on = taken + s .taken
 
-      went : s ≡ stretchOf r cnt (left c taken)
-      went = let e : c .first + c .count - (c .first + taken) ≡ c .count - taken = omega arith in rw e at walked
+      long-left : length (left c taken) ≡ c .count - taken
+      long-left = length-bits (c .input) (c .first + taken) (c .count - taken)
 
-      some : 1 ≤ s .taken
-      some = rw (went, first) (stretch-some r cnt _ _)
-
-      pub within : s .taken ≤ c .count - taken
-      within =
-          let h : s .taken ≤ length (left c taken) = rw went (stretch-within r cnt (left c taken)) in
-          rw (length-bits (c .input) (c .first + taken) (c .count - taken)) at h
+      within : s .taken ≤ c .count - taken
+      within = rw long-left at (passes-within passes)
 
       pub moved : (1 ≤ s .taken) × (on ≤ c .count)
-      moved = (some, let h = within in omega arith)
-
-      passes : Passes cnt r (left c taken) s
-      passes = rw (went, first) (stretch-passes r cnt _ _)
+      moved = (passes-some passes (omega (arith, long-left)), let h = within in omega arith)
 
       -- what the last cycle of a stretch asks for has a record that fits
       pub stretched-fits : requestFits (s .event .request) ≡ true

@@ -4,8 +4,9 @@ use mathlib.Core.Path.{refl, _∙_}
 use Prim.Native.Nat.{_+_, _-_, _≤_}
 use native.Mathlib.Omega.{arith}
 use borrow.Author.Needs.{needs}
-use Rattle.taking.specs.Take.{call}
-use Rattle.taking.proofs.LoopInvariant.{Invariant, initially, done, full, quiet, performed, moved, stretched-fits}
+use Rattle.stretches.proofs.SingleCycles.{Passes}
+use Rattle.taking.specs.Take.{Call, call}
+use Rattle.taking.proofs.LoopInvariant.{Invariant, left, initially, stretch-walks, done, full, quiet, performed, moved, stretched-fits}
 use Rattle.taking.proofs.run.Statement.{statement}
 use Rattle.taking.proofs.run.Tie as tie
 
@@ -59,9 +60,18 @@ stopped c = c .before .before .before .before
 abbrev going-on : tie.Else2 Inv-loop μ-loop → Performed
 going-on c = c .before .before .before .before
 
+-- The call as it was asked, and a stretch of it as single cycles.
+abbrev asked : Called → Call
+asked s =
+    let a = s .args in
+    call (a .input .now) (a .first) (a .count) (a .store .now) (a .tray .now) (a .list .now) (a .free)
+
+walks : (a : Walked) → Passes (turn a .loop .done .cnt) (turn a .loop .recogniser) (left (asked (called (turn a))) (turn a .loop .taken)) (a .advance .result)
+walks a = stretch-walks (turn a .loop .inv) (a .before .before .before .loop-test .taken) (a .advance .result) (a .advance .ensures)
+
 -- A stretch moves on, and stays within the call.
 moves : (a : Walked) → (1 ≤ a .advance .result .taken) × (turn a .loop .taken + a .advance .result .taken ≤ called (turn a) .args .count)
-moves a = moved (turn a .loop .inv) (a .before .before .before .loop-test .taken) (a .before .if1 .left) (a .advance .result) (a .advance .ensures)
+moves a = moved (turn a .loop .inv) (a .before .before .before .loop-test .taken) (a .before .if1 .left) (a .advance .result) (walks a)
 
 nothing-requires : tie.Need-nothing-requires Inv-loop μ-loop
 nothing-requires c κs = search needs
@@ -122,7 +132,7 @@ loop-again : tie.Need-loop-again Inv-loop μ-loop
 loop-again c =
     let k = c .before .before .before in
     let a = walked k in
-    quiet (turn a .loop .inv) (a .before .before .before .loop-test .taken) (a .before .if1 .left) (a .advance .result) (a .advance .ensures)
+    quiet (turn a .loop .inv) (a .before .before .before .loop-test .taken) (a .before .if1 .left) (a .advance .result) (walks a)
     _ (k .before .keep .ensures) (k .tray .given) (c .enum-told .given .1)
 
 add-time : tie.Need-add-time Inv-loop μ-loop
@@ -143,7 +153,7 @@ perform-requires c κs =
     let a = walked (t .before .before) in
     let l = turn a in
     let m = moves a in
-    let fits = stretched-fits (l .loop .inv) (a .before .before .before .loop-test .taken) (a .before .if1 .left) (a .advance .result) (a .advance .ensures) in
+    let fits = stretched-fits (l .loop .inv) (a .before .before .before .loop-test .taken) (a .before .if1 .left) (a .advance .result) (walks a) in
     (omega (arith, l, called l), (l .loop .inv .long ∙ called l .pre .0 .1), fits, a .before .if1 .left)
 
 ended-requires-2 : tie.Need-ended-requires-2 Inv-loop μ-loop
@@ -153,7 +163,7 @@ ended-requires-2 c κs =
     let a = walked k in
     let l = turn a in
     let m = moves a in
-    let g = performed (l .loop .inv) (a .before .before .before .loop-test .taken) (a .before .if1 .left) (a .advance .result) (a .advance .ensures)
+    let g = performed (l .loop .inv) (a .before .before .before .loop-test .taken) (a .before .if1 .left) (a .advance .result) (walks a)
     _ (k .before .keep .ensures) (k .tray .given) _ (p .before .perform .ensures) (p .store .given) in
     (omega (arith, l, called l), g .from)
 
@@ -177,7 +187,7 @@ returns-2 c =
     let p = stopped (c .before) in
     let k = kept p in
     let a = walked k in
-    let g = performed (turn a .loop .inv) (a .before .before .before .loop-test .taken) (a .before .if1 .left) (a .advance .result) (a .advance .ensures)
+    let g = performed (turn a .loop .inv) (a .before .before .before .loop-test .taken) (a .before .if1 .left) (a .advance .result) (walks a)
     _ (k .before .keep .ensures) (k .tray .given) _ (p .before .perform .ensures) (p .store .given) in
     rw (c .ended2 .ensures) (g .stopped (c .before .if2 .taken))
 
@@ -192,7 +202,7 @@ loop-again-2 c =
     let p = going-on c in
     let k = kept p in
     let a = walked k in
-    let g = performed (turn a .loop .inv) (a .before .before .before .loop-test .taken) (a .before .if1 .left) (a .advance .result) (a .advance .ensures)
+    let g = performed (turn a .loop .inv) (a .before .before .before .loop-test .taken) (a .before .if1 .left) (a .advance .result) (walks a)
     _ (k .before .keep .ensures) (k .tray .given) _ (p .before .perform .ensures) (p .store .given) in
     g .onwards (c .if2 .left)
 
