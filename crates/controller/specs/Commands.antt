@@ -16,7 +16,7 @@ use Rattle.registers.specs.declared.Pointers.{Pointers}
 use Rattle.registers.specs.declared.Model.{Model}
 use Rattle.registers.specs.Plan.{existsAt}
 use Rattle.registers.specs.Registers.{registerOf, cntOf, feenOf, readOf, writtenOf}
-use Rattle.registers.specs.Parts.{counters, warnings, pointers, zeroPointers, cleared, withRunning, withCounters, withWarned, withRegisters, withPointers}
+use Rattle.registers.specs.Parts.{counters, warnings, pointers, zeroPointers, cleared, withRunning, withCounters, withWarnings, withRegisters, withPointers}
 use Rattle.registers.specs.Fifos.{movedOn, writeOf, readWordOf}
 use Rattle.controller.specs.declared.Acted.{Acted}
 use Rattle.controller.specs.declared.Cycle.{Cycle}
@@ -56,7 +56,7 @@ abbrev pub lv1Of : Plan → Model → Bool → ℕ → Acted
 lv1Of plan m flip time =
     let w = m .warnings in
     recorded
-    (withCounters (cond (m .running) (lv1Counted (m .counters)) (m .counters)) (withWarned (warnings (w .wlv1 || flip) (w .wfst) (w .wslw)) m))
+    (withCounters (cond (m .running) (lv1Counted (m .counters)) (m .counters)) (withWarnings (warnings (w .wlv1 || flip) (w .wfst) (w .wslw)) m))
     (lv1Record (m .running) flip (sendsOf plan m) (m .counters) time)
 
 -- "BCR, in RunMode, moves the base. ECR, in RunMode, sets L1ID and all FIFO pointers to 0." CAL and SYNC change nothing here.
@@ -82,7 +82,7 @@ badFastRecord body time = recordOf time kindBadFast 0 body
 abbrev pub badFastOf : Model → ℕ → ℕ → Acted
 badFastOf m body time =
     let w = m .warnings in
-    recorded (withWarned (warnings (w .wlv1) true (w .wslw)) m) (badFastRecord body time)
+    recorded (withWarnings (warnings (w .wlv1) true (w .wslw)) m) (badFastRecord body time)
 
 -- "RunMode ends at the ninth header bit of any Slow".
 abbrev pub leaveOf : Model → Acted
@@ -146,7 +146,7 @@ resetFrontEndsOf m value time = recorded m (slowRecord time 10 (flagActed true) 
 abbrev pub badSlowOf : Model → ℕ → ℕ → Acted
 badSlowOf m command time =
     let w = m .warnings in
-    recorded (withWarned (warnings (w .wlv1) (w .wfst) true) m) (recordOf time kindBadSlow 0 command)
+    recorded (withWarnings (warnings (w .wlv1) (w .wfst) true) m) (recordOf time kindBadSlow 0 command)
 
 -- "front-end frames, control bits × 65,536 + data bits; WrReceiver, the count of its bits"
 abbrev pub frameValueOf : ℕ → ℕ → ℕ

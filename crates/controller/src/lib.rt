@@ -1,7 +1,7 @@
 // What each request does to the registers, FIFOs, counters, warnings and RunMode, and its record.
 ghost use mathlib.Core.Path.{_≡_};
 ghost use mathlib.Core.Bool.{true};
-ghost use Prim.Native.Nat.{_<_, _^_};
+ghost use Prim.Native.Nat.{_<_};
 ghost use lib.ListN.{length};
 ghost use Rattle.limits.specs.Limits.{clockLimit, storeLength};
 ghost use Rattle.controller.specs.Records.{kindOf, recordOf, headOf, isFrameHead, frameBitsOf};
@@ -108,7 +108,7 @@ fn answer(model: Model, time: u64, kind: u8, flags: u8, value: u64) -> Acted
     }
 }
 
-// The same of a record of which only the first word is at hand.
+// Whether a record of which only the first word is at hand is a frame's.
 pub fn is_frame_head(head: u64) -> bool
     ensures { λ r. ⌜ r ≡ isFrameHead head ⌝ }
 {

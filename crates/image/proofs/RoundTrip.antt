@@ -17,7 +17,7 @@ use Rattle.recogniser.specs.declared.Phase.{Phase}
 use Rattle.recogniser.specs.declared.Phase.the-variants.{Hunt, Body, Field3, Field4, Field5}
 use Rattle.decoder.specs.declared.Decoder.{Decoder}
 use Rattle.image.specs.Fields.{whole, Field, fields, phaseNumber, phaseOf, nameOf, size, limitOf, numbersIn, Numbers, stateFrom}
-use Rattle.image.specs.Image.{imageLength, layout, wordsOf, imageOf, lowWords, numbersFrom, stateOf, sameWords, imageFits, Widths}
+use Rattle.image.specs.Image.{imageLength, layout, fieldWords, imageOf, lowWords, numbersFrom, stateOf, sameWords, imageFits, Widths}
 use Rattle.image.proofs.LowWords.{low-words-same}
 use Rattle.image.proofs.Widths.{Within, WithinAll, within, image-length}
 
@@ -43,10 +43,10 @@ stateNumbers d (f ∷ fs) name = elim (eqt (nameOf f) name) [ true ↦ numbersIn
 
 module _ (d : Decoder) (name : String) where
   numbers-back : (fs : List Field) → WithinAll d fs → (front : List ℕ) (at : ℕ) → length front ≡ at
-      → numbersFrom fs at (front ++ wordsOf fs d) name ≡ stateNumbers d fs name
+      → numbersFrom fs at (front ++ fieldWords fs d) name ≡ stateNumbers d fs name
   numbers-back [] w front at e = refl
   numbers-back (f ∷ fs) w front at e =
-      let here = field-back d f (w .0) front (wordsOf fs d) at e in
+      let here = field-back d f (w .0) front (fieldWords fs d) at e in
       let there = numbers-back fs (w .1) (front ++ numbersIn f d) (at + size f) (omega (arith, length-append front (numbersIn f d), e, w .0 .long)) in
       ap₂ (λ (a b : List ℕ). elim (eqt (nameOf f) name) [ true ↦ a | false ↦ b ]) here (rw append-assoc at there)
 

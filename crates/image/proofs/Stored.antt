@@ -8,7 +8,7 @@ use lib.ListN.{length, drop, replicate, length-append, length-drop, length-repli
 use lib.Seq.{sets, sets-eq, take-at, drop-append-add}
 use Rattle.decoder.specs.declared.Decoder.{Decoder}
 use Rattle.image.specs.Fields.{Field, scalars, arrays, size, limitOf, numbersIn}
-use Rattle.image.specs.Image.{imageLength, wordsOf, limitsOf, imageOf, placeOf, scalarsOf, Widths}
+use Rattle.image.specs.Image.{imageLength, fieldWords, wordLimitsOf, imageOf, wordPlace, scalarsOf, Widths}
 use Rattle.image.proofs.Widths.{WithinAll, arrays-within}
 
 -- A part behind those that are stored.
@@ -24,22 +24,22 @@ abbrev pub stored : List Field → ℕ → Decoder → List ℕ → List ℕ
 stored [] at d image = image
 stored (f ∷ fs) at d image = stored fs (at + size f) d (sets image at (numbersIn f d))
 
-stored-is : (d : Decoder) (fs : List Field) → WithinAll d fs → (done rest : List ℕ) (at : ℕ) → length done ≡ at → length rest ≡ length (limitsOf fs)
-    → stored fs at d (done ++ rest) ≡ done ++ wordsOf fs d
+stored-is : (d : Decoder) (fs : List Field) → WithinAll d fs → (done rest : List ℕ) (at : ℕ) → length done ≡ at → length rest ≡ length (wordLimitsOf fs)
+    → stored fs at d (done ++ rest) ≡ done ++ fieldWords fs d
 stored-is d [] w done rest at e long = ap (λ (t : List ℕ). done ++ t) (drop-of-length-le rest {i = 0} (omega (arith, long)))
 stored-is d (f ∷ fs) w done rest at e long =
     let part = numbersIn f d in
-    let fit : length rest ≡ size f + length (limitsOf fs) =
-    omega (arith, long, length-append (replicate (size f) (limitOf f)) (limitsOf fs), length-replicate (size f) (limitOf f)) in
+    let fit : length rest ≡ size f + length (wordLimitsOf fs) =
+    omega (arith, long, length-append (replicate (size f) (limitOf f)) (wordLimitsOf fs), length-replicate (size f) (limitOf f)) in
     let left = drop (length part) rest in
     ap (stored fs (at + size f) d) (placed done rest part at e (omega (arith, fit, w .0 .long)))
     ∙ stored-is d fs (w .1) (done ++ part) left (at + size f) (omega (arith, length-append done part, e, w .0 .long))
     (omega (arith, length-drop (length part) rest, fit, w .0 .long))
-    ∙ append-assoc done part (wordsOf fs d)
+    ∙ append-assoc done part (fieldWords fs d)
 
 -- The scalars, and then the arrays.
 pub written : (d : Decoder) → Widths d → (image : List ℕ) → length image ≡ imageLength
-    → stored arrays (placeOf "registers") d (sets image 0 (scalarsOf d)) ≡ imageOf d
+    → stored arrays (wordPlace "registers") d (sets image 0 (scalarsOf d)) ≡ imageOf d
 unfolding imageOf
 written d w image long =
     let s = scalarsOf d in

@@ -15,7 +15,7 @@ use Rattle.recogniser.specs.declared.Phase.{Phase}
 use Rattle.recogniser.specs.declared.Phase.the-variants.{Hunt, Body, Field3, Field4, Field5}
 use Rattle.decoder.specs.declared.Decoder.{Decoder}
 use Rattle.image.specs.Fields.{Limit, bits, upTo, Field, number, flag, phase, array, arrays, fields, phaseNumber, size, limitOf, numbersIn}
-use Rattle.image.specs.Image.{imageLength, wordsOf, limitsOf, imageOf, Keeps, NumbersKeep, ArrayKeeps, ArraysKeep, Widths}
+use Rattle.image.specs.Image.{imageLength, fieldWords, wordLimitsOf, imageOf, Keeps, NumbersKeep, ArrayKeeps, ArraysKeep, Widths}
 
 -- A field of a state has its size and is within its limit.
 pub record Within (d : Decoder) (f : Field) : Type 0 where
@@ -62,7 +62,7 @@ pub array-keeps : (w : Width) (numbers : List ℕ) → length numbers ≡ 16 →
 array-keeps w numbers long fit = record { long = long; keeps = λ (n : ℕ) h. fits-lt-pow (fit n) }
 
 -- A state has as many words as there are limits.
-length-words : (d : Decoder) (fs : List Field) → WithinAll d fs → length (wordsOf fs d) ≡ length (limitsOf fs)
+length-words : (d : Decoder) (fs : List Field) → WithinAll d fs → length (fieldWords fs d) ≡ length (wordLimitsOf fs)
 length-words d [] w = refl
 length-words d (f ∷ fs) w =
     let rest = length-words d fs (w .1) in
@@ -70,8 +70,8 @@ length-words d (f ∷ fs) w =
       arith,
       rest,
       w .0 .long,
-      length-append (numbersIn f d) (wordsOf fs d),
-      length-append (replicate (size f) (limitOf f)) (limitsOf fs),
+      length-append (numbersIn f d) (fieldWords fs d),
+      length-append (replicate (size f) (limitOf f)) (wordLimitsOf fs),
       length-replicate (size f) (limitOf f),
     )
 

@@ -18,16 +18,16 @@ abbrev pub layout : ℕ
 layout = 1
 
 -- The words of a state, field after field, and what each may be.
-abbrev pub wordsOf : List Field → Decoder → List ℕ
-wordsOf [] d = []
-wordsOf (f ∷ fs) d = numbersIn f d ++ wordsOf fs d
+abbrev pub fieldWords : List Field → Decoder → List ℕ
+fieldWords [] d = []
+fieldWords (f ∷ fs) d = numbersIn f d ++ fieldWords fs d
 
-abbrev pub limitsOf : List Field → List Limit
-limitsOf [] = []
-limitsOf (f ∷ fs) = replicate (size f) (limitOf f) ++ limitsOf fs
+abbrev pub wordLimitsOf : List Field → List Limit
+wordLimitsOf [] = []
+wordLimitsOf (f ∷ fs) = replicate (size f) (limitOf f) ++ wordLimitsOf fs
 
 abbrev pub wordLimits : List Limit
-wordLimits = limitsOf fields
+wordLimits = wordLimitsOf fields
 
 abbrev pub imageLength : ℕ
 imageLength = suc (length wordLimits)
@@ -37,19 +37,19 @@ pub image-length-is : imageLength ≡ 68
 image-length-is = refl
 
 unfoldable pub imageOf : Decoder → List ℕ
-imageOf d = layout ∷ wordsOf fields d
+imageOf d = layout ∷ fieldWords fields d
 
 -- Where the field of a name begins.
-abbrev pub placeFrom : List Field → ℕ → String → ℕ
-placeFrom [] at name = at
-placeFrom (f ∷ fs) at name = elim (eqt (nameOf f) name) [ true ↦ at | false ↦ placeFrom fs (at + size f) name ]
+abbrev pub wordPlaceFrom : List Field → ℕ → String → ℕ
+wordPlaceFrom [] at name = at
+wordPlaceFrom (f ∷ fs) at name = elim (eqt (nameOf f) name) [ true ↦ at | false ↦ wordPlaceFrom fs (at + size f) name ]
 
-abbrev pub placeOf : String → ℕ
-placeOf = placeFrom fields 1
+abbrev pub wordPlace : String → ℕ
+wordPlace = wordPlaceFrom fields 1
 
 -- The image up to its arrays.
 abbrev pub scalarsOf : Decoder → List ℕ
-scalarsOf d = layout ∷ wordsOf scalars d
+scalarsOf d = layout ∷ fieldWords scalars d
 
 -- A number by its low part, which is within the limit.
 abbrev pub low : Limit → ℕ → ℕ

@@ -4,7 +4,7 @@ ghost use Prim.Native.Nat.{_+_, _≤_};
 ghost use lib.ListN.{length, set, replicate};
 ghost use lib.Seq.{sets};
 ghost use Rattle.image.specs.Fields.{bits, phaseNumber, phaseOf, planFrom, recogniserFrom, modelFrom};
-ghost use Rattle.image.specs.Image.{imageLength, placeOf, scalarsOf, imageOf, lowWords, numbersOf, stateOf, sameWords, imageFits};
+ghost use Rattle.image.specs.Image.{imageLength, wordPlace, scalarsOf, imageOf, lowWords, numbersOf, stateOf, sameWords, imageFits};
 use decoder::Decoder;
 use recogniser::Group;
 use recogniser::Phase;
@@ -92,7 +92,7 @@ fn phase_of(number: u64) -> Phase
 
 // Everything but the arrays, with the number for the phase.
 fn scalars(d: Decoder, phase: u64) -> [u64; REGISTERS]
-    ensures { λ r. ⌜ r ≡ set (scalarsOf d) (placeOf "phase") phase ⌝ }
+    ensures { λ r. ⌜ r ≡ set (scalarsOf d) (wordPlace "phase") phase ⌝ }
 {
     let plan = d.plan;
     let recogniser = d.recogniser;
@@ -255,7 +255,7 @@ fn model_at(image: &[u64], registers: [u16; 16], pointers: Pointers) -> Model
     }
 }
 
-// The state that an image reads as, each word by its low bits; whether that loses anything is for `fits` to say.
+// The state that an image reads as, each word by its low part; whether that loses anything is for `fits` to say.
 pub fn read(image: &[u64]) -> Decoder
     requires { ⌜ length (now image) ≡ imageLength ⌝ }
     ensures { λ r. ⌜ r ≡ stateOf (now (image .entry)) ⌝ }

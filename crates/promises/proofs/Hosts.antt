@@ -69,6 +69,7 @@ empty-refused = refl
 
 pub host-promise : HostPromise
 host-promise = record {
+  in-numbers = record { length-is = refl; layout-is = refl; limits-are = refl };
   round-trip = round-trip;
   by-widths = λ image. record { only = formed image; all = formed-fits image };
   same-opening = same-opening;

@@ -2,14 +2,15 @@
 -- Assumes nothing.
 use mathlib.Core.Path.{_≡_}
 use mathlib.Core.Bool.{true, false}
-use mathlib.Core.List.{List}
+use mathlib.Core.List.{List, _∷_, _++_}
 use Prim.Native.Nat.{ℕ}
-use lib.ListN.{length}
+use lib.ListN.{length, replicate}
 use Rattle.registers.specs.Plan.{planFits}
 use Rattle.decoder.specs.declared.Decoder.{Decoder}
 use Rattle.decoder.specs.Opening.{openOf, openingNumber}
 use Rattle.taking.specs.Take.{Call, takeOf}
-use Rattle.image.specs.Image.{imageLength, imageOf, stateOf, imageFits, Widths, Formed}
+use Rattle.image.specs.Fields.{Limit, whole, bits, upTo}
+use Rattle.image.specs.Image.{layout, wordLimits, imageLength, imageOf, stateOf, imageFits, Widths, Formed}
 use Rattle.kernelstill.specs.Open.{emptyPlan, planOf, openResultOf}
 use Rattle.kernelstill.specs.Take.{resultLength, refusedCall, answered, takeResultOf}
 
@@ -40,7 +41,17 @@ pub record ByWidths (image : List ℕ) : Type 0 where
   pub only : imageFits image ≡ true → Formed image
   pub all : Formed image → imageFits image ≡ true
 
+-- The image in numbers, as the header has it: 68 words, layout 1, and what each word behind the layout's number may be.
+pub record LayoutInNumbers : Type 0 where
+  pub length-is : imageLength ≡ 68
+  pub layout-is : layout ≡ 1
+  pub limits-are : wordLimits
+      ≡ bits 16 ∷ bits 8 ∷ bits 8 ∷ bits 8 ∷ whole ∷ upTo 4 ∷ bits 8 ∷ bits 8 ∷ bits 8 ∷ bits 32 ∷ bits 32 ∷ upTo 1 ∷ upTo 1
+      ∷ upTo 1 ∷ bits 8 ∷ whole ∷ upTo 1 ∷ upTo 1 ∷ upTo 1
+      ∷ (replicate 16 (bits 16) ++ (replicate 16 (bits 8) ++ replicate 16 (bits 8)))
+
 pub record HostPromise : Type 0 where
+  pub in-numbers : LayoutInNumbers
   pub round-trip : (d : Decoder) → Widths d → RoundTrip d
   pub by-widths : (image : List ℕ) → ByWidths image
   pub same-opening : (mask csr feen cnt cycle : ℕ) (image : List ℕ) → length image ≡ imageLength → SameOpening mask csr feen cnt cycle image

@@ -37,8 +37,8 @@ withRunning running m = model running (m .counters) (m .warnings) (m .registers)
 abbrev pub withCounters : Counters → Model → Model
 withCounters c m = model (m .running) c (m .warnings) (m .registers) (m .pointers)
 
-abbrev pub withWarned : Warnings → Model → Model
-withWarned w m = model (m .running) (m .counters) w (m .registers) (m .pointers)
+abbrev pub withWarnings : Warnings → Model → Model
+withWarnings w m = model (m .running) (m .counters) w (m .registers) (m .pointers)
 
 abbrev pub withRegisters : List ℕ → Model → Model
 withRegisters registers m = model (m .running) (m .counters) (m .warnings) registers (m .pointers)

@@ -28,15 +28,15 @@ abbrev pub warningBits : Warnings → ℕ
 warningBits w = cond (w .wlv1) 1 0 + cond (w .wfst) 2 0 + cond (w .wslw) 4 0
 
 -- A number with its bits 8, 9 and 10 replaced.
-abbrev pub withWarnings : ℕ → ℕ → ℕ
-withWarnings value warnings = value % 256 + warnings * 256 + value / 2048 * 2048
+abbrev pub csrWith : ℕ → ℕ → ℕ
+csrWith value warnings = value % 256 + warnings * 256 + value / 2048 * 2048
 
 -- "CSR bits 8, 9, 10 read as the warnings".
 abbrev pub readOf : Plan → Model → ℕ → ℕ
 readOf plan m address =
-    cond (eqb address (plan .csr)) (withWarnings (registerOf m address) (warningBits (m .warnings))) (registerOf m address)
+    cond (eqb address (plan .csr)) (csrWith (registerOf m address) (warningBits (m .warnings))) (registerOf m address)
 
 -- The registers after a write; CSR's warning bits "are not writable" and are stored as 0.
 abbrev pub writtenOf : Plan → Model → ℕ → ℕ → List ℕ
 writtenOf plan m address value =
-    set (m .registers) address (cond (eqb address (plan .csr)) (withWarnings value 0) value)
+    set (m .registers) address (cond (eqb address (plan .csr)) (csrWith value 0) value)

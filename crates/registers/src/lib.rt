@@ -7,7 +7,7 @@ ghost use lib.Dec.{eqb};
 ghost use lib.ListN.{length};
 ghost use Rattle.registers.specs.Plan.{existsAt, planFits, defaultPlan};
 ghost use Rattle.limits.specs.Limits.{storeLength};
-ghost use Rattle.registers.specs.Registers.{registerOf, cntOf, warningBits, withWarnings, readOf};
+ghost use Rattle.registers.specs.Registers.{registerOf, cntOf, warningBits, csrWith, readOf};
 ghost use Rattle.registers.specs.Parts.{cleared};
 ghost use Rattle.registers.specs.Fifos.{movedOn, writeOf, readWordOf};
 ghost use Rattle.registers.specs.Sound.{pointersFit, missingZero};
@@ -59,9 +59,9 @@ pub fn flag(on: bool, bit: u8) -> u8
 }
 
 // Bits 8, 9 and 10 of a number replaced.
-fn with_warnings(value: u16, warnings: u16) -> u16
+fn csr_with(value: u16, warnings: u16) -> u16
     requires { ⌜ warnings < 8 ⌝ }
-    ensures { λ r. ⌜ r ≡ withWarnings value warnings ⌝ }
+    ensures { λ r. ⌜ r ≡ csrWith value warnings ⌝ }
 {
     value % 256 + warnings * 256 + value / 2048 * 2048
 }
@@ -146,10 +146,10 @@ impl Plan {
 
     // What a write of a value stores: CSR's warning bits are not writable.
     pub fn stored(self, address: u8, value: u16) -> u16
-        ensures { λ r. ⌜ r ≡ cond (eqb address (self .csr)) (withWarnings value 0) value ⌝ }
+        ensures { λ r. ⌜ r ≡ cond (eqb address (self .csr)) (csrWith value 0) value ⌝ }
     {
         if address == self.csr {
-            return with_warnings(value, 0);
+            return csr_with(value, 0);
         }
         value
     }
@@ -230,7 +230,7 @@ impl Model {
         let value = self.register(address);
         if address == plan.csr {
             let warnings = self.warnings;
-            return with_warnings(value, warnings.bits());
+            return csr_with(value, warnings.bits());
         }
         value
     }

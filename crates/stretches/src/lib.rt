@@ -22,7 +22,7 @@ pub struct Stretch {
 }
 
 impl Stretch {
-    // So many cycles, of which the last was transition so.
+    // So many cycles, of which the last made this transition.
     fn of(taken: usize, last: Transition) -> Self
         ensures { λ r. ⌜ r ≡ stretched taken last ⌝ }
     {

@@ -4,6 +4,7 @@ use mathlib.Core.Bool.{Bool, false}
 use mathlib.Core.List.{List}
 use Prim.Native.Nat.{ℕ, _+_}
 use lib.ListN.{set}
+use Rattle.limits.specs.Limits.{listUnit}
 use Rattle.recogniser.specs.declared.Request.{Request}
 use Rattle.registers.specs.declared.Plan.{Plan}
 use Rattle.registers.specs.declared.Model.{Model}
@@ -30,7 +31,7 @@ performedWith plan m at stops = record { model = m; cnt = cntOf plan m; at = at;
 abbrev pub recordedAt : Plan → Model → Cycle → List ℕ → List ℕ → ℕ → PerformResult
 recordedAt plan m Silent store list at = performResult (performedWith plan m at false) store list
 recordedAt plan m (Recorded e) store list at =
-    performResult (performedWith plan m (at + 2) (isFrameHead (headOf e))) store (set (set list at (headOf e)) (at + 1) (e .value))
+    performResult (performedWith plan m (at + listUnit) (isFrameHead (headOf e))) store (set (set list at (headOf e)) (at + 1) (e .value))
 
 abbrev pub afterEffect : Plan → Effect → List ℕ → ℕ → PerformResult
 afterEffect plan e list at = recordedAt plan (e .acted .model) (e .acted .cycle) (e .store) list at

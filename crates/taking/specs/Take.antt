@@ -63,8 +63,8 @@ abbrev pub takenWith : Decoder → ℕ → ℕ → Ending → Taken
 takenWith d bits records ending = record { decoder = d; report = record { bits = bits; records = records; ending = ending } }
 
 -- A decoder after so many cycles, with its recogniser and model then.
-abbrev pub movedOn : Decoder → Recogniser → Model → ℕ → Decoder
-movedOn d r m taken = record { plan = d .plan; next = d .next + taken; recogniser = r; model = m }
+abbrev pub decoderAfter : Decoder → Recogniser → Model → ℕ → Decoder
+decoderAfter d r m taken = record { plan = d .plan; next = d .next + taken; recogniser = r; model = m }
 
 -- "a refused taking gives 0 bits, 0 records and the state and buffers it came with"
 abbrev pub refused : Decoder → Call → Ending → CallResult

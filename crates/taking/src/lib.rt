@@ -7,7 +7,7 @@ ghost use Rattle.limits.specs.Limits.{clockLimit, storeLength, inputLimit, list
 ghost use Rattle.controller.specs.Records.{headOf};
 ghost use Rattle.controller.specs.Requests.{requestFits};
 ghost use Rattle.taking.specs.Perform.{performResult, performedWith, performOf};
-ghost use Rattle.taking.specs.Take.{call, result, takenWith, movedOn, buffersFit, rangeFits, takenOf, takeOf, endingNumber};
+ghost use Rattle.taking.specs.Take.{call, result, takenWith, decoderAfter, buffersFit, rangeFits, takenOf, takeOf, endingNumber};
 use controller::Cycle;
 use controller::Record;
 use decoder::Decoder;
@@ -113,7 +113,7 @@ impl Taken {
         ending: Ending,
     ) -> Taken
         requires { ⌜ (decoder .next + taken ≤ clockLimit) × (free ≤ done .at) ⌝ }
-        ensures { λ r. ⌜ r ≡ takenWith (movedOn decoder recogniser (done .model) taken) taken ((done .at - free) / listUnit) ending ⌝ }
+        ensures { λ r. ⌜ r ≡ takenWith (decoderAfter decoder recogniser (done .model) taken) taken ((done .at - free) / listUnit) ending ⌝ }
     {
         let plan = decoder.plan;
         let model = done.model;

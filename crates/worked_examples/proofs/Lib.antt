@@ -1,2 +1,3 @@
 pub mod MarkedStreams
+pub mod Counters
 pub mod Edges

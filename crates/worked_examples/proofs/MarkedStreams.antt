@@ -11,8 +11,11 @@ use Rattle.decoder.specs.Fit.{fitOf}
 use Rattle.decoder.specs.Sound.{soundOf}
 use Rattle.taking.specs.Turn.{turnOf}
 use Rattle.taking.specs.Take.{takenOf, takeOf}
-use Rattle.worked_examples.specs.MarkedStreams.{MarkedStreams}
+use Rattle.worked_examples.specs.MarkedStreams.{MarkedWords, MarkedStreams}
 
 pub marked : MarkedStreams
 unfolding stepOf fitOf trayOf planFits everyFrom pointersFit missingZero writeOf actOf soundOf turnOf takenOf takeOf
 marked = refl
+
+pub marked-words : MarkedWords
+marked-words = refl

@@ -1,3 +1,4 @@
 pub mod StreamTable
 pub mod MarkedStreams
+pub mod Counters
 pub mod Edges

@@ -51,6 +51,26 @@ shown r =
 abbrev pub asMarked : Row → Shown
 asMarked r = record { ending = r .ending; bits = length (r .bits); words = recordWords (r .records) }
 
+-- The records of the rows as words, in numbers: "time × 65,536 + kind × 256 + flags, then a value".
+abbrev pub MarkedWords : Type 0
+MarkedWords =
+    map (λ r. recordWords (r .records)) table
+    ≡ (0x040105 ∷ 0x0004 ∷ [])
+    ∷ (0x040107 ∷ 0x0004 ∷ [])
+    ∷ (0x080105 ∷ 0x0008 ∷ [])
+    ∷ []
+    ∷ (0x040105 ∷ 0x0004 ∷ 0x090105 ∷ 0x0109 ∷ [])
+    ∷ (0x040105 ∷ 0x0004 ∷ 0x080107 ∷ 0x0108 ∷ [])
+    ∷ (0x081101 ∷ 0x0000 ∷ [])
+    ∷ (0x081F00 ∷ 0x0009 ∷ [])
+    ∷ (0x060105 ∷ 0x0006 ∷ [])
+    ∷ (0x050105 ∷ 0x0005 ∷ [])
+    ∷ (0x060107 ∷ 0x0006 ∷ [])
+    ∷ (0x060107 ∷ 0x0006 ∷ 0x0B0107 ∷ 0x010B ∷ [])
+    ∷ (0x102F00 ∷ 0x000B ∷ [])
+    ∷ (0x102401 ∷ 0x0000 ∷ [])
+    ∷ []
+
 -- Every row, together.
 abbrev pub MarkedStreams : Type 0
 MarkedStreams = map shown table ≡ map asMarked table

@@ -3,7 +3,7 @@
 use mathlib.Core.Path.{refl}
 use Prim.Native.Nat.{_-_}
 use borrow.Author.Needs.{needs}
-use Rattle.image.specs.Image.{placeOf}
+use Rattle.image.specs.Image.{wordPlace}
 use Rattle.image.proofs.WriteLoop.{Invariant, initially, again-first, over}
 use Rattle.image.proofs.put_scalars.Statement.{statement}
 use Rattle.image.proofs.put_scalars.Tie as tie
@@ -12,7 +12,7 @@ abbrev Inv-loop : tie.InvT-loop
 Inv-loop image₀ numbers n₀ image n = Invariant image₀ 0 numbers image n
 
 abbrev μ-loop : tie.MeasureT-loop
-μ-loop image₀ numbers n₀ image n = placeOf "registers" - n
+μ-loop image₀ numbers n₀ image n = wordPlace "registers" - n
 
 loop-holds : tie.Need-loop-holds Inv-loop μ-loop
 loop-holds c = initially _ _ _

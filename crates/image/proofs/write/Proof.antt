@@ -9,7 +9,7 @@ use lib.ListN.{set}
 use lib.Seq.{sets}
 use mir.Syntax.{w8, w16}
 use Rattle.image.specs.Fields.{fields}
-use Rattle.image.specs.Image.{placeOf, scalarsOf, stateOf, NumbersKeep, ArraysKeep, Widths}
+use Rattle.image.specs.Image.{wordPlace, scalarsOf, stateOf, NumbersKeep, ArraysKeep, Widths}
 use Rattle.image.proofs.RoundTrip.{read-back}
 use Rattle.image.proofs.Stored.{written}
 use Rattle.image.proofs.Widths.{array-keeps}
@@ -70,11 +70,11 @@ returns c =
     let s = began o in
     let d = s .args .d in
     let image = s .args .image .now in
-    let numbers = o .before .scalars .ensures ∙ ap (set (scalarsOf d) (placeOf "phase")) (o .before .before .phase-number .ensures) in
+    let numbers = o .before .scalars .ensures ∙ ap (set (scalarsOf d) (wordPlace "phase")) (o .before .before .phase-number .ensures) in
     let one = o .put-scalars .ensures ∙ ap (sets image 0) numbers in
-    let two = r .put-u16 .ensures ∙ ap (λ (l : List ℕ). sets l (placeOf "registers") (d .model .registers)) one in
-    let three = p .put-u8 .ensures ∙ ap (λ (l : List ℕ). sets l (placeOf "writes") (d .model .pointers .writes)) two in
-    let four = q .put-u82 .ensures ∙ ap (λ (l : List ℕ). sets l (placeOf "reads") (d .model .pointers .reads)) three in
+    let two = r .put-u16 .ensures ∙ ap (λ (l : List ℕ). sets l (wordPlace "registers") (d .model .registers)) one in
+    let three = p .put-u8 .ensures ∙ ap (λ (l : List ℕ). sets l (wordPlace "writes") (d .model .pointers .writes)) two in
+    let four = q .put-u82 .ensures ∙ ap (λ (l : List ℕ). sets l (wordPlace "reads") (d .model .pointers .reads)) three in
     let e = four ∙ written d (widths s) image (s .pre) in
     (e, ap stateOf e ∙ read-back d (widths s))
 

@@ -11,13 +11,13 @@ register-requires c κs = search needs
 bits-requires : tie.Need-bits-requires
 bits-requires c κs = search needs
 
-with-warnings-requires : tie.Need-with-warnings-requires
-with-warnings-requires c κs = search needs
+csr-with-requires : tie.Need-csr-with-requires
+csr-with-requires c κs = search needs
 
 returns : tie.Need-returns
 returns c =
     let t = c .before .before .before in
-    simp (eq-eqb _ _ (t .if1 .taken), c .with-warnings .ensures, c .before .bits .ensures .0, t .before .before .register .ensures)
+    simp (eq-eqb _ _ (t .if1 .taken), c .csr-with .ensures, c .before .bits .ensures .0, t .before .before .register .ensures)
 
 returns-2 : tie.Need-returns-2
 returns-2 c = simp (ne-eqb _ _ (c .if1 .left), c .before .before .register .ensures)
@@ -25,4 +25,4 @@ returns-2 c = simp (ne-eqb _ _ (c .if1 .left), c .before .before .register .ensu
 pub read-spec : {M : Type 1} → statement M
 read-spec =
     tie.close
-    (tie.spec register-requires bits-requires with-warnings-requires returns returns-2)
+    (tie.spec register-requires bits-requires csr-with-requires returns returns-2)

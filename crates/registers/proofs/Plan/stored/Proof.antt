@@ -5,14 +5,14 @@ use borrow.Author.Needs.{needs}
 use Rattle.registers.proofs.Plan.stored.Statement.{statement}
 use Rattle.registers.proofs.Plan.stored.Tie as tie
 
-with-warnings-requires : tie.Need-with-warnings-requires
-with-warnings-requires c κs = search needs
+csr-with-requires : tie.Need-csr-with-requires
+csr-with-requires c κs = search needs
 
 returns : tie.Need-returns
-returns c = simp (eq-eqb _ _ (c .before .if1 .taken), c .with-warnings .ensures)
+returns c = simp (eq-eqb _ _ (c .before .if1 .taken), c .csr-with .ensures)
 
 returns-2 : tie.Need-returns-2
 returns-2 c = simp (ne-eqb _ _ (c .if1 .left))
 
 pub stored-spec : {M : Type 1} → statement M
-stored-spec = tie.close (tie.spec with-warnings-requires returns returns-2)
+stored-spec = tie.close (tie.spec csr-with-requires returns returns-2)

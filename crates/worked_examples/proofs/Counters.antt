@@ -1,0 +1,7 @@
+-- The trigger and bunch numbers on numbers, computed.
+-- Assumes nothing.
+use mathlib.Core.Path.{refl}
+use Rattle.worked_examples.specs.Counters.{CountersInNumbers}
+
+pub counters-in-numbers : CountersInNumbers
+counters-in-numbers = record { lv1-value = refl; lv1-counts = refl; lv1-wraps = refl; bcr = refl; ecr = refl; cal = refl; sync = refl }
