@@ -12,7 +12,7 @@
  *   length 0 it is not used and may be NULL.
  * - A slice that is not const overlaps no other slice of the same call.
  *
- * All else is checked. An unfit call is turned away by its number and changes
+ * All else is checked. An unfit call is rejected with its number and changes
  * nothing, but for a refused opening, which gives the default start state.
  * Where several numbers apply, the lowest is answered.
  *

@@ -146,7 +146,7 @@ class Plan(NamedTuple):
 
 
 class Refused(Exception):
-    """An unfit call was turned away, by its `number`; the call that raised it
+    """An unfit call was rejected with its `number`; the call that raised it
     changed nothing."""
 
     def __init__(self, number: int) -> None:

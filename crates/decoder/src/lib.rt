@@ -184,7 +184,7 @@ impl Decoder {
         }
     }
 
-    // Whether the state is sound; a taking call turns away any other.
+    // Whether the state is sound; a taking call rejects any other.
     pub fn sound(self) -> bool
         ensures { λ r. ⌜ r ≡ soundOf self ⌝ }
     {

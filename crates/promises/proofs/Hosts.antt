@@ -25,7 +25,7 @@ round-trip : (d : Decoder) → Widths d → RoundTrip d
 round-trip d w = record { fits = image-fits d w; back = read-back d w }
 
 module _ (d : Decoder) (w : Widths d) (result : List ℕ) (long : length result ≡ resultLength) (c : Call) where
-  -- by the state's soundness: an unsound one is turned away on both sides
+  -- by the state's soundness: an unsound one is rejected on both sides
   same-by : (b : Bool) → soundOf d ≡ b → takeResultOf (imageOf d) result c ≡ answered (imageOf d) result (takeOf d c)
   unfolding takeResultOf
   same-by true s = rw (image-fits d w, read-back d w, s, eq-eqb (length result) resultLength long)
@@ -33,9 +33,9 @@ module _ (d : Decoder) (w : Widths d) (result : List ℕ) (long : length result 
 
 module _ (image result : List ℕ) (c : Call) where
   -- a refusal of the call on the state
-  turned : (d : Decoder) (ending : Ending) → (endingNumber ending ≡ 0 → ⊥)
+  rejected-call : (d : Decoder) (ending : Ending) → (endingNumber ending ≡ 0 → ⊥)
       → answered image result (refused d c ending) ≡ refusedCall (endingNumber ending) image result c
-  turned d ending some = simp (ne-eqb (endingNumber ending) 0 some)
+  rejected-call d ending some = simp (ne-eqb (endingNumber ending) 0 some)
 
   abbrev Kept : TakeResult → Type 0
   Kept after = (after .number ≡ 0 → ⊥) → after ≡ refusedCall (after .number) image result c
@@ -43,8 +43,8 @@ module _ (image result : List ℕ) (c : Call) where
   handed-kept : (d : Decoder) → Kept (answered image result (takeOf d c))
   handed-kept d some =
       let takes = first-demand .takes d c in
-      let away = takes .away (ne-eqb _ 0 (λ z. some (takes .number ∙ z))) in
-      subst (λ (l : CallResult). Kept (answered image result l)) (sym (away .1)) (turned d (away .0)) some
+      let rejected = takes .rejected (ne-eqb _ 0 (λ z. some (takes .number ∙ z))) in
+      subst (λ (l : CallResult). Kept (answered image result l)) (sym (rejected .1)) (rejected-call d (rejected .0)) some
 
   whole : soundImage image ≡ true → eqb (length result) resultLength ≡ true → takeResultOf image result c ≡ answered image result (takeOf (stateOf image) c)
   unfolding takeResultOf

@@ -82,14 +82,14 @@ module _ (d : Decoder) (c : Call) where
 
   record Says (n : ℕ) : Type 0 where
     number : endingNumber (takeOf d c .taken .report .ending) ≡ n
-    away : eqb n 0 ≡ false → (ending : Ending) × (takeOf d c ≡ refused d c ending)
+    rejected : eqb n 0 ≡ false → (ending : Ending) × (takeOf d c ≡ refused d c ending)
     through : n ≡ 0 → takeOf d c ≡ takenOf d c
 
   -- a refusal
   turned : (e : Ending) → eqb (endingNumber e) 0 ≡ false → takeOf d c ≡ refused d c e → Says (endingNumber e)
   turned e h t = record {
     number = ap (λ (l : CallResult). endingNumber (l .taken .report .ending)) t;
-    away = λ _. (e, t);
+    rejected = λ _. (e, t);
     through = λ z. let f : true ≡ false = sym (ap (λ n. eqb n 0) z) ∙ h in absurd (true-false f);
   }
     where
@@ -105,7 +105,7 @@ module _ (d : Decoder) (c : Call) where
   says true true true true es eb er ek = record {
     number = ap (λ (l : CallResult). endingNumber (l .taken .report .ending)) (taken d c es eb er ek)
         ∙ run-ended turnOf (offered c) (lent d c) (length (c .list) - c .free) .fits;
-    away = λ h. let z : _≡_ {A = ℕ} 0 1 = cc in absurd (omega arith);
+    rejected = λ h. let z : _≡_ {A = ℕ} 0 1 = cc in absurd (omega arith);
     through = λ _. taken d c es eb er ek;
   }
 
@@ -114,7 +114,7 @@ module _ (d : Decoder) (c : Call) where
       let t = says (soundOf d) (buffers c) (range c) clock refl refl refl refl in
       record {
         number = t .number ∙ rows;
-        away = λ h. t .away (ap (λ n. eqb n 0) rows ∙ h);
+        rejected = λ h. t .rejected (ap (λ n. eqb n 0) rows ∙ h);
         through = λ h. t .through (rows ∙ h);
       }
 

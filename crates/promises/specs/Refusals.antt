@@ -15,7 +15,7 @@ use Rattle.decoder.specs.Sound.{soundOf}
 use Rattle.taking.specs.declared.Ending.{Ending}
 use Rattle.taking.specs.Take.{Call, refused, takenOf, takeOf, endingNumber}
 
--- A row of the refusal table: its number, and whether it turns this call away.
+-- A row of the refusal table: its number, and whether it applies to this call.
 pub record Row : Type 0 where
   pub number : ℕ
   pub applies : Bool
@@ -69,7 +69,7 @@ pub record Opens (plan : Plan) (cycle : ℕ) : Type 0 where
 -- any other runs to its end, as `takenOf` says.
 pub record Takes (d : Decoder) (c : Call) : Type 0 where
   pub number : endingNumber (takeOf d c .taken .report .ending) ≡ firstOf (takingRows d c)
-  pub away : eqb (firstOf (takingRows d c)) 0 ≡ false → (ending : Ending) × (takeOf d c ≡ refused d c ending)
+  pub rejected : eqb (firstOf (takingRows d c)) 0 ≡ false → (ending : Ending) × (takeOf d c ≡ refused d c ending)
   pub through : firstOf (takingRows d c) ≡ 0 → takeOf d c ≡ takenOf d c
 
 pub record FirstDemand : Type 0 where

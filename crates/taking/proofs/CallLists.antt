@@ -43,8 +43,8 @@ pub record CallKept (d : Decoder) (c : Call) (l : CallResult) : Type 0 where
   pub words : take (listUnit * l .taken .report .records) (drop (c .free) (l .list)) ≡ wordsAfter turnOf (lent d c) (take (l .taken .report .bits) (offered c))
 
 module _ (d : Decoder) (c : Call) where
-  away : (e : Ending) → CallKept d c (refused d c e)
-  away e = record { taken = omega arith; system = refl; words = refl }
+  rejected : (e : Ending) → CallKept d c (refused d c e)
+  rejected e = record { taken = omega arith; system = refl; words = refl }
 
   run : Run System
   run = runOf turnOf (offered c) (lent d c) (length (c .list) - c .free)
@@ -63,10 +63,10 @@ module _ (d : Decoder) (c : Call) where
   pub call-kept : CallKept d c (takeOf d c)
   unfolding takeOf
   call-kept =
-      choice (CallKept d c) (not (soundOf d)) (λ _. away Unsound)
-      (λ _. choice (CallKept d c) (not (buffersFit (length (c .store)) (length (c .tray)) (length (c .list)) (c .free))) (λ _. away WrongBuffers)
-      (λ _. choice (CallKept d c) (not (rangeFits (length (c .input)) (c .first) (c .count))) (λ _. away WrongRange)
-      (λ _. choice (CallKept d c) (not (clockFits (d .next) (c .count))) (λ _. away ClockOver) (λ _. through))))
+      choice (CallKept d c) (not (soundOf d)) (λ _. rejected Unsound)
+      (λ _. choice (CallKept d c) (not (buffersFit (length (c .store)) (length (c .tray)) (length (c .list)) (c .free))) (λ _. rejected WrongBuffers)
+      (λ _. choice (CallKept d c) (not (rangeFits (length (c .input)) (c .first) (c .count))) (λ _. rejected WrongRange)
+      (λ _. choice (CallKept d c) (not (clockFits (d .next) (c .count))) (λ _. rejected ClockOver) (λ _. through))))
 
 -- a list of calls, store and tray carried over
 abbrev afterPart : System → Part → System

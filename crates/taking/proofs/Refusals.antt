@@ -25,36 +25,36 @@ range c = rangeFits (length (c .input)) (c .first) (c .count)
 
 -- a choice by a test that is known
 module _ (d : Decoder) (c : Call) where
-  turned-away : (b : Bool) (e : Ending) (l : CallResult) → b ≡ false → cond (not b) (refused d c e) l ≡ refused d c e
-  turned-away b e l h = ap (λ b. cond (not b) (refused d c e) l) h
+  rejected-where : (b : Bool) (e : Ending) (l : CallResult) → b ≡ false → cond (not b) (refused d c e) l ≡ refused d c e
+  rejected-where b e l h = ap (λ b. cond (not b) (refused d c e) l) h
 
-  let-through : (b : Bool) (e : Ending) (l : CallResult) → b ≡ true → cond (not b) (refused d c e) l ≡ l
-  let-through b e l h = ap (λ b. cond (not b) (refused d c e) l) h
+  passed-where : (b : Bool) (e : Ending) (l : CallResult) → b ≡ true → cond (not b) (refused d c e) l ≡ l
+  passed-where b e l h = ap (λ b. cond (not b) (refused d c e) l) h
 
   pub unsound : soundOf d ≡ false → takeOf d c ≡ refused d c Unsound
   unfolding takeOf
-  unsound s = turned-away (soundOf d) Unsound _ s
+  unsound s = rejected-where (soundOf d) Unsound _ s
 
   module _ (s : soundOf d ≡ true) where
     pub wrong-buffers : buffers c ≡ false → takeOf d c ≡ refused d c WrongBuffers
     unfolding takeOf
-    wrong-buffers b = let-through (soundOf d) Unsound _ s ∙ turned-away (buffers c) WrongBuffers _ b
+    wrong-buffers b = passed-where (soundOf d) Unsound _ s ∙ rejected-where (buffers c) WrongBuffers _ b
 
     module _ (b : buffers c ≡ true) where
       pub wrong-range : range c ≡ false → takeOf d c ≡ refused d c WrongRange
       unfolding takeOf
-      wrong-range r = let-through (soundOf d) Unsound _ s ∙ let-through (buffers c) WrongBuffers _ b ∙ turned-away (range c) WrongRange _ r
+      wrong-range r = passed-where (soundOf d) Unsound _ s ∙ passed-where (buffers c) WrongBuffers _ b ∙ rejected-where (range c) WrongRange _ r
 
       module _ (r : range c ≡ true) where
         fit-so-far : takeOf d c ≡ cond (not (clockFits (d .next) (c .count))) (refused d c ClockOver) (takenOf d c)
         unfolding takeOf
-        fit-so-far = let-through (soundOf d) Unsound _ s ∙ let-through (buffers c) WrongBuffers _ b ∙ let-through (range c) WrongRange _ r
+        fit-so-far = passed-where (soundOf d) Unsound _ s ∙ passed-where (buffers c) WrongBuffers _ b ∙ passed-where (range c) WrongRange _ r
 
         pub clock-over : clockFits (d .next) (c .count) ≡ false → takeOf d c ≡ refused d c ClockOver
-        clock-over k = fit-so-far ∙ turned-away (clockFits (d .next) (c .count)) ClockOver (takenOf d c) k
+        clock-over k = fit-so-far ∙ rejected-where (clockFits (d .next) (c .count)) ClockOver (takenOf d c) k
 
         pub taken : clockFits (d .next) (c .count) ≡ true → takeOf d c ≡ takenOf d c
-        taken k = fit-so-far ∙ let-through (clockFits (d .next) (c .count)) ClockOver (takenOf d c) k
+        taken k = fit-so-far ∙ passed-where (clockFits (d .next) (c .count)) ClockOver (takenOf d c) k
 
 -- the clock's test without a sum that could wrap
 pub clock-short : (next count : ℕ) → next ≤ clockLimit → clockLimit - next < count → clockFits next count ≡ false

@@ -1,4 +1,4 @@
--- A taking call: what it is lent, what turns it away, what it answers and what its buffers hold then (document 01, "A taking call").
+-- A taking call: what it is lent, when it is rejected, what it answers and what its buffers hold then (document 01, "A taking call").
 -- Assumes nothing.
 use mathlib.Core.Bool.{Bool, cond, not, _&&_}
 use mathlib.Core.List.{List}

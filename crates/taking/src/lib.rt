@@ -238,7 +238,7 @@ fn run(
 }
 
 // Takes bits `first` to `first + count` of the input, one a cycle, and writes their records into the rest of the list from word `free` on. It stops
-// after a frame's record, and where fewer than two words are free. An unfit call is turned away with its number, and changes nothing.
+// after a frame's record, and where fewer than two words are free. An unfit call is rejected with its number, and changes nothing.
 pub fn take(
     decoder: Decoder,
     input: &[u8],

@@ -1,4 +1,4 @@
-//! The comparison passes the programs themselves and turns wrong ones away.
+//! The comparison passes the programs themselves and rejects wrong ones.
 
 use cases::{fixed, Case};
 use compare::programs::case;

@@ -29,7 +29,7 @@ impl Decoder {
     /// Takes all bits of `bytes` and hands each record out in order, with
     /// its frame's bytes (none for other records and for empty frames).
     /// Answers whether the decoder took them: at the end of its clock it
-    /// turns them away.
+    /// rejects them.
     pub fn feed(&mut self, bytes: &[u8], mut each: impl FnMut(&Record, &[u8])) -> bool {
         let bits = bytes.len() as u64 * 8;
         let mut first_bit = 0;

@@ -33,7 +33,7 @@ impl HexLine {
         self.started
     }
 
-    /// The bytes of the whole line, or the number that turns it away.
+    /// The bytes of the whole line, or the number it is rejected with.
     pub fn bytes(&self) -> Result<&[u8], u8> {
         if self.wrong {
             return Err(7);

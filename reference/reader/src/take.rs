@@ -24,7 +24,7 @@ pub enum Ending {
     Frame,
     /// Bits remain, and there is no room for a record.
     ListFull,
-    /// Turned away with this number; nothing changed.
+    /// Rejected with this number; nothing changed.
     Refused(u8),
 }
 
@@ -93,7 +93,7 @@ pub fn take(
     }
 }
 
-/// The lowest number that turns the call away.
+/// The lowest number that the call is rejected with.
 fn refusal(state: &State, lent_fit: bool, input: &[u8], first_bit: u64, count: u64) -> Option<u8> {
     if !sound(state) {
         return Some(3);

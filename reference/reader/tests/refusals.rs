@@ -154,7 +154,7 @@ impl Call {
 
 type Change = fn(&mut Call);
 
-/// Changes by which a call is turned away, with the number.
+/// Changes by which a call is rejected, with the number.
 const UNFIT: [(u8, Change); 22] = [
     (3, |call| call.state.l1id = 256),
     (3, |call| call.state.next_cycle = u64::MAX),

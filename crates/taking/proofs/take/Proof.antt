@@ -1,4 +1,4 @@
--- `take` turns away what is unfit, in the order of the table, and else runs.
+-- `take` rejects what is unfit, in the order of the table, and else runs.
 -- Assumes nothing.
 use mathlib.Core.Bool.{true}
 use mathlib.Core.Path.{_≡_, _∙_, sym}

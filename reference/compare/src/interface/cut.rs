@@ -139,7 +139,7 @@ impl Runner<'_> {
                     continue;
                 }
                 _ => {
-                    let fault = format!("the separate reader turns it away with {answer}");
+                    let fault = format!("the separate reader rejects it with {answer}");
                     return self.checker.report(self.call_name(), Some(fault));
                 }
             }

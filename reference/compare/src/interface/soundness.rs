@@ -100,7 +100,7 @@ fn is_variable(image: &Image) -> bool {
 }
 
 /// A next cycle at the end of the clock leaves no bits, so that the call
-/// with it is turned away all the same; see the edges of the clock.
+/// with it is rejected all the same; see the edges of the clock.
 fn cycles(image: &Image) -> Vec<Clause> {
     let next = image[at::NEXT];
     let mut clauses = Vec::new();
