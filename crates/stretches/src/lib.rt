@@ -2,7 +2,6 @@
 ghost use mathlib.Core.Path.{_≡_};
 ghost use Prim.Native.Nat.{_*_, _-_, _<_, _≤_};
 ghost use lib.ListN.{length};
-ghost use Rattle.limits.specs.Limits.{inputLimit};
 ghost use Rattle.bits.specs.Bits.{bitsOf};
 ghost use Rattle.recogniser.specs.Parts.{standing};
 ghost use Rattle.recogniser.specs.Hunting.{meaningOf};
@@ -50,7 +49,7 @@ fn is_quiet(window: u8) -> bool
 
 // Hunting on with a window, up to the first that means something or to the end.
 fn hunt_on(shift: u8, input: &[u8], place: usize, end: usize) -> Stretch
-    requires { ⌜ (place < end) × (end ≤ 8 * length (now input)) × (length (now input) ≤ inputLimit) ⌝ }
+    requires { ⌜ (place < end) × (end ≤ 8 * length (now input)) ⌝ }
     ensures { λ r. ⌜ r ≡ huntOn shift (bitsOf (now (input .entry)) place (end - place)) ⌝ }
 {
     let mut window = shift;
@@ -77,7 +76,7 @@ fn standing(mut r: Recogniser, shift: u8, count: u32) -> Recogniser
 
 // A body, up to its fourth bit or to the end.
 fn body_on(r: Recogniser, input: &[u8], place: usize, end: usize) -> Stretch
-    requires { ⌜ (place < end) × (end ≤ 8 * length (now input)) × (length (now input) ≤ inputLimit) ⌝ }
+    requires { ⌜ (place < end) × (end ≤ 8 * length (now input)) ⌝ }
     ensures { λ o. ⌜ o ≡ bodyOn r (bitsOf (now (input .entry)) place (end - place)) ⌝ }
 {
     let mut nibble = r.shift;
@@ -101,7 +100,7 @@ fn body_on(r: Recogniser, input: &[u8], place: usize, end: usize) -> Stretch
 
 // One cycle or more of the input, up to the end at most, by the present contents of the CNT register; all but the last ask for nothing.
 pub fn advance(r: Recogniser, input: &[u8], place: usize, end: usize, cnt: u16) -> Stretch
-    requires { ⌜ (place < end) × (end ≤ 8 * length (now input)) × (length (now input) ≤ inputLimit) ⌝ }
+    requires { ⌜ (place < end) × (end ≤ 8 * length (now input)) ⌝ }
     ensures { λ o. ⌜ o ≡ stretchOf r cnt (bitsOf (now (input .entry)) place (end - place)) ⌝ }
 {
     let phase = r.phase;

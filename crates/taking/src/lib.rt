@@ -61,7 +61,8 @@ fn write_record(rest: &mut [u64], entry: Record)
     requires { ⌜ (entry .time < clockLimit) × (listUnit ≤ length (now rest)) ⌝ }
     ensures { λ _. ⌜ now (rest .exit) ≡ set (set (now (rest .entry)) 0 (headOf entry)) 1 (entry .value) ⌝ }
 {
-    rest[0] = entry.head();
+    let head = entry.head();
+    rest[0] = head;
     rest[1] = entry.value;
 }
 
