@@ -42,11 +42,11 @@ lv1Value c time = c .l1id * 256 + bunchOf c time
 abbrev pub lv1Counted : Counters → Counters
 lv1Counted c = counters ((c .l1id + 1) % 256) (c .base)
 
--- It is "sent to the front ends" when "acted on while CSR bit 6 is 0".
+-- Whether CSR lets an LV1 be sent to the front ends: "acted on while CSR bit 6 is 0".
 abbrev pub sendsOf : Plan → Model → Bool
 sendsOf plan m = eqb (registerOf m (plan .csr) / 2 ^ 6 % 2) 0
 
--- The record, in RunMode or out of it, with flip or exact, by whether CSR lets it be sent.
+-- The record, in RunMode or out of it, with flip or exact, by whether CSR lets it be sent; one that is not acted on is not sent.
 abbrev pub lv1Record : Bool → Bool → Bool → Counters → ℕ → Record
 lv1Record running flip sends c time =
     recordOf time kindLv1 (flagActed running + flagFlip flip + flagSent (running && sends)) (cond running (lv1Value c time) 0)

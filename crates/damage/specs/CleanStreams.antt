@@ -68,7 +68,7 @@ abbrev pub timed : List Item → Bool
 timed [] = true
 timed (i ∷ is) = spaced (i .command) is
 
--- "the same bits with one inverted": bit k, counted from 0.
+-- The same bits with one inverted: bit k, counted from 0.
 abbrev pub inverted : ℕ → List ℕ → List ℕ
 inverted k [] = []
 inverted zero (bit ∷ bits) = (1 - bit) ∷ bits

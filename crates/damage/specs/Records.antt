@@ -14,7 +14,7 @@ use Rattle.damage.specs.Commands.{widthOf, requestOf}
 use Rattle.damage.specs.CleanStreams.{Item, itemSize}
 use Rattle.damage.specs.Table.{Replacement, nothing, at, replacementOf}
 
--- The counters of a state, L1ID and the base cycle, and whether its LV1s are sent to the front ends.
+-- The counters of a state, L1ID and the base cycle, and whether its CSR lets an LV1 be sent to the front ends.
 abbrev pub countersOf : Decoder → Counters
 countersOf d = d .model .counters
 

@@ -11,7 +11,7 @@ use Rattle.recogniser.specs.declared.Request.the-variants.{Lv1, BadFast}
 use Rattle.damage.specs.Commands.{Command, lv1, bcr, ecr, cal, sync, fasts, among, codeOf, widthOf, isFastCommand, requestOf}
 use Rattle.damage.specs.CleanStreams.{Item, inverted}
 
--- What the table's right column says: "flip at 5" and the like, "bad Fast, at 9", or "none".
+-- What the table's right column says: "LV1 with flip, at 5" and the like, "bad Fast, at 9", or "none".
 pub data Outcome : Type 0 where
   none : Outcome
   flipAt : ℕ → Outcome

@@ -1,5 +1,5 @@
 -- The fields of the state, one row each, in the image's order; and the state made of its fields, each by its name.
--- To add one is its row, and its name where the state is made: all else about an image follows (`Image`).
+-- To add one is its row, and its name where the state is made: all other definitions about an image follow (`Image`).
 -- Assumes nothing.
 use mathlib.Core.Bool.{Bool, cond}
 use mathlib.Core.List.{List, [], _∷_, _++_}

@@ -3,7 +3,7 @@
 -- Assumes nothing.
 use mathlib.Core.Bool.{Bool, true, false, _&&_}
 use mathlib.Core.List.{List, [], _∷_, _++_}
-use mathlib.Core.Path.{_≡_, refl}
+use mathlib.Core.Path.{_≡_}
 use Prim.Native.Nat.{ℕ, suc, _+_, _%_, _^_, _≤_, _<_}
 use Prim.Native.String.{String}
 use lib.Dec.{eqb}
@@ -32,10 +32,6 @@ wordLimits = wordLimitsOf fields
 abbrev pub imageLength : ℕ
 imageLength = suc (length wordLimits)
 
--- A host lends as many words: the header's number.
-pub image-length-is : imageLength ≡ 68
-image-length-is = refl
-
 unfoldable pub imageOf : Decoder → List ℕ
 imageOf d = layout ∷ fieldWords fields d
 
@@ -51,13 +47,13 @@ wordPlace = wordPlaceFrom fields 1
 abbrev pub scalarsOf : Decoder → List ℕ
 scalarsOf d = layout ∷ fieldWords scalars d
 
--- A number by its low part, which is within the limit.
+-- A number brought within the limit; one that is within it stays.
 abbrev pub low : Limit → ℕ → ℕ
 low whole w = w
 low (bits n) w = w % 2 ^ n
 low (upTo m) w = w % suc m
 
--- As many words as there are limits, from a place on, each by its low part.
+-- As many words as there are limits, from a place on, each brought within its own.
 abbrev pub lowWords : List Limit → ℕ → List ℕ → List ℕ
 lowWords [] at image = []
 lowWords (l ∷ ls) at image = low l (getD image at 0) ∷ lowWords ls (suc at) image

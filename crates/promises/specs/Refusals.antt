@@ -28,7 +28,7 @@ abbrev pub firstOf : List Row → ℕ
 firstOf [] = 0
 firstOf (r ∷ rs) = cond (r .applies) (r .number) (firstOf rs)
 
--- The limits that the rows name, in numbers.
+-- The limits of document 01, in numbers.
 pub record Limits : Type 0 where
   pub clock : clockLimit ≡ 2 ^ 48
   pub store : storeLength ≡ 2048

@@ -15,7 +15,7 @@ use Rattle.controller.specs.Commands.{Effect, actOf}
 use Rattle.decoder.specs.declared.Decoder.{Decoder}
 use Rattle.taking.specs.Run.{Turned}
 
--- All that an event acts on: the plan, the number of the next cycle, the model, the store and the tray.
+-- All that an event reads or changes: the plan, the number of the next cycle, the model, the store and the tray.
 pub record Machine : Type 0 where
   pub plan : Plan
   pub next : ℕ
