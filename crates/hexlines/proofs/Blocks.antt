@@ -1,4 +1,4 @@
--- The input's lines, wherever it is cut into blocks: what is scanned of it means what its lines mean.
+-- The input's lines, wherever it is cut into blocks: what is scanned of it is what its lines are.
 -- Assumes nothing.
 use mathlib.Core.Bool.{true, false, cond, not, and-false}
 use mathlib.Core.List.{List, [], _∷_, _++_}
@@ -16,10 +16,10 @@ use Rattle.output.specs.Ascii.{lineFeed}
 use Rattle.hexlines.specs.declared.LineSoFar.{LineSoFar}
 use Rattle.hexlines.specs.declared.Scanned.{Scanned}
 use Rattle.hexlines.specs.Digits.{isDigit}
-use Rattle.hexlines.specs.Line.{LineMeaning, digitLimit}
-use Rattle.hexlines.specs.Lines.{isEmpty, linesFrom, linesOf, lineMeanings, emptyLine, withCharacter, withCharacters, meaningSoFar, noCharacters}
-use Rattle.hexlines.specs.Lines.{upToLineFeed, scanOf, meaningsFrom}
-use Rattle.hexlines.proofs.Meaning.{line-means}
+use Rattle.hexlines.specs.Line.{digitLimit}
+use Rattle.hexlines.specs.Lines.{isEmpty, linesFrom, linesOf, LineRead, linesRead, emptyLine, withCharacter, withCharacters, noCharacters}
+use Rattle.hexlines.specs.Lines.{upToLineFeed, scanOf, readSoFar, readFrom}
+use Rattle.hexlines.proofs.Meaning.{line-read-whole}
 
 -- ---- a line that is cut
 
@@ -52,15 +52,15 @@ no-characters (c ∷ cs) = some-characters emptyLine c cs
 
 -- ---- the lines of an input
 
-lines-from : (line cs : List ℕ) → meaningsFrom (withCharacters emptyLine line) cs ≡ lineMeanings (linesFrom line cs)
-unfolding meaningsFrom linesFrom lineMeanings withCharacters
-lines-from line [] = rw (no-characters line, line-means line) (choice-under lineMeanings (isEmpty line) refl refl)
+lines-from : (line cs : List ℕ) → readFrom (withCharacters emptyLine line) cs ≡ linesRead (linesFrom line cs)
+unfolding readFrom linesFrom linesRead withCharacters
+lines-from line [] = rw (no-characters line, line-read-whole line) (choice-under linesRead (isEmpty line) refl refl)
 lines-from line (c ∷ cs) =
-    choice-under lineMeanings (eqb c lineFeed)
-    (rw (line-means line, lines-from [] cs))
+    choice-under linesRead (eqb c lineFeed)
+    (rw (line-read-whole line, lines-from [] cs))
     (rw (← characters-append emptyLine line (c ∷ [])) (lines-from (line ++ (c ∷ [])) cs))
 
-pub lines : (input : List ℕ) → meaningsFrom emptyLine input ≡ lineMeanings (linesOf input)
+pub lines : (input : List ℕ) → readFrom emptyLine input ≡ linesRead (linesOf input)
 unfolding withCharacters
 lines input = lines-from [] input
 
@@ -91,13 +91,13 @@ unfolding upToLineFeed
 ahead-end block at h = simp (drop-of-length-le block h)
 
 -- what the characters mean, cut after those ahead of the line feed
-abbrev cutAfter : LineSoFar → List ℕ → List ℕ → List ℕ → List LineMeaning
+abbrev cutAfter : LineSoFar → List ℕ → List ℕ → List ℕ → List LineRead
 cutAfter s ahead cs rest =
     let line = withCharacters s ahead in
-    cond (ltb (length ahead) (length cs)) (meaningSoFar line ∷ meaningsFrom emptyLine (drop (suc (length ahead)) cs ++ rest)) (meaningsFrom line rest)
+    cond (ltb (length ahead) (length cs)) (readSoFar line ∷ readFrom emptyLine (drop (suc (length ahead)) cs ++ rest)) (readFrom line rest)
 
-scan-splits : (s : LineSoFar) (cs rest : List ℕ) → meaningsFrom s (cs ++ rest) ≡ cutAfter s (upToLineFeed cs) cs rest
-unfolding meaningsFrom withCharacters upToLineFeed
+scan-splits : (s : LineSoFar) (cs rest : List ℕ) → readFrom s (cs ++ rest) ≡ cutAfter s (upToLineFeed cs) cs rest
+unfolding readFrom withCharacters upToLineFeed
 scan-splits s [] rest = refl
 scan-splits s (c ∷ cs) rest =
     choice-under (λ (l : List ℕ). cutAfter s l (c ∷ cs) rest) (eqb c lineFeed)
@@ -115,7 +115,7 @@ module _ (s : LineSoFar) (block : List ℕ) (at : ℕ) where
 
   module _ (rest : List ℕ) where
     pub scan-complete : scan .complete ≡ true
-        → meaningsFrom s (drop at block ++ rest) ≡ meaningSoFar (scan .line) ∷ meaningsFrom emptyLine (drop (scan .next) block ++ rest)
+        → readFrom s (drop at block ++ rest) ≡ readSoFar (scan .line) ∷ readFrom emptyLine (drop (scan .next) block ++ rest)
     unfolding scanOf
     scan-complete e =
         let h = ltb-true (at + length ahead) (length block) e in
@@ -123,7 +123,7 @@ module _ (s : LineSoFar) (block : List ℕ) (at : ℕ) where
         let next : at + length ahead + 1 ≡ at + suc (length ahead) = omega arith in
         scan-splits s (drop at block) rest ∙ simp (shorter, e, next, drop-drop)
 
-    pub scan-incomplete : scan .complete ≡ false → meaningsFrom s (drop at block ++ rest) ≡ meaningsFrom (scan .line) rest
+    pub scan-incomplete : scan .complete ≡ false → readFrom s (drop at block ++ rest) ≡ readFrom (scan .line) rest
     unfolding scanOf
     scan-incomplete e =
         let h = ltb-false (at + length ahead) (length block) e in

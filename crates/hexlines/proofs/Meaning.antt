@@ -14,10 +14,12 @@ use lib.Seq.{sets, length-take-le, getD-set-same, set-set, take-suc-set, append-
 use borrow.Author.Tests.{lt-ltb, ltb-true, ltb-false, leb-true, leb-false, eqb-true}
 use Rattle.bits.proofs.Truth.{both, cases, choice}
 use Rattle.hexlines.specs.declared.HexLine.{HexLine}
+use Rattle.hexlines.specs.declared.LineNotes.{LineNotes}
 use Rattle.hexlines.specs.declared.LineSoFar.{LineSoFar}
 use Rattle.hexlines.specs.Digits.{isDigit, digitOf, allDigits, bytesOf}
 use Rattle.hexlines.specs.Line.{digitLimit, lineBytes, lineMeaning, countFits, hexCount, readAs, readOf}
-use Rattle.hexlines.specs.Lines.{emptyLine, withCharacter, withCharacters, answerOf, meaningSoFar}
+use Rattle.hexlines.specs.Notes.{noNotes, withNote, withNotes, notesOf}
+use Rattle.hexlines.specs.Lines.{emptyLine, withCharacter, withCharacters, answerOf, meaningSoFar, lineRead, readSoFar}
 use Rattle.hexlines.proofs.Digits.{digit-range}
 
 -- ---- whether there is a wrong character
@@ -66,11 +68,16 @@ digits-all s (c ∷ cs) e low =
 -- ---- the bytes, a pair of digits each
 
 abbrev withOneDigit : LineSoFar → ℕ → LineSoFar
-withOneDigit s d =
+withOneDigit s c =
     let at = s .digits / 2 in
-    record { wrong = s .wrong; digits = s .digits + 1; bytes = set (s .bytes) at (getD (s .bytes) at 0 % 16 * 16 + d) }
+    record {
+      wrong = s .wrong;
+      digits = s .digits + 1;
+      bytes = set (s .bytes) at (getD (s .bytes) at 0 % 16 * 16 + digitOf c);
+      notes = withNote (s .notes) c;
+    }
 
-one-digit : (s : LineSoFar) (c : ℕ) → isDigit c ≡ true → s .digits < digitLimit → withCharacter s c ≡ withOneDigit s (digitOf c)
+one-digit : (s : LineSoFar) (c : ℕ) → isDigit c ≡ true → s .digits < digitLimit → withCharacter s c ≡ withOneDigit s c
 unfolding withCharacter
 one-digit s c e h = simp (e, lt-ltb (s .digits) digitLimit h)
 
@@ -83,16 +90,24 @@ two-digits bytes k x high low h d =
 digit-value : (c : ℕ) → isDigit c ≡ true → digitOf c < 16
 digit-value c e = let d = digit-range c e in choice (λ (n : ℕ). n < 16) (leb c 57) (λ t. let h = leb-true c 57 t in omega arith) (λ f. omega arith)
 
+-- the line with both digits of byte k
+abbrev withPair : LineSoFar → ℕ → ℕ → ℕ → LineSoFar
+withPair s k high low = record {
+  wrong = s .wrong;
+  digits = 2 * (k + 1);
+  bytes = set (s .bytes) k (digitOf high * 16 + digitOf low);
+  notes = withNote (withNote (s .notes) high) low;
+}
+
 module _ (s : LineSoFar) (k high low : ℕ) (even : s .digits ≡ 2 * k) (room : k < lineBytes) (long : length (s .bytes) ≡ lineBytes)
     (eh : isDigit high ≡ true) (el : isDigit low ≡ true) where
-  pair : withCharacter (withCharacter s high) low
-      ≡ record { wrong = s .wrong; digits = 2 * (k + 1); bytes = set (s .bytes) k (digitOf high * 16 + digitOf low) }
+  pair : withCharacter (withCharacter s high) low ≡ withPair s k high low
   pair =
       let half : s .digits / 2 ≡ k = omega arith in
       let half′ : (s .digits + 1) / 2 ≡ k = omega arith in
       let count : s .digits + 1 + 1 ≡ 2 * (k + 1) = omega arith in
       ap (λ (r : LineSoFar). withCharacter r low) (one-digit s high eh (omega arith))
-      ∙ one-digit (withOneDigit s (digitOf high)) low el (omega arith)
+      ∙ one-digit (withOneDigit s high) low el (omega arith)
       ∙ (rw (half, half′, count, two-digits (s .bytes) k _ (digitOf high) (digitOf low) (omega arith) (digit-value high eh)))
 
 bytes-all : (s : LineSoFar) (k : ℕ) (line : List ℕ) → s .digits ≡ 2 * k → length (s .bytes) ≡ lineBytes → allDigits line ≡ true
@@ -105,10 +120,9 @@ bytes-all s k (high ∷ low ∷ cs) even long e h p =
     let d′ = both (isDigit low) (allDigits cs) (d .1) in
     let count : k + suc (suc (length cs)) / 2 ≡ k + 1 + length cs / 2 = omega arith in
     let v = digitOf high * 16 + digitOf low in
-    let r : LineSoFar = record { wrong = s .wrong; digits = 2 * (k + 1); bytes = set (s .bytes) k v } in
     ap (λ (q : LineSoFar). take (k + suc (suc (length cs)) / 2) (withCharacters q cs .bytes)) (pair s k high low even (omega arith) long (d .0) (d′ .0))
     ∙ rw count
-    (bytes-all r (k + 1) cs refl (length-set (s .bytes) k v ∙ long) (d′ .1) (omega arith) (omega arith)
+    (bytes-all (withPair s k high low) (k + 1) cs refl (length-set (s .bytes) k v ∙ long) (d′ .1) (omega arith) (omega arith)
     ∙ rw (add-one k, take-suc-set (s .bytes) k v (omega arith), append-snoc))
 
 -- ---- the whole line
@@ -155,8 +169,24 @@ whole-read line = record {
       rw zero-add at (bytes-all emptyLine 0 line refl refl t (omega arith) (eqb-true _ _ (f .0)));
 }
 
-pub line-means : (line : List ℕ) → meaningSoFar (withCharacters emptyLine line) ≡ lineMeaning line
+line-means : (line : List ℕ) → meaningSoFar (withCharacters emptyLine line) ≡ lineMeaning line
 line-means line = whole-means (withCharacters emptyLine line) line (whole-read line)
+
+-- ---- its notes
+
+note-next : (s : LineSoFar) (c : ℕ) → withCharacter s c .notes ≡ withNote (s .notes) c
+unfolding withCharacter
+note-next s c =
+    let P : LineSoFar → Type 0 = λ r. r .notes ≡ withNote (s .notes) c in
+    choice P (isDigit c) (λ t. choice P (ltb (s .digits) digitLimit) (λ l. refl) (λ l. refl)) (λ f. refl)
+
+notes-all : (s : LineSoFar) (line : List ℕ) → withCharacters s line .notes ≡ withNotes (s .notes) line
+unfolding withCharacters withNotes
+notes-all s [] = refl
+notes-all s (c ∷ cs) = notes-all (withCharacter s c) cs ∙ ap (λ (n : LineNotes). withNotes n cs) (note-next s c)
+
+pub line-read-whole : (line : List ℕ) → readSoFar (withCharacters emptyLine line) ≡ lineRead line
+line-read-whole line = λ i. record { meaning = line-means line i; notes = notes-all emptyLine line i }
 
 -- ---- a line read into a buffer
 

@@ -1,3 +1,4 @@
 pub mod Digits
 pub mod Line
+pub mod Notes
 pub mod Lines

@@ -3,11 +3,11 @@
 use mathlib.Core.Bool.{Bool, cond, _&&_}
 use mathlib.Core.List.{List, []}
 use Prim.Native.Nat.{ℕ, _%_}
-use lib.Dec.{leb, eqb}
+use lib.Dec.{ltb, leb, eqb}
 use lib.ListN.{length}
 use lib.Seq.{sets}
 use Rattle.hexlines.specs.declared.HexLine.{HexLine}
-use Rattle.hexlines.specs.declared.HexLine.the-variants.{Bytes, WrongCharacter, WrongLength}
+use Rattle.hexlines.specs.declared.HexLine.the-variants.{Bytes, WrongCharacter, WrongLength, NoRoom}
 use Rattle.hexlines.specs.Digits.{allDigits, bytesOf}
 
 -- A line's refusal number, 0 for none, and its bytes.
@@ -42,12 +42,14 @@ abbrev pub hexNumber : HexLine → ℕ
 hexNumber (Bytes count) = 0
 hexNumber WrongCharacter = 7
 hexNumber WrongLength = 8
+hexNumber NoRoom = 4
 
 -- How many bytes each answer has.
 abbrev pub hexCount : HexLine → ℕ
 hexCount (Bytes count) = count
 hexCount WrongCharacter = 0
 hexCount WrongLength = 0
+hexCount NoRoom = 0
 
 -- An answer by its number and count, with the lent buffer's later contents.
 pub record Read : Type 0 where
@@ -63,3 +65,7 @@ unfoldable pub readOf : List ℕ → List ℕ → Read
 readOf line buffer =
     let meaning = lineMeaning line in
     record { number = meaning .number; count = length (meaning .bytes); buffer = sets buffer 0 (meaning .bytes) }
+
+-- The same into a buffer of any length: number 4 where it is lent fewer bytes than the longest line has (ours: document 01 names no buffer for a line).
+unfoldable pub readInto : List ℕ → List ℕ → Read
+readInto line buffer = cond (ltb (length buffer) lineBytes) (record { number = 4; count = 0; buffer = buffer }) (readOf line buffer)

@@ -8,10 +8,12 @@ use lib.ListN.{length, getD, set, take, drop, replicate}
 use Rattle.output.specs.Ascii.{lineFeed}
 use Rattle.hexlines.specs.declared.HexLine.{HexLine}
 use Rattle.hexlines.specs.declared.HexLine.the-variants.{Bytes, WrongCharacter, WrongLength}
+use Rattle.hexlines.specs.declared.LineNotes.{LineNotes}
 use Rattle.hexlines.specs.declared.LineSoFar.{LineSoFar}
 use Rattle.hexlines.specs.declared.Scanned.{Scanned}
 use Rattle.hexlines.specs.Digits.{isDigit, digitOf}
 use Rattle.hexlines.specs.Line.{LineMeaning, lineMeaning, digitLimit, lineBytes, countFits, hexNumber, hexCount}
+use Rattle.hexlines.specs.Notes.{noNotes, withNote, notesOf}
 
 abbrev pub isEmpty : List ℕ → Bool
 isEmpty [] = true
@@ -25,26 +27,36 @@ linesFrom line (c ∷ cs) = cond (eqb c lineFeed) (line ∷ linesFrom [] cs) (li
 abbrev pub linesOf : List ℕ → List (List ℕ)
 linesOf input = linesFrom [] input
 
--- What the lines mean, in order.
-unfoldable pub lineMeanings : List (List ℕ) → List LineMeaning
-lineMeanings [] = []
-lineMeanings (line ∷ lines) = lineMeaning line ∷ lineMeanings lines
+-- A line as it is read: what it means, and its notes for a message.
+pub record LineRead : Type 0 where
+  pub meaning : LineMeaning
+  pub notes : LineNotes
+
+abbrev pub lineRead : List ℕ → LineRead
+lineRead line = record { meaning = lineMeaning line; notes = notesOf line }
+
+-- The lines in order.
+unfoldable pub linesRead : List (List ℕ) → List LineRead
+linesRead [] = []
+linesRead (line ∷ lines) = lineRead line ∷ linesRead lines
 
 -- No characters yet.
 abbrev pub emptyLine : LineSoFar
-emptyLine = record { wrong = false; digits = 0; bytes = replicate lineBytes 0 }
+emptyLine = record { wrong = false; digits = 0; bytes = replicate lineBytes 0; notes = noNotes }
 
 -- One more digit: a byte takes two, the first of them the high one. Beyond the limit only that there are more is kept.
-abbrev pub withDigit : LineSoFar → ℕ → LineSoFar
-withDigit s d =
+abbrev pub withDigit : LineSoFar → ℕ → LineNotes → LineSoFar
+withDigit s d notes =
     let at = s .digits / 2 in
     cond (ltb (s .digits) digitLimit)
-    (record { wrong = s .wrong; digits = s .digits + 1; bytes = set (s .bytes) at (getD (s .bytes) at 0 % 16 * 16 + d) })
-    (record { wrong = s .wrong; digits = digitLimit + 1; bytes = s .bytes })
+    (record { wrong = s .wrong; digits = s .digits + 1; bytes = set (s .bytes) at (getD (s .bytes) at 0 % 16 * 16 + d); notes = notes })
+    (record { wrong = s .wrong; digits = digitLimit + 1; bytes = s .bytes; notes = notes })
 
 -- One more character.
 unfoldable pub withCharacter : LineSoFar → ℕ → LineSoFar
-withCharacter s c = cond (isDigit c) (withDigit s (digitOf c)) (record { wrong = true; digits = s .digits; bytes = s .bytes })
+withCharacter s c =
+    let notes = withNote (s .notes) c in
+    cond (isDigit c) (withDigit s (digitOf c) notes) (record { wrong = true; digits = s .digits; bytes = s .bytes; notes = notes })
 
 -- More characters, one after the other.
 unfoldable pub withCharacters : LineSoFar → List ℕ → LineSoFar
@@ -75,7 +87,11 @@ scanOf s block at =
     let complete = ltb (at + length ahead) (length block) in
     record { line = withCharacters s ahead; next = at + length ahead + cond complete 1 0; complete = complete }
 
--- What the lines of an input mean, character by character: the line so far ends at a line feed, and at the end of the input unless it has no characters.
-unfoldable pub meaningsFrom : LineSoFar → List ℕ → List LineMeaning
-meaningsFrom s [] = cond (noCharacters s) [] (meaningSoFar s ∷ [])
-meaningsFrom s (c ∷ cs) = cond (eqb c lineFeed) (meaningSoFar s ∷ meaningsFrom emptyLine cs) (meaningsFrom (withCharacter s c) cs)
+-- The line as it is read, if it ends here.
+abbrev pub readSoFar : LineSoFar → LineRead
+readSoFar s = record { meaning = meaningSoFar s; notes = s .notes }
+
+-- The lines of an input, character by character: the line so far ends at a line feed, and at the end of the input unless it has no characters.
+unfoldable pub readFrom : LineSoFar → List ℕ → List LineRead
+readFrom s [] = cond (noCharacters s) [] (readSoFar s ∷ [])
+readFrom s (c ∷ cs) = cond (eqb c lineFeed) (readSoFar s ∷ readFrom emptyLine cs) (readFrom (withCharacter s c) cs)

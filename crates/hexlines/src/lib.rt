@@ -1,18 +1,19 @@
-// The hexadecimal lines of an input, which may be of any length and may come in blocks. No public call asks anything of its caller, but `read_line` asks
-// for room.
+// The hexadecimal lines of an input, which may be of any length and may come in blocks. No public call asks anything of its caller.
 ghost use mathlib.Core.Path.{_≡_};
 ghost use mathlib.Core.Bool.{true};
 ghost use Prim.Native.Nat.{_+_, _≤_, _<_};
 ghost use lib.ListN.{length, drop};
 ghost use Rattle.hexlines.specs.Digits.{isDigit, digitOf};
-ghost use Rattle.hexlines.specs.Line.{lineBytes, hexNumber, readAs, readOf};
+ghost use Rattle.hexlines.specs.Line.{lineBytes, hexNumber, readAs, readOf, readInto};
+ghost use Rattle.hexlines.specs.Notes.{withNote};
 ghost use Rattle.hexlines.specs.Lines.{emptyLine, withCharacters, answerOf, noCharacters, upToLineFeed, scanOf};
 
-// What a hexadecimal line means: n bytes, or rejected with number 7 or 8.
+// What a hexadecimal line means: n bytes, or rejected with number 7 or 8; and with number 4 where a call that reads it is lent too few bytes.
 pub enum HexLine {
     Bytes(usize),
     WrongCharacter,
     WrongLength,
+    NoRoom,
 }
 
 impl HexLine {
@@ -24,6 +25,7 @@ impl HexLine {
             HexLine::Bytes(_) => 0,
             HexLine::WrongCharacter => 7,
             HexLine::WrongLength => 8,
+            HexLine::NoRoom => 4,
         }
     }
 }
@@ -34,6 +36,14 @@ const DIGIT_LIMIT: usize = 64;
 // The bytes that they stand for.
 pub const LINE_BYTES: usize = 32;
 
+// What the message of a refusal tells of a line: its length so far, and of the first character that is no digit the place, from 1, and the character
+// itself. The place is 0 while there is none.
+pub struct LineNotes {
+    pub length: u64,
+    pub place: u64,
+    pub character: u8,
+}
+
 // A line as far as it is read; it may be of any length.
 pub struct LineSoFar {
     // Whether a character was none of 0-9 and A-F.
@@ -42,6 +52,7 @@ pub struct LineSoFar {
     pub digits: usize,
     // Their bytes, of two digits each, from the first on.
     pub bytes: [u8; LINE_BYTES],
+    pub notes: LineNotes,
 }
 
 // What a scan of a block leaves: the line so far, the place in the block after what was scanned, and whether a line feed completed the line.
@@ -84,15 +95,42 @@ fn line_end(block: &[u8], at: usize) -> usize
     end
 }
 
+impl LineNotes {
+    // One more character.
+    fn with_character(self, character: u8) -> LineNotes
+        ensures { λ r. ⌜ r ≡ withNote self character ⌝ }
+    {
+        let length = std::num::wrapping_add_u64(self.length, 1);
+        if is_digit(character) | (self.place != 0) {
+            return LineNotes {
+                length: length,
+                place: self.place,
+                character: self.character,
+            };
+        }
+        LineNotes {
+            length: length,
+            place: length,
+            character: character,
+        }
+    }
+}
+
 impl LineSoFar {
     // No characters yet, as a line begins.
     pub fn empty() -> LineSoFar
         ensures { λ r. ⌜ r ≡ emptyLine ⌝ }
     {
+        let notes = LineNotes {
+            length: 0,
+            place: 0,
+            character: 0,
+        };
         LineSoFar {
             wrong: false,
             digits: 0,
             bytes: [0; LINE_BYTES],
+            notes: notes,
         }
     }
 
@@ -105,6 +143,9 @@ impl LineSoFar {
         while i < characters.len() {
             let character = characters[i];
             i += 1;
+            let notes = line.notes;
+            let noted = notes.with_character(character);
+            line.notes = noted;
             if !is_digit(character) {
                 line.wrong = true;
                 continue;
@@ -171,8 +212,8 @@ impl LineSoFar {
     }
 }
 
-// Reads a hexadecimal line, which has no line feed, into the start of a lent buffer. A refused line changes nothing.
-pub fn read_line(line: &[u8], bytes: &mut [u8]) -> HexLine
+// Reads a hexadecimal line, which has no line feed, into the start of a buffer with room for the longest. A refused line changes nothing.
+fn read_with_room(line: &[u8], bytes: &mut [u8]) -> HexLine
     requires { ⌜ lineBytes ≤ length (now bytes) ⌝ }
     ensures { λ r. ⌜ readAs r (now (bytes .exit)) ≡ readOf (now (line .entry)) (now (bytes .entry)) ⌝ }
 {
@@ -186,12 +227,23 @@ pub fn read_line(line: &[u8], bytes: &mut [u8]) -> HexLine
         }
         HexLine::WrongCharacter => HexLine::WrongCharacter,
         HexLine::WrongLength => HexLine::WrongLength,
+        HexLine::NoRoom => HexLine::NoRoom,
     }
+}
+
+// The same into a buffer of any length: fewer than 32 bytes are number 4. A refusal changes nothing.
+pub fn read_line(line: &[u8], bytes: &mut [u8]) -> HexLine
+    ensures { λ r. ⌜ readAs r (now (bytes .exit)) ≡ readInto (now (line .entry)) (now (bytes .entry)) ⌝ }
+{
+    if bytes.len() < LINE_BYTES {
+        return HexLine::NoRoom;
+    }
+    read_with_room(line, bytes)
 }
 
 // The same into a buffer of the longest line's bytes.
 pub fn hex_line(line: &[u8], bytes: &mut [u8; LINE_BYTES]) -> HexLine
     ensures { λ r. ⌜ readAs r (now (bytes .exit)) ≡ readOf (now (line .entry)) (now (bytes .entry)) ⌝ }
 {
-    read_line(line, bytes)
+    read_with_room(line, bytes)
 }

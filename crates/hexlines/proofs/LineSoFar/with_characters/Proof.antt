@@ -8,6 +8,7 @@ use borrow.Author.Needs.{needs}
 use borrow.Author.Tests.{not-true, not-false, lt-ltb, le-ltb}
 use Rattle.hexlines.specs.declared.LineSoFar.{LineSoFar}
 use Rattle.hexlines.specs.Digits.{isDigit}
+use Rattle.hexlines.specs.Notes.{withNote}
 use Rattle.hexlines.specs.Lines.{withCharacter}
 use Rattle.hexlines.proofs.PartlyRead.{PartlyRead, none-read, next-read, all-read}
 use Rattle.hexlines.proofs.LineSoFar.with_characters.Statement.{statement}
@@ -21,7 +22,7 @@ abbrev μ-loop : tie.MeasureT-loop
 
 -- The places that the proofs look back to, from the answer whether the character is a digit: the loop's test; and the character.
 abbrev tested : tie.After-is-digit Inv-loop μ-loop → tie.In-loop Inv-loop μ-loop
-tested c = c .before .before
+tested c = c .before .before .before .before
 
 abbrev character : tie.After-is-digit Inv-loop μ-loop → ℕ
 character c = let l = tested c .before in getD (l .before .before .args .characters .now) (l .loop .i) 0
@@ -32,6 +33,10 @@ wrong c = sym (c .before .is-digit .ensures) ∙ not-true _ (c .if1 .taken)
 
 right : (c : tie.Else1 Inv-loop μ-loop) → isDigit (character (c .before)) ≡ true
 right c = sym (c .before .is-digit .ensures) ∙ not-false _ (c .if1 .left)
+
+-- what is noted of it
+noted : (c : tie.After-is-digit Inv-loop μ-loop) → c .before .with-character .result ≡ withNote (tested c .before .loop .line .notes) (character c)
+noted c = c .before .with-character .ensures
 
 -- the line with the character
 read : (c : tie.After-is-digit Inv-loop μ-loop) (line : LineSoFar) → line ≡ withCharacter (tested c .before .loop .line) (character c)
@@ -47,6 +52,9 @@ shared-slice-read-character c = search needs
 add-i : tie.Need-add-i Inv-loop μ-loop
 add-i c = search needs
 
+with-character-requires : tie.Need-with-character-requires Inv-loop μ-loop
+with-character-requires c κs = search needs
+
 is-digit-requires : tie.Need-is-digit-requires Inv-loop μ-loop
 is-digit-requires c κs = search needs
 
@@ -55,7 +63,7 @@ loop-less c = search needs
 
 loop-again : tie.Need-loop-again Inv-loop μ-loop
 unfolding withCharacter
-loop-again c = read (c .before) _ (simp (wrong c))
+loop-again c = read (c .before) _ (simp (wrong c, noted (c .before)))
 
 add-line : tie.Need-add-line Inv-loop μ-loop
 add-line c = search needs
@@ -65,7 +73,7 @@ loop-less-2 c = search needs
 
 loop-again-2 : tie.Need-loop-again-2 Inv-loop μ-loop
 unfolding withCharacter
-loop-again-2 c = read (c .before .before) _ (simp (right (c .before), le-ltb _ _ (c .if2 .taken)))
+loop-again-2 c = read (c .before .before) _ (simp (right (c .before), le-ltb _ _ (c .if2 .taken), noted (c .before .before)))
 
 element-copy-out-held : tie.Need-element-copy-out-held Inv-loop μ-loop
 element-copy-out-held c = search needs
@@ -92,7 +100,7 @@ loop-again-3 : tie.Need-loop-again-3 Inv-loop μ-loop
 unfolding withCharacter
 loop-again-3 c =
     let e = c .before .before .before in
-    read (e .before) _ (simp (right e, lt-ltb _ _ (c .before .before .if2 .left), c .digit .ensures .0))
+    read (e .before) _ (simp (right e, lt-ltb _ _ (c .before .before .if2 .left), c .digit .ensures .0, noted (e .before)))
 
 returns : tie.Need-returns Inv-loop μ-loop
 returns c = all-read (c .before .loop .inv) (c .loop-test .left)
@@ -106,6 +114,7 @@ with-characters-spec =
     loop-holds
     shared-slice-read-character
     add-i
+    with-character-requires
     is-digit-requires
     loop-less
     loop-again

@@ -1,0 +1,47 @@
+-- How long a sentence can be.
+-- Assumes nothing.
+use mathlib.Core.Bool.{Bool, _&&_}
+use mathlib.Core.List.{List}
+use Prim.Native.Char.{code}
+use Prim.Native.Nat.{ℕ, _+_, _≤_}
+use native.Mathlib.Omega.{arith}
+use lib.Dec.{ltb, leb, eqb}
+use lib.ListN.{length, length-append}
+use Rattle.bits.proofs.Truth.{cond-most, choice}
+use Rattle.output.specs.Ascii.{ascii}
+use Rattle.hexlines.specs.declared.LineNotes.{LineNotes}
+use Rattle.hexlines.specs.Line.{digitLimit}
+use Rattle.messages.specs.Sentences.{labelled, characterText, wrongCharacter, wrongLength, reasonOf, sentenceOf}
+use Rattle.messages.proofs.Decimal.{decimal-short}
+
+labelled-length : (label : List ℕ) (n : ℕ) (after : List ℕ) → length (labelled label n after) ≤ length label + 20 + length after
+unfolding labelled
+labelled-length label n after = rw (length-append, length-append) (omega (arith, decimal-short n))
+
+abbrev Short : ℕ → List ℕ → Type 0
+Short most text = length text ≤ most
+
+character-length : (c : ℕ) → Short 50 (characterText c)
+unfolding characterText
+character-length c =
+    choice (Short 50) (eqb c (code "\r")) (λ _. omega arith)
+    (λ _. choice (Short 50) (eqb c (code " ")) (λ _. omega arith)
+    (λ _. choice (Short 50) (eqb c (code "\t")) (λ _. omega arith)
+    (λ _. choice (Short 50) (leb (code "a") c && leb c (code "z")) (λ _. omega arith)
+    (λ _. omega (arith, labelled-length (ascii "byte ") c (ascii ", none of 0-9 and A-F\n"))))))
+
+reason-length : (number : ℕ) (notes : LineNotes) → Short 90 (reasonOf number notes)
+unfolding reasonOf wrongLength
+reason-length number notes =
+    choice (Short 90) (eqb number 7)
+    (λ _. rw length-append
+    (omega (arith, labelled-length (ascii "character ") (notes .place) (ascii " is "), character-length (notes .character))))
+    (λ _. choice (Short 90) (eqb number 8)
+    (λ _. choice (Short 90) (ltb digitLimit (notes .length))
+    (λ _. omega (arith, labelled-length (ascii "the count of digits is ") (notes .length) (ascii ", above 64\n")))
+    (λ _. omega (arith, labelled-length (ascii "the count of digits is ") (notes .length) (ascii ", which is odd\n"))))
+    (λ _. omega arith))
+
+pub sentence-short : (number line : ℕ) (notes : LineNotes) → length (sentenceOf number line notes) ≤ 120
+sentence-short number line notes =
+    rw length-append (omega (arith, labelled-length (ascii "line ") line (ascii ": "), reason-length number notes))

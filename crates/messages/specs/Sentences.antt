@@ -1,0 +1,44 @@
+-- The sentence that standard error gets for a refusal (ours: document 01 has none). All its numbers are decimal.
+-- Assumes nothing.
+use mathlib.Core.Bool.{cond, _&&_}
+use mathlib.Core.List.{List, _++_}
+use Prim.Native.Char.{code}
+use Prim.Native.Nat.{ℕ}
+use lib.Dec.{ltb, leb, eqb}
+use Rattle.output.specs.Ascii.{ascii}
+use Rattle.hexlines.specs.declared.LineNotes.{LineNotes}
+use Rattle.hexlines.specs.Line.{digitLimit}
+use Rattle.messages.specs.Decimal.{decimalOf}
+
+-- A number between two texts.
+unfoldable pub labelled : List ℕ → ℕ → List ℕ → List ℕ
+labelled label n after = label ++ (decimalOf n ++ after)
+
+-- What a character is that is none of 0-9 and A-F.
+unfoldable pub characterText : ℕ → List ℕ
+characterText c =
+    cond (eqb c (code "\r")) (ascii "a carriage return\n")
+    (cond (eqb c (code " ")) (ascii "a space\n")
+    (cond (eqb c (code "\t")) (ascii "a tab\n")
+    (cond (leb (code "a") c && leb c (code "z")) (ascii "a lower-case letter\n")
+    (labelled (ascii "byte ") c (ascii ", none of 0-9 and A-F\n")))))
+
+-- Number 7, by the first such character of the line.
+abbrev pub wrongCharacter : LineNotes → List ℕ
+wrongCharacter notes = labelled (ascii "character ") (notes .place) (ascii " is ") ++ characterText (notes .character)
+
+-- Number 8, by the count of digits.
+unfoldable pub wrongLength : LineNotes → List ℕ
+wrongLength notes =
+    cond (ltb digitLimit (notes .length))
+    (labelled (ascii "the count of digits is ") (notes .length) (ascii ", above 64\n"))
+    (labelled (ascii "the count of digits is ") (notes .length) (ascii ", which is odd\n"))
+
+-- Why a line is refused, by the number and the line's notes. Of the taking call's numbers a program meets 6 alone.
+unfoldable pub reasonOf : ℕ → LineNotes → List ℕ
+reasonOf number notes =
+    cond (eqb number 7) (wrongCharacter notes) (cond (eqb number 8) (wrongLength notes) (ascii "its bits pass the last clock cycle\n"))
+
+-- The whole sentence, by the number, the line's number and its notes.
+abbrev pub sentenceOf : ℕ → ℕ → LineNotes → List ℕ
+sentenceOf number line notes = labelled (ascii "line ") line (ascii ": ") ++ reasonOf number notes
