@@ -74,7 +74,7 @@ extern "C" {
 
 /*
  * The kinds of a record, with what its value holds. Field 3 of a Slow command
- * is its kind less 0x20.
+ * that is not bad is its kind less 0x20.
  */
 #define KERNELSTILL_KIND_LV1 0x01              /* if acted on, L1ID x 256 + bunch number; else 0 */
 #define KERNELSTILL_KIND_BCR 0x11              /* 0 */
