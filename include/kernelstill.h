@@ -13,8 +13,8 @@
  * - A slice that is not const overlaps no other slice of the same call.
  *
  * All else is checked. An unfit call is rejected with its number and changes
- * nothing, but for a refused opening, which gives the default start state.
- * Where several numbers apply, the lowest is answered.
+ * nothing, but for an opening, which is handed no state and gives one even
+ * when it is refused. Where several numbers apply, the lowest is answered.
  *
  * Nothing is kept between calls and there are no globals: all that a reader
  * remembers stands in the image, the store and the tray that the caller
@@ -74,7 +74,7 @@ extern "C" {
 
 /*
  * The kinds of a record, with what its value holds. Field 3 of a Slow command
- * is its kind less 0x20.
+ * that is not bad is its kind less 0x20.
  */
 #define KERNELSTILL_KIND_LV1 0x01              /* if acted on, L1ID x 256 + bunch number; else 0 */
 #define KERNELSTILL_KIND_BCR 0x11              /* 0 */
@@ -105,8 +105,9 @@ extern "C" {
  * The store: FIFO n has the words 128 x n to 128 x n + 127. WrFifo writes
  * words below 2^27, RdFifo reads the low 27 bits.
  *
- * The tray: a frame's first bit is the highest of byte 0. The frame stands
- * there until the next call.
+ * The tray: a frame's first bit is the highest of byte 0, and each byte is
+ * zeroed as its first bit arrives. A frame stands there whole if the tray was
+ * carried over from the frame's first bit on, and until the next call.
  *
  * Both may hold anything at an opening; a module's FIFO words start at 0.
  *
@@ -161,6 +162,10 @@ extern "C" {
  * that does not open. Refused with 1 or 2, it answers the number and writes
  * the default plan's start state at cycle 0. Where the image has another
  * length, it answers 1, 2 or else 3, and writes nothing.
+ *
+ * The image is room to write into: what it holds before is not read, is no
+ * state handed in, and is overwritten at a refusal too. To keep a state, open
+ * into another image.
  */
 uint64_t kernelstill_open(
     uint64_t mask, uint64_t csr, uint64_t feen, uint64_t cnt,
@@ -202,8 +207,8 @@ uint64_t kernelstill_frame_bits(uint64_t head, uint64_t value);
 
 /*
  * How many bytes of the tray, from its first on, a frame of so many bits
- * fills. The unused bits of the last byte are 0. It answers 0 if the tray has
- * fewer bits.
+ * fills; 0 if the tray has fewer bits. The unused bits of the last byte are 0
+ * where the tray was carried over from the frame's first bit.
  */
 size_t kernelstill_frame_part(const uint8_t *tray, size_t tray_length, size_t bits);
 

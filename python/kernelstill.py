@@ -58,7 +58,7 @@ import operator
 import os
 import pathlib
 import struct
-from dataclasses import dataclass
+from dataclasses import dataclass, field
 from typing import Any, BinaryIO, Iterator, List, NamedTuple, Optional, Tuple, Union
 
 __all__ = [
@@ -263,13 +263,17 @@ class Record(NamedTuple):
     GlobalResetFE           SyncW x 2 + 1
     bad Slow                its Field 3
     all others              0
+
+    The unused bits of a frame's last byte are 0 where the tray was carried
+    over from the frame's first bit. A decoder does so, and so do its copies,
+    `save` and `resume`; a change to the saved bytes may undo it.
     """
 
     time: int  # the cycle of its last bit
     kind: int  # KINDS has the names
     flags: int  # the properties below read them
     value: int
-    frame: bytes = b""  # of a frame's record; unused bits of the last byte are 0
+    frame: bytes = b""  # of a frame's record
 
     @property
     def name(self) -> str:
@@ -340,8 +344,8 @@ class Warnings(NamedTuple):
 
 @dataclass(frozen=True)
 class State:
-    """A decoder's state at one moment. `str` gives the lines of the program
-    `model`."""
+    """A decoder's state at one moment, with its FIFO words. `str` gives the
+    state lines of the program `model`."""
 
     plan: Plan
     next_cycle: int
@@ -360,6 +364,7 @@ class State:
     registers: Tuple[int, ...]  # 16, as stored
     write_pointers: Tuple[int, ...]  # 16, a FIFO each
     read_pointers: Tuple[int, ...]
+    fifos: Tuple[Tuple[int, ...], ...] = field(repr=False)  # 16 of 128 words, as stored
 
     @property
     def window(self) -> Optional[int]:
@@ -380,10 +385,12 @@ class State:
     def __str__(self) -> str:
         exist = (n for n in range(len(self.registers)) if self.plan.mask >> n & 1)
         pointers = enumerate(zip(self.write_pointers, self.read_pointers))
+        words = ((n, at, word) for n, fifo in enumerate(self.fifos) for at, word in enumerate(fifo))
         return "\n".join(
             [f"register {n:X} {self.register(n):04X}" for n in exist]
             + [f"l1id {self.l1id:02X}", f"base {self.base:012X}", f"runmode {self.run_mode:d}"]
             + [f"pointers {n:X} {write:02X} {read:02X}" for n, (write, read) in pointers]
+            + [f"word {n:X} {at:02X} {word:08X}" for n, at, word in words if word]
         )
 
 
@@ -391,7 +398,11 @@ class Decoder:
     """A reader of the command line.
 
     It opens with a register plan, out of RunMode and with all registers and
-    FIFO words 0; its first bit has the number `cycle`. Refused with 1 or 2.
+    FIFO words 0; its first bit has the number `cycle`.
+
+    Refused with 1 or 2, and then no decoder is made. An opening is handed no
+    state: at a refusal the library writes the default start state into the
+    image that it is given, which here is a new one that nobody sees.
 
     A decoder is for one thread at a time. `take` lets other threads run: no
     buffer may change while it is being taken.
@@ -413,8 +424,11 @@ class Decoder:
             _unsigned(cnt, "cnt"),
             _unsigned(cycle, "cycle"),
         ]
+        # Into a new image, since a refused opening writes one too.
+        image = (ctypes.c_uint64 * _IMAGE_WORDS)()
+        _check(_library.kernelstill_open(*numbers, image, _IMAGE_WORDS))
         self._make_buffers()
-        _check(_library.kernelstill_open(*numbers, self._image, _IMAGE_WORDS))
+        self._image = image
 
     def _make_buffers(self) -> None:
         self._image = (ctypes.c_uint64 * _IMAGE_WORDS)()
@@ -519,6 +533,7 @@ class Decoder:
             registers=tuple(image[20:36]),
             write_pointers=tuple(image[36:52]),
             read_pointers=tuple(image[52:68]),
+            fifos=tuple(map(self.fifo, range(_FIFOS))),
         )
 
     def fifo(self, number: int) -> Tuple[int, ...]:

@@ -211,7 +211,7 @@ class Cuts(unittest.TestCase):
 class Golden(unittest.TestCase):
     def test_programs(self):
         """As the programs `station` and `model` do it."""
-        inputs = sorted((ROOT / "tests/golden").glob("*/*.in"))
+        inputs = sorted((ROOT / "tests/golden").rglob("*.in"))
         self.assertTrue(inputs)
         for path in inputs:
             with self.subTest(path.stem):
@@ -227,9 +227,6 @@ class Golden(unittest.TestCase):
                     station += listing(records)
                     reading += "".join(f"{record.line()}\n" for record in records)
                 model = f"{reading}{decoder.state}\n"
-                for n in range(16):
-                    for place, word in enumerate(decoder.fifo(n)):
-                        model += f"word {n:X} {place:02X} {word:08X}\n" if word else ""
                 self.assertEqual(station, path.with_suffix(".station").read_text())
                 self.assertEqual(reading, path.with_suffix(".reading").read_text())
                 self.assertEqual(model, path.with_suffix(".model").read_text())
@@ -257,6 +254,29 @@ class Refusals(unittest.TestCase):
         self.refused(2, Decoder, cycle=CLOCK_LIMIT)
         self.refused(2, Decoder, cycle=2**64 - 1)
         self.assertEqual(Decoder(cycle=CLOCK_LIMIT - 1).state.next_cycle, CLOCK_LIMIT - 1)
+
+    def test_opening_is_handed_no_state(self):
+        """A refused opening writes the default start state over what the image
+        held. The module opens into a new image."""
+        wide = Plan(0xFFFF, 15, 14, 13)
+        for number, plan, cycle in (
+            (1, Plan(csr=2), 7),
+            (1, Plan(csr=2), CLOCK_LIMIT),
+            (2, wide, CLOCK_LIMIT),
+        ):
+            decoder = Decoder(wide, 12)
+            decoder.take(CAPTURE)
+            before = decoder.save()
+            self.refused(number, decoder.__init__, plan, cycle)
+            self.assertEqual(decoder.save(), before)
+            # This calls past the module.
+            image = decoder._image
+            given = kernelstill._library.kernelstill_open(*plan, cycle, image, len(image))
+            self.assertEqual((given, image[:]), (number, Decoder()._image[:]))
+            # An image of another length is not written.
+            image[:] = [9] * len(image)
+            given = kernelstill._library.kernelstill_open(*plan, cycle, image, len(image) - 1)
+            self.assertEqual((given, set(image)), (number, {9}))
 
     def test_unsound(self):
         saved = Decoder().save()
@@ -419,6 +439,22 @@ class Frames(unittest.TestCase):
         records = Decoder().take(*at_bit_0(*parts))
         self.assertEqual([r.frame for r in records], [b"", b"\xa5", b"\x5a", b"\xff"])
 
+    def test_unused_bits(self):
+        """They are 0 where the tray was carried over from the frame's first
+        bit, and else what the tray held there."""
+        decoder = Decoder()
+        # Twelve bits, each for eight cycles: the data bits are CNT<15:3>.
+        decoder.take(*at_bit_0(wr_register(5, 12 << 3)))
+        decoder._tray[:] = b"\xff" * len(decoder._tray)
+        data, _, bits = at_bit_0(slow(4, 0, "".join(8 * bit for bit in "101001011100")))
+        decoder.take(data, 0, bits - 8)
+        self.assertEqual(bytes(decoder._tray[:3]), b"\xa5\xc0\xff")
+        other = copy.copy(decoder)
+        other._tray[1] = 0xFF
+        for reader, frame in ((decoder, b"\xa5\xc0"), (other, b"\xa5\xef")):
+            (record,) = reader.take(data, bits - 8, 8)
+            self.assertEqual((record.frame_bits, record.frame), (12, frame))
+
 
 class States(unittest.TestCase):
     def test_start(self):
@@ -462,6 +498,20 @@ class States(unittest.TestCase):
         self.assertEqual((state.l1id, state.base, state.run_mode), (6, 0x8EA, False))
         self.assertEqual(decoder.fifo(0)[:3], (0x0000ABCD, 0x07FF0001, 0))
         self.assertEqual(len(decoder.fifo(15)), 128)
+        self.assertEqual(state.fifos, tuple(map(decoder.fifo, range(16))))
+
+    def test_text(self):
+        """As `model` prints it, FIFO words included."""
+        decoder = Decoder()
+        decoder.take(CAPTURE)
+        model = (ROOT / "tests/golden/capture/capture.model").read_text().splitlines()
+        lines = str(decoder.state).splitlines()
+        self.assertEqual(lines, model[-len(lines) :])
+        self.assertEqual(lines[0], "register 0 0700")
+        self.assertIn("word 0 01 07FF0001", lines)
+        # A word is shown as it is stored.
+        decoder._store[-1] = 0xFFFFFFFF
+        self.assertEqual(str(decoder.state).splitlines()[-1], "word F 7F FFFFFFFF")
 
     def test_read_only_and_readable(self):
         decoder = Decoder()

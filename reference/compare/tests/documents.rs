@@ -1,10 +1,11 @@
 //! The documents name what is there: each file that a page links, each
-//! definition's or proof's file, and each must-fail edit.
+//! definition's or proof's file and each name in it, each promise's part, and
+//! each must-fail edit.
 
 use std::fs;
 use std::path::{Path, PathBuf};
 
-const PAGES: [&str; 8] = [
+const PAGES: [&str; 10] = [
     "README.md",
     "CHANGES.md",
     "docs/ARCHITECTURE.md",
@@ -13,6 +14,8 @@ const PAGES: [&str; 8] = [
     "docs/PROVED.md",
     "docs/SPEED.md",
     "docs/USING.md",
+    "reference/README.md",
+    "tests/golden/README.md",
 ];
 
 fn root() -> PathBuf {
@@ -71,6 +74,92 @@ fn file_is_there(word: &str) -> bool {
             .any(|e| path.with_extension(e).exists())
 }
 
+/// The names that follow a file's in a line: those in it, "`taking/specs/Take`:
+/// `takeOf`, `refused`", or other files of its folder, "`taking/proofs/take`,
+/// `run`".
+struct Named<'a> {
+    file: &'a str,
+    inside: Vec<&'a str>,
+    beside: Vec<&'a str>,
+}
+
+fn named(line: &str) -> Vec<Named<'_>> {
+    // Every second piece stands in backticks.
+    let pieces: Vec<&str> = line.split('`').collect();
+    let listed = |at: usize| -> Vec<&str> {
+        let mut names = Vec::new();
+        for pair in pieces[at..].chunks_exact(2) {
+            names.push(pair[0]);
+            if ![", ", ", and ", " and "].contains(&pair[1]) {
+                break;
+            }
+        }
+        names.retain(|name| !name.contains('/'));
+        names
+    };
+    let files = (1..pieces.len().saturating_sub(1)).step_by(2);
+    files
+        .filter(|&at| names_a_file(pieces[at]))
+        .map(|at| Named {
+            file: pieces[at],
+            inside: listed(if pieces[at + 1] == ": " {
+                at + 2
+            } else {
+                pieces.len()
+            }),
+            beside: listed(if pieces[at + 1] == ", " {
+                at + 2
+            } else {
+                pieces.len()
+            }),
+        })
+        .collect()
+}
+
+/// A line's first word behind those that open a declaration.
+fn declares(line: &str) -> &str {
+    let mut words = line.split_whitespace();
+    words
+        .find(|w| !matches!(*w, "pub" | "abbrev" | "unfoldable" | "record"))
+        .unwrap_or("")
+}
+
+fn is_declared(file: &str, name: &str) -> bool {
+    let path = root().join("crates").join(format!("{file}.antt"));
+    let text = fs::read_to_string(path).unwrap_or_default();
+    text.lines().any(|line| declares(line) == name)
+}
+
+/// The texts of all definitions.
+fn definitions() -> Vec<String> {
+    let entries = |folder: PathBuf| fs::read_dir(folder).into_iter().flatten().flatten();
+    entries(root().join("crates"))
+        .flat_map(|e| entries(e.path().join("specs")))
+        .filter_map(|e| fs::read_to_string(e.path()).ok())
+        .collect()
+}
+
+/// A name such as `Opens.number`: a record and a part of it.
+fn part(word: &str) -> Option<(&str, &str)> {
+    let (record, part) = word.split_once('.')?;
+    let plain = |w: &str| w.chars().all(|c| c.is_ascii_alphanumeric() || c == '-');
+    let starts = |w: &str, how: fn(&char) -> bool| w.chars().next().filter(how).is_some();
+    (plain(record)
+        && plain(part)
+        && starts(record, char::is_ascii_uppercase)
+        && starts(part, char::is_ascii_lowercase))
+    .then_some((record, part))
+}
+
+fn has_part(text: &str, record: &str, part: &str) -> bool {
+    let mut lines = text.lines();
+    let head = format!("pub record {record} ");
+    lines.any(|line| line.starts_with(&head))
+        && lines
+            .take_while(|line| line.starts_with(' '))
+            .any(|line| declares(line) == part)
+}
+
 /// In a row's last column, "crate: `edit`, `edit`; crate: `edit`".
 fn edits(row: &str) -> Vec<String> {
     let cells: Vec<&str> = row.trim().trim_matches('|').split('|').collect();
@@ -110,6 +199,37 @@ fn every_named_definition_and_proof_has_its_file() {
 }
 
 #[test]
+fn every_name_is_in_the_file_that_it_follows() {
+    let mut checked = 0;
+    for name in PAGES {
+        for of_file in page(name).lines().flat_map(named) {
+            let Named { file, .. } = of_file;
+            let (folder, _) = file.rsplit_once('/').expect("a folder");
+            for inside in &of_file.inside {
+                assert!(is_declared(file, inside), "{name}: {inside} in {file}");
+            }
+            for beside in &of_file.beside {
+                let other = format!("{folder}/{beside}");
+                assert!(file_is_there(&other), "{name} names {other}");
+            }
+            checked += of_file.inside.len() + of_file.beside.len();
+        }
+    }
+    assert!(checked > 100, "only {checked} names are checked");
+}
+
+#[test]
+fn every_named_part_of_a_promise_is_there() {
+    let (text, definitions) = (page("docs/PROMISES.md"), definitions());
+    let named: Vec<(&str, &str)> = quoted(&text).into_iter().filter_map(part).collect();
+    assert!(named.len() > 15, "only {} parts are named", named.len());
+    for (record, part) in named {
+        let found = definitions.iter().any(|d| has_part(d, record, part));
+        assert!(found, "no {record}.{part}");
+    }
+}
+
+#[test]
 fn every_named_must_fail_edit_is_there() {
     let text = page("docs/PROMISES.md");
     let named: Vec<String> = text.lines().flat_map(edits).collect();
@@ -127,4 +247,27 @@ fn a_file_that_is_not_there_is_found() {
         edits("| a | b | c | d | taking: `time`, `idles`; image: `phases` |").len(),
         3
     );
+}
+
+#[test]
+fn a_name_in_another_file_is_found() {
+    let line = "| a | `taking/specs/Take`: `takeOf`, `runOf`, and `Call`, with `b`; `taking/proofs/take`, `run`, over `c` |";
+    let of_files = named(line);
+    assert_eq!(of_files.len(), 2);
+    assert_eq!(of_files[0].inside, ["takeOf", "runOf", "Call"]);
+    assert_eq!(of_files[1].beside, ["run"]);
+    assert!(of_files[0].beside.is_empty() && of_files[1].inside.is_empty());
+    assert!(is_declared("taking/specs/Take", "takeOf") && is_declared("taking/specs/Take", "Call"));
+    // It is declared in another file, and used here.
+    assert!(is_declared("taking/specs/Run", "runOf") && !is_declared("taking/specs/Take", "runOf"));
+}
+
+#[test]
+fn a_part_of_another_record_is_found() {
+    assert_eq!(part("Opens.number"), Some(("Opens", "number")));
+    assert!(part("Cargo.Toml").is_none() && part("a.b").is_none() && part("Opens").is_none());
+    let text =
+        "pub record A : Type 0 where\n  pub b : B\n\npub record C : Type 0 where\n  pub d : D\n";
+    assert!(has_part(text, "A", "b") && has_part(text, "C", "d"));
+    assert!(!has_part(text, "A", "d") && !has_part(text, "B", "b"));
 }
