@@ -6,4 +6,3 @@ pub mod TakeStep
 pub mod LineEnd
 pub mod ScanStep
 pub mod Steps
-pub mod Refill

@@ -11,16 +11,16 @@ use Rattle.bits.proofs.Truth.{choice}
 use Rattle.limits.specs.Limits.{clockLimit}
 use Rattle.decoder.proofs.Soundness.{sound-parts}
 use Rattle.hexlines.specs.declared.Scanned.{Scanned}
-use Rattle.hexlines.specs.Lines.{emptyLine, scanOf, meaningSoFar, meaningsFrom}
+use Rattle.hexlines.specs.Lines.{emptyLine, scanOf, readSoFar, readFrom}
 use Rattle.hexlines.proofs.Blocks.{scan-complete, scan-incomplete, scan-to-end, scan-within, scan-advances}
 use Rattle.program.specs.Listing.{bitsText}
 use Rattle.program.specs.RunState.{Snapshot, snapshot, stillToPrint, allPrinted, linesPrinted}
-use Rattle.program.specs.RunState.{StepReady, lineBits, workLeft, AfterLineEnd, AfterSteps}
-use Rattle.program.proofs.WellFormed.{withInput, input-well-formed}
+use Rattle.program.specs.RunState.{StepReady, lineBits, workLeft, AfterLineEnd, AfterSteps, withInput}
+use Rattle.program.proofs.WellFormed.{input-well-formed}
 
 -- with no bits left, the lines of what is to come
 no-bits-left : (frames : Bool) (g : Snapshot) → StepReady g → g .state .count ≡ 0 → (characters : List ℕ)
-    → allPrinted frames g characters ≡ linesPrinted frames g (meaningsFrom (g .state .line) characters)
+    → allPrinted frames g characters ≡ linesPrinted frames g (readFrom (g .state .line) characters)
 unfolding stillToPrint bitsText
 no-bits-left frames g t none characters =
     let clock = sound-parts (g .state .decoder) (t .well-formed .sound) .next in
@@ -37,12 +37,12 @@ pub record ScanMade (input : List ℕ) (g : Snapshot) (scanned : Scanned) : Type
 abbrev pub scannedState : Snapshot → Scanned → Snapshot
 scannedState g scanned =
     let s = g .state in
-    snapshot (withInput s (scanned .line) (scanned .next) (s .length) (s .eof) (s .over)) (g .store) (g .tray) (g .out)
+    snapshot (withInput s (scanned .line) (scanned .next) (s .length) (s .eof) (s .over) (s .number)) (g .store) (g .tray) (g .out)
 
 module _ {input : List ℕ} {g : Snapshot} {scanned : Scanned} (made : ScanMade input g scanned) where
   pub scanned-ready : StepReady (scannedState g scanned)
   scanned-ready = record {
-    well-formed = input-well-formed (made .ready .well-formed) (scanned .line) (scanned .next) (g .state .length) (g .state .eof) (g .state .over);
+    well-formed = input-well-formed (made .ready .well-formed) (scanned .line) (scanned .next) (g .state .length) (g .state .eof) (g .state .over) (g .state .number);
     not-over = made .ready .not-over;
     room = made .ready .room;
   }
@@ -62,7 +62,7 @@ module _ {input : List ℕ} {g : Snapshot} {scanned : Scanned} (made : ScanMade 
 
   -- the line is complete
   module _ (frames : Bool) (complete : scanned .complete ≡ true) {h : Snapshot} (f : AfterLineEnd frames (scannedState g scanned) h) where
-    complete-means : (rest : List ℕ) → meaningsFrom (g .state .line) (before rest) ≡ meaningSoFar (scanned .line) ∷ meaningsFrom emptyLine (after rest)
+    complete-means : (rest : List ℕ) → readFrom (g .state .line) (before rest) ≡ readSoFar (scanned .line) ∷ readFrom emptyLine (after rest)
     complete-means rest = rw (made .result) (scan-complete (g .state .line) input (g .state .next) rest (rw (made .result) at complete))
 
     pub steps-complete : AfterSteps frames input g h
@@ -73,6 +73,7 @@ module _ {input : List ℕ} {g : Snapshot} {scanned : Scanned} (made : ScanMade 
           ∙ sym (no-bits-left frames g (made .ready) (made .none) (before rest) ∙ rw (complete-means rest, f .same-next));
       within = rw (f .same-next) within;
       same-length = f .same-length;
+      same-eof = f .same-eof;
     }
 
     pub less-complete : workLeft (length input) (h .state) < workLeft (length input) (g .state)
@@ -87,7 +88,7 @@ module _ {input : List ℕ} {g : Snapshot} {scanned : Scanned} (made : ScanMade 
 
   -- the block ends first
   module _ (frames : Bool) (incomplete : scanned .complete ≡ false) where
-    incomplete-means : (rest : List ℕ) → meaningsFrom (g .state .line) (before rest) ≡ meaningsFrom (scanned .line) (after rest)
+    incomplete-means : (rest : List ℕ) → readFrom (g .state .line) (before rest) ≡ readFrom (scanned .line) (after rest)
     incomplete-means rest =
         let o : scanOf (g .state .line) input (g .state .next) .complete ≡ false = rw (made .result) at incomplete in
         rw (made .result, scan-to-end (g .state .line) input (g .state .next) o) (scan-incomplete (g .state .line) input (g .state .next) rest o)
@@ -100,6 +101,7 @@ module _ {input : List ℕ} {g : Snapshot} {scanned : Scanned} (made : ScanMade 
           ∙ sym (no-bits-left frames g (made .ready) (made .none) (before rest) ∙ rw (incomplete-means rest));
       within = within;
       same-length = refl;
+      same-eof = refl;
     }
 
     pub less-incomplete : workLeft (length input) (scannedState g scanned .state) < workLeft (length input) (g .state)

@@ -42,11 +42,12 @@ by-taking {frames} {g} {h} input t low = record {
       t .same-listing (drop (h .state .next) input ++ rest) ∙ ap (λ (n : ℕ). allPrinted frames g (drop n input ++ rest)) (t .same-next);
   within = rw (t .same-next) low;
   same-length = t .same-length;
+  same-eof = t .same-eof;
 }
 
 module _ {frames : Bool} {input : List ℕ} where
   pub no-steps : (g : Snapshot) → WellFormed g → g .state .next ≤ length input → AfterSteps frames input g g
-  no-steps g w low = record { well-formed = w; same-listing = λ rest. refl; within = low; same-length = refl }
+  no-steps g w low = record { well-formed = w; same-listing = λ rest. refl; within = low; same-length = refl; same-eof = refl }
 
   pub more-steps : {g h k : Snapshot} → AfterSteps frames input g h → AfterSteps frames input h k → AfterSteps frames input g k
   more-steps p q = record {
@@ -54,4 +55,5 @@ module _ {frames : Bool} {input : List ℕ} where
     same-listing = λ rest. q .same-listing rest ∙ p .same-listing rest;
     within = q .within;
     same-length = q .same-length ∙ p .same-length;
+    same-eof = q .same-eof ∙ p .same-eof;
   }

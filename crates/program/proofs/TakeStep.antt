@@ -1,7 +1,7 @@
 -- A taking call as a step of the run: it keeps all that is printed in the end.
 -- Assumes nothing.
-use mathlib.Core.Bool.{Bool}
-use mathlib.Core.List.{List}
+use mathlib.Core.Bool.{Bool, true, false, cond}
+use mathlib.Core.List.{List, []}
 use mathlib.Core.Path.{_≡_, refl, ap, _∙_, subst⁻¹}
 use Prim.Native.Nat.{ℕ, _+_, _*_, _-_, _<_, _≤_}
 use native.Mathlib.Omega.{arith}
@@ -15,12 +15,13 @@ use Rattle.taking.specs.Take.{Call, CallResult, takeOf}
 use Rattle.taking.proofs.SoundnessKept.{take-sound}
 use Rattle.output.specs.Block.{block, putAll}
 use Rattle.output.proofs.Pieces.{put-end-within}
+use Rattle.hexlines.specs.declared.LineNotes.{LineNotes}
 use Rattle.hexlines.specs.Line.{lineBytes}
-use Rattle.hexlines.specs.Lines.{meaningsFrom}
+use Rattle.hexlines.specs.Lines.{readFrom}
 use Rattle.listing.specs.Records.{recordsText}
-use Rattle.program.specs.Listing.{Outcome, listingOf}
-use Rattle.program.specs.RunState.{Snapshot, snapshot, blockThen, stillToPrint, allPrinted, WellFormed, StepReady, AfterTake}
-use Rattle.program.specs.RunState.{lineBits, listWords, workLeft}
+use Rattle.program.specs.Listing.{refusal, noRefusal, Outcome, outcome, printFirst, listingOf}
+use Rattle.program.specs.RunState.{Snapshot, snapshot, systemAt, blockThen, stillToPrint, allPrinted, WellFormed, StepReady, AfterTake}
+use Rattle.program.specs.RunState.{lineBits, listWords, clockNumber, workLeft}
 use Rattle.program.proofs.OutputBlock.{put-then}
 use Rattle.program.proofs.TakingCall.{CallFits, CallPrints, wordsWritten, call-prints}
 
@@ -52,7 +53,14 @@ afterCallOf g l place out =
       filled = place;
       eof = s .eof;
       over = eqb bits 0;
+      number = clockNumber bits;
     }) (l .store) (l .tray) out
+
+-- what ended the run, if the call took no bits
+ended-at-clock : (none : Bool) (n : ℕ) (notes : LineNotes) (s : System) (rest : Outcome) → let number : ℕ = cond none 6 0 in
+    cond none (outcome [] (cond (eqb number 0) noRefusal (refusal number n notes)) s) rest ≡ cond none (outcome [] (refusal 6 n notes) s) rest
+ended-at-clock true n notes s rest = refl
+ended-at-clock false n notes s rest = refl
 
 -- What is known of the call, and of what it leaves.
 pub record CallMade (g : Snapshot) (list : List ℕ) (l : CallResult) : Type 0 where
@@ -101,9 +109,12 @@ module _ (frames : Bool) {g : Snapshot} {list : List ℕ} {l : CallResult} (made
     same-listing : (characters : List ℕ) → allPrinted frames h characters ≡ allPrinted frames g characters
     unfolding stillToPrint
     same-listing characters =
-        let lines : System → Outcome = λ w. listingOf frames w (g .state .lines) (meaningsFrom (g .state .line) characters) in
+        let lines : System → Outcome = λ w. listingOf frames w (g .state .lines) (readFrom (g .state .line) characters) in
         put-then (g .out) (recordsText frames (l .tray) (wordsWritten l)) out (g .state .filled) place p (records-fit tray) (stillToPrint frames h characters)
-        ∙ rw (made .ready .not-over) (ap (blockThen g) (call-printed .same lines))
+        ∙ rw (made .ready .not-over)
+        (ap (blockThen g) (ap (printFirst (recordsText frames (l .tray) (wordsWritten l)))
+        (ended-at-clock (eqb (l .taken .report .bits) 0) (g .state .lines) (g .state .line .notes) (systemAt h) _)
+        ∙ call-printed .same (g .state .lines) (g .state .line .notes) lines))
 
     less-work : (input : ℕ) → workLeft input (h .state) < workLeft input (g .state)
     less-work input =
@@ -116,4 +127,4 @@ module _ (frames : Bool) {g : Snapshot} {list : List ℕ} {l : CallResult} (made
         (λ b. omega (arith, eqb-false bits 0 b)))
 
     pub after-take : AfterTake frames g h
-    after-take = record { well-formed = well-formed; same-listing = same-listing; same-next = refl; same-length = refl; less-work = less-work }
+    after-take = record { well-formed = well-formed; same-listing = same-listing; same-next = refl; same-length = refl; same-eof = refl; less-work = less-work }

@@ -22,10 +22,11 @@ use Rattle.taking.specs.Calls.{systemAfter}
 use Rattle.taking.proofs.RunFaithful.{run-faithful}
 use Rattle.taking.proofs.LoopInvariant.{length-bits}
 use Rattle.taking.proofs.Refusals.{buffers, range, taken, clock-over}
+use Rattle.hexlines.specs.declared.LineNotes.{LineNotes}
 use Rattle.hexlines.specs.Line.{lineBytes}
 use Rattle.listing.specs.Records.{recordsText}
 use Rattle.program.specs.RunState.{lineBits, listWords}
-use Rattle.program.specs.Listing.{Outcome, outcome, printFirst, bitsThen, bitsText}
+use Rattle.program.specs.Listing.{refusal, Outcome, outcome, printFirst, bitsThen, bitsText}
 use Rattle.program.proofs.RunText.{run-prints, run-takes}
 
 -- the bits after some of a range
@@ -53,24 +54,26 @@ abbrev pub wordsWritten : CallResult → List ℕ
 wordsWritten l = take (l .taken .report .records * 2) (l .list)
 
 -- What is still to come after it: only a refused call takes no bits.
-abbrev pub afterCall : Bool → Call → CallResult → (System → Outcome) → Outcome
-afterCall frames c l rest =
+abbrev pub afterCall : Bool → ℕ → LineNotes → Call → CallResult → (System → Outcome) → Outcome
+afterCall frames n notes c l rest =
     let bits = l .taken .report .bits in
-    cond (eqb bits 0) (outcome [] (systemAfter l)) (bitsThen frames (systemAfter l) (bitsOf (c .input) (c .first + bits) (c .count - bits)) rest)
+    cond (eqb bits 0) (outcome [] (refusal 6 n notes) (systemAfter l))
+    (bitsThen frames (systemAfter l) n notes (bitsOf (c .input) (c .first + bits) (c .count - bits)) rest)
 
 pub record CallPrints (frames : Bool) (d : Decoder) (c : Call) (l : CallResult) : Type 0 where
   pub low : l .taken .report .bits ≤ c .count
   pub fits : l .taken .report .records * 2 ≤ listWords
   pub short : length (recordsText frames (l .tray) (wordsWritten l)) ≤ 14 * listWords + (2 * length (l .tray) + 2)
-  pub same : (rest : System → Outcome) → printFirst (recordsText frames (l .tray) (wordsWritten l)) (afterCall frames c l rest)
-      ≡ bitsThen frames (lent d c) (bitsOf (c .input) (c .first) (c .count)) rest
+  pub same : (n : ℕ) (notes : LineNotes) (rest : System → Outcome)
+      → printFirst (recordsText frames (l .tray) (wordsWritten l)) (afterCall frames n notes c l rest)
+      ≡ bitsThen frames (lent d c) n notes (bitsOf (c .input) (c .first) (c .count)) rest
 
 -- a part of some bits, and then the rest of them
 bits-joined : (frames : Bool) (w v : System) (bits left text : List ℕ)
     → clockFits (w .machine .next) (length bits) ≡ true → clockFits (v .machine .next) (length left) ≡ true
     → bitsText frames w bits ≡ text ++ bitsText frames v left → stateAfter turnOf w bits ≡ stateAfter turnOf v left
-    → (rest : System → Outcome) → printFirst text (bitsThen frames v left rest) ≡ bitsThen frames w bits rest
-bits-joined frames w v bits left text k k′ e s rest = rw (k, k′, e, s, append-assoc)
+    → (n : ℕ) (notes : LineNotes) (rest : System → Outcome) → printFirst text (bitsThen frames v n notes left rest) ≡ bitsThen frames w n notes bits rest
+bits-joined frames w v bits left text k k′ e s n notes rest = rw (k, k′, e, s, append-assoc)
 
 -- the words of a run stand at the start of the list
 words-at-start : (words list : List ℕ) (free : ℕ) → free ≡ 0 → length words / 2 * 2 ≡ length words → length words ≤ length list
@@ -93,7 +96,7 @@ module _ (frames : Bool) (d : Decoder) (c : Call) (f : CallFits d c) where
     low = omega arith;
     fits = omega arith;
     short = omega arith;
-    same = λ rest. simp (length-bits (c .input) (c .first) (c .count), k);
+    same = λ n notes rest. simp (length-bits (c .input) (c .first) (c .count), k);
   }
 
   abbrev r : Run System
@@ -122,11 +125,11 @@ module _ (frames : Bool) (d : Decoder) (c : Call) (f : CallFits d c) where
         low = omega arith;
         fits = omega (arith, q .fits, f .list);
         short = rw words-of-run (omega (arith, p .short, f .list, f .free));
-        same = λ rest.
+        same = λ n notes rest.
             rw (z, words-of-run, ne-eqb (r .bits) 0 (λ e. omega arith), ← left)
             (bits-joined frames w (r .state) offered (drop (r .bits) offered) (recordsText frames (r .state .machine .tray) (r .words)) (rw long k)
             (le-leb (r .state .machine .next + length (drop (r .bits) offered)) clockLimit (rw (p .next, left, length-bits) (omega arith)))
-            (p .text) (p .state) rest);
+            (p .text) (p .state) n notes rest);
       }
 
   sound-state : soundOf d ≡ true

@@ -12,7 +12,9 @@ use Rattle.controller.specs.Records.{headOf}
 use Rattle.taking.specs.Run.{stateAfter}
 use Rattle.taking.specs.Turn.{System, turnOf}
 use Rattle.taking.specs.Take.{clockFits}
-use Rattle.hexlines.specs.Line.{LineMeaning}
+use Rattle.hexlines.specs.declared.LineNotes.{LineNotes}
+use Rattle.hexlines.specs.Notes.{noNotes}
+use Rattle.hexlines.specs.Lines.{LineRead}
 use Rattle.layout.specs.ListingLines.{refusedLine}
 use Rattle.listing.specs.Records.{recordText}
 
@@ -27,33 +29,50 @@ bitsText frames s (bit ∷ bits) =
     let t = turnOf s bit in
     cycleText frames (t .state) (t .cycle) ++ bitsText frames (t .state) bits
 
--- All that a run prints, and the state, store and tray that it leaves.
+-- The refusal that ends a run: its number, the line's number and what the message tells of the line.
+pub record Refusal : Type 0 where
+  pub number : ℕ
+  pub line : ℕ
+  pub notes : LineNotes
+
+abbrev pub refusal : ℕ → ℕ → LineNotes → Refusal
+refusal number line notes = record { number = number; line = line; notes = notes }
+
+-- The end of the input: number 0.
+abbrev pub noRefusal : Refusal
+noRefusal = refusal 0 0 noNotes
+
+-- All that a run prints, the refusal that ends it, and the state, store and tray that it leaves.
 pub record Outcome : Type 0 where
   pub text : List ℕ
+  pub refusal : Refusal
   pub system : System
 
-abbrev pub outcome : List ℕ → System → Outcome
-outcome text s = record { text = text; system = s }
+abbrev pub outcome : List ℕ → Refusal → System → Outcome
+outcome text r s = record { text = text; refusal = r; system = s }
 
 -- A text printed ahead of an outcome.
 abbrev pub printFirst : List ℕ → Outcome → Outcome
-printFirst text o = outcome (text ++ o .text) (o .system)
+printFirst text o = outcome (text ++ o .text) (o .refusal) (o .system)
 
--- A line's bits, and then the rest of the run, given for each state. At the clock's end they are rejected with number 6, and the run ends.
-abbrev pub bitsThen : Bool → System → List ℕ → (System → Outcome) → Outcome
-bitsThen frames s bits rest =
+-- The bits of the n-th line, and then the rest of the run, given for each state. At the clock's end they are rejected with number 6, and the run ends.
+abbrev pub bitsThen : Bool → System → ℕ → LineNotes → List ℕ → (System → Outcome) → Outcome
+bitsThen frames s n notes bits rest =
     cond (clockFits (s .machine .next) (length bits))
     (printFirst (bitsText frames s bits) (rest (stateAfter turnOf s bits)))
-    (outcome [] s)
+    (outcome [] (refusal 6 n notes) s)
 
 -- "the line's number from 1", counted in 64 bits.
 abbrev pub nextLineNumber : ℕ → ℕ
 nextLineNumber n = (n + 1) % 2 ^ 64
 
--- The lines by what they mean, after n that have ended: "A refused line prints .. and ends the run."
-unfoldable pub listingOf : Bool → System → ℕ → List LineMeaning → Outcome
-listingOf frames s n [] = outcome [] s
-listingOf frames s n (meaning ∷ meanings) =
-    cond (eqb (meaning .number) 0)
-    (bitsThen frames s (bitsOf (meaning .bytes) 0 (8 * length (meaning .bytes))) (λ t. listingOf frames t (nextLineNumber n) meanings))
-    (outcome (refusedLine (meaning .number) (nextLineNumber n)) s)
+-- The lines, after n that have ended: "A refused line prints .. and ends the run."
+unfoldable pub listingOf : Bool → System → ℕ → List LineRead → Outcome
+listingOf frames s n [] = outcome [] noRefusal s
+listingOf frames s n (line ∷ lines) =
+    let number = line .meaning .number in
+    let bytes = line .meaning .bytes in
+    let m = nextLineNumber n in
+    cond (eqb number 0)
+    (bitsThen frames s m noNotes (bitsOf bytes 0 (8 * length bytes)) (λ t. listingOf frames t m lines))
+    (outcome (refusedLine number m) (refusal number m (line .notes)) s)

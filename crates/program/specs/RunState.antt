@@ -5,18 +5,20 @@ use mathlib.Core.List.{List, [], _∷_, _++_}
 use mathlib.Core.Path.{_≡_}
 use Prim.Native.Nat.{ℕ, _+_, _*_, _-_, _<_, _≤_}
 use lib.Dec.{T, ltb, leb, eqb}
-use lib.ListN.{length, take, drop, replicate}
+use lib.ListN.{length, set, take, drop, replicate}
 use Rattle.bits.specs.Bits.{bitsOf}
 use Rattle.registers.specs.Plan.{defaultPlan}
 use Rattle.limits.specs.Limits.{storeLength, trayLength}
 use Rattle.decoder.specs.Opening.{openOf}
 use Rattle.decoder.specs.Sound.{soundOf}
 use Rattle.taking.specs.Turn.{System, systemOf}
+use Rattle.output.specs.Ascii.{lineFeed}
 use Rattle.output.specs.Block.{blockLength}
-use Rattle.hexlines.specs.Line.{LineMeaning, lineBytes}
-use Rattle.hexlines.specs.Lines.{emptyLine, meaningSoFar, meaningsFrom}
+use Rattle.hexlines.specs.declared.LineSoFar.{LineSoFar}
+use Rattle.hexlines.specs.Line.{lineBytes}
+use Rattle.hexlines.specs.Lines.{LineRead, emptyLine, noCharacters, readSoFar, readFrom}
 use Rattle.program.specs.declared.RunState.{RunState}
-use Rattle.program.specs.Listing.{Outcome, outcome, printFirst, bitsThen, listingOf}
+use Rattle.program.specs.Listing.{Refusal, refusal, noRefusal, Outcome, outcome, printFirst, bitsThen, listingOf}
 
 -- The most bits of a line.
 abbrev pub lineBits : ℕ
@@ -44,6 +46,7 @@ start = record {
   filled = 0;
   eof = false;
   over = false;
+  number = 0;
 }
 
 -- The run with the buffers that it is lent: FIFO store, tray and the block of output.
@@ -59,13 +62,18 @@ snapshot s store tray out = record { state = s; store = store; tray = tray; out 
 abbrev pub systemAt : Snapshot → System
 systemAt g = systemOf (g .state .decoder) (g .store) (g .tray)
 
+-- What ended a run that is over.
+abbrev pub endOf : RunState → Refusal
+endOf s = cond (eqb (s .number) 0) noRefusal (refusal (s .number) (s .lines) (s .line .notes))
+
 -- All that is still to be printed, given the characters of the input that are not scanned yet: for the bits left of the last line, and for the lines of
 -- those characters.
 unfoldable pub stillToPrint : Bool → Snapshot → List ℕ → Outcome
 stillToPrint frames g characters =
     let s = g .state in
-    cond (s .over) (outcome [] (systemAt g))
-    (bitsThen frames (systemAt g) (bitsOf (s .bytes) (s .first) (s .count)) (λ w. listingOf frames w (s .lines) (meaningsFrom (s .line) characters)))
+    cond (s .over) (outcome [] (endOf s) (systemAt g))
+    (bitsThen frames (systemAt g) (s .lines) (s .line .notes) (bitsOf (s .bytes) (s .first) (s .count))
+    (λ w. listingOf frames w (s .lines) (readFrom (s .line) characters)))
 
 -- What stands in the block of output, and then a rest of the listing.
 abbrev pub blockThen : Snapshot → Outcome → Outcome
@@ -75,9 +83,9 @@ blockThen g rest = printFirst (take (g .state .filled) (g .out)) rest
 abbrev pub allPrinted : Bool → Snapshot → List ℕ → Outcome
 allPrinted frames g characters = blockThen g (stillToPrint frames g characters)
 
--- The same with no bits left of the last line, given what the lines to come mean.
-abbrev pub linesPrinted : Bool → Snapshot → List LineMeaning → Outcome
-linesPrinted frames g meanings = blockThen g (listingOf frames (systemAt g) (g .state .lines) meanings)
+-- The same with no bits left of the last line, given the lines to come.
+abbrev pub linesPrinted : Bool → Snapshot → List LineRead → Outcome
+linesPrinted frames g lines = blockThen g (listingOf frames (systemAt g) (g .state .lines) lines)
 
 -- What a run under way has: no taking call is refused but at the clock's end.
 pub record WellFormed (g : Snapshot) : Type 0 where
@@ -93,6 +101,10 @@ pub record StepReady (g : Snapshot) : Type 0 where
   pub not-over : g .state .over ≡ false
   pub room : g .state .filled + stepRoom ≤ length (g .out)
 
+-- The refusal of a taking call of a line's bits: only one at the clock's end takes no bits.
+abbrev pub clockNumber : ℕ → ℕ
+clockNumber bits = cond (eqb bits 0) 6 0
+
 -- The measure of the steps' loop, given the length of the block of input: a step takes bits, or scans and so brings the bits of one line, or ends the run.
 abbrev pub workLeft : ℕ → RunState → ℕ
 workLeft input s = cond (s .over) 0 1 + (lineBits + 1) * (input - s .next) + s .count
@@ -103,15 +115,17 @@ pub record AfterTake (frames : Bool) (g h : Snapshot) : Type 0 where
   pub same-listing : (characters : List ℕ) → allPrinted frames h characters ≡ allPrinted frames g characters
   pub same-next : h .state .next ≡ g .state .next
   pub same-length : h .state .length ≡ g .state .length
+  pub same-eof : h .state .eof ≡ g .state .eof
   pub less-work : (input : ℕ) → workLeft input (h .state) < workLeft input (g .state)
 
 -- The end of a line: what it means is listed next.
 pub record AfterLineEnd (frames : Bool) (g h : Snapshot) : Type 0 where
   pub well-formed : WellFormed h
   pub same-listing : (characters : List ℕ) → allPrinted frames h characters
-      ≡ linesPrinted frames g (meaningSoFar (g .state .line) ∷ meaningsFrom emptyLine characters)
+      ≡ linesPrinted frames g (readSoFar (g .state .line) ∷ readFrom emptyLine characters)
   pub same-next : h .state .next ≡ g .state .next
   pub same-length : h .state .length ≡ g .state .length
+  pub same-eof : h .state .eof ≡ g .state .eof
   pub count : h .state .count ≤ lineBits
 
 -- Steps keep all that is printed in the end, whatever more of the input follows its block.
@@ -120,6 +134,7 @@ pub record AfterSteps (frames : Bool) (input : List ℕ) (g h : Snapshot) : Type
   pub same-listing : (more : List ℕ) → allPrinted frames h (drop (h .state .next) input ++ more) ≡ allPrinted frames g (drop (g .state .next) input ++ more)
   pub within : h .state .next ≤ length input
   pub same-length : h .state .length ≡ g .state .length
+  pub same-eof : h .state .eof ≡ g .state .eof
 
 -- Whether a step is to be made, by the lengths of the two blocks.
 unfoldable pub canStep : ℕ → ℕ → RunState → Bool
@@ -141,9 +156,34 @@ pub record PlacesInBlock (s : RunState) : Type 0 where
   pub next : s .next ≤ s .length
   pub length : s .length ≤ blockLength
 
--- A read keeps what a run under way has. Where it finds the end of the input, what it puts into the block means what the end means, or the run is over.
-pub record AfterRefill (s r : RunState) (input : List ℕ) : Type 0 where
-  pub well-formed : (store tray out : List ℕ) → WellFormed (snapshot s store tray out) → WellFormed (snapshot r store tray out)
-  pub within : PlacesInBlock s → PlacesInBlock r
-  pub last : s .eof ≡ false → r .eof ≡ true
-      → meaningsFrom (s .line) [] ≡ cond (r .over) [] (meaningsFrom (r .line) (drop (r .next) (take (r .length) input)))
+-- The run with another line so far, other places of the block of input, and other answers whether the input and the run have ended.
+abbrev pub withInput : RunState → LineSoFar → ℕ → ℕ → Bool → Bool → ℕ → RunState
+withInput s line next length eof over number = record {
+  decoder = s .decoder;
+  line = line;
+  lines = s .lines;
+  bytes = s .bytes;
+  first = s .first;
+  count = s .count;
+  next = next;
+  length = length;
+  filled = s .filled;
+  eof = eof;
+  over = over;
+  number = number;
+}
+
+-- Whether all that the last read brought is listed, and the next is due.
+unfoldable pub wantsInput : RunState → Bool
+wantsInput s = eqb (s .count) 0 && leb (s .length) (s .next)
+
+-- A read that brought characters moves the places of the block alone. One that brought none is the input's end: it stands as a line feed after a line
+-- that has begun, and ends the run after one that has not.
+unfoldable pub receivedOf : RunState → ℕ → RunState
+receivedOf s got =
+    cond (eqb got 0)
+    (withInput s (s .line) 0 1 true (noCharacters (s .line)) 0)
+    (withInput s (s .line) 0 got (s .eof) (s .over) (s .number))
+
+abbrev pub receivedBlock : ℕ → List ℕ → List ℕ
+receivedBlock got input = cond (eqb got 0) (set input 0 lineFeed) input

@@ -1,15 +1,12 @@
-// A program's run: hexadecimal lines from standard input, their listing to standard output.
+// A program's run but for its reads and writes: from the characters of hexadecimal lines to the text of their listing.
 ghost use mathlib.Core.Path.{_≡_};
 ghost use mathlib.Core.Bool.{true, false};
 ghost use Prim.Native.Nat.{_+_, _<_, _≤_};
 ghost use lib.ListN.{length};
-ghost use Rattle.output.specs.Block.{blockLength};
 ghost use Rattle.program.specs.RunState.{start, snapshot, workLeft, canStep, WellFormed, StepReady, AfterTake, EndsLine, ScansLine, AfterSteps};
-ghost use Rattle.program.specs.RunState.{AfterRefill};
+ghost use Rattle.program.specs.RunState.{clockNumber, wantsInput, receivedOf, receivedBlock};
 use decoder::Decoder;
 use hexlines::LineSoFar;
-use libc::STDIN_FILENO;
-use libc::STDOUT_FILENO;
 use registers::Plan;
 
 // What a program prints beside the records: the frames, and at the end of the run the controller as the commands left it.
@@ -19,22 +16,23 @@ pub struct PrintOptions {
 }
 
 // The state of a run under way, but for its buffers.
-struct RunState {
-    decoder: Decoder,
-    // The present line so far, and how many lines have ended.
-    line: LineSoFar,
-    lines: u64,
+pub struct RunState {
+    pub decoder: Decoder,
+    // The present line so far, or the line that was refused, and how many lines have ended.
+    pub line: LineSoFar,
+    pub lines: u64,
     // Of the line that ended last: its bytes, the first of its bits that is not taken yet, and how many are left.
-    bytes: [u8; hexlines::LINE_BYTES],
-    first: usize,
-    count: usize,
+    pub bytes: [u8; hexlines::LINE_BYTES],
+    pub first: usize,
+    pub count: usize,
     // Of the block of input: the places after what is scanned, and after what a read brought. Of the block of output: the place after what is put.
-    next: usize,
-    length: usize,
-    filled: usize,
-    // Whether the input has ended, and whether the run has: at a refusal, or after the input's end.
-    eof: bool,
-    over: bool,
+    pub next: usize,
+    pub length: usize,
+    pub filled: usize,
+    // Whether the input has ended, and whether the run has: at a refusal, or after the input's end. The refusal's number, 0 for none.
+    pub eof: bool,
+    pub over: bool,
+    pub number: u8,
 }
 
 // The words of a taking call's list: 16 records.
@@ -44,9 +42,16 @@ const LIST_WORDS: usize = 32;
 // the tray, and two more.
 const STEP_ROOM: usize = 14 * LIST_WORDS + (2 * Decoder::TRAY_LENGTH + 2);
 
+// The refusal of a taking call of a line's bits, by the bits that it took: only one at the clock's end takes none.
+fn clock_number(bits: usize) -> u8
+    ensures { λ r. ⌜ r ≡ clockNumber bits ⌝ }
+{
+    if bits == 0 { 6 } else { 0 }
+}
+
 impl RunState {
     // Opens with the default plan at cycle 0.
-    fn start() -> RunState
+    pub fn start() -> RunState
         ensures { λ r. ⌜ r ≡ start ⌝ }
     {
         let opened = Decoder::start(Plan::default_plan(), 0);
@@ -63,6 +68,7 @@ impl RunState {
             filled: 0,
             eof: false,
             over: false,
+            number: 0,
         }
     }
 
@@ -85,6 +91,7 @@ impl RunState {
         next.count = self.count - report.bits;
         next.filled = listing::put_records(out, self.filled, &list[..n], tray, frames);
         next.over = report.bits == 0;
+        next.number = clock_number(report.bits);
         next
     }
 
@@ -96,13 +103,14 @@ impl RunState {
         let answer = line.answer();
         let number = answer.number();
         let mut next = self;
-        next.line = LineSoFar::empty();
         next.lines = std::num::wrapping_add_u64(self.lines, 1);
         if number != 0 {
             next.filled = layout::refused_line(out, self.filled, number, next.lines);
             next.over = true;
+            next.number = number;
             return next;
         }
+        next.line = LineSoFar::empty();
         // A digit has four bits.
         let bytes = line.bytes;
         next.bytes = bytes;
@@ -159,7 +167,7 @@ impl RunState {
     }
 
     // Lists the rest of the block of input into the block of output, as far as that has room.
-    fn list_block(
+    pub fn list_block(
         self,
         input: &[u8],
         store: &mut [u32],
@@ -179,28 +187,24 @@ impl RunState {
         state
     }
 
-    // The next read, once all that the last one brought is listed. The end of the input ends a line that has begun, as a line feed does, and then the
-    // run; a failed read ends the run.
-    fn refill(self, input: &mut [u8]) -> RunState
-        requires { ⌜ length (now input) ≡ blockLength ⌝ }
-        ensures { λ r. ⌜ AfterRefill self r (now (input .exit)) ⌝ }
+    // Whether all that the last read brought is listed, and the next is due.
+    pub fn wants_input(self) -> bool
+        ensures { λ r. ⌜ r ≡ wantsInput self ⌝ }
     {
-        if (self.count != 0) | (self.next < self.length) {
-            return self;
-        }
+        (self.count == 0) & (self.length <= self.next)
+    }
+
+    // What a read brought: `got` characters at the start of the block of input. None is the input's end, which ends a line that has begun, as a line
+    // feed does, and then the run.
+    pub fn receive(self, input: &mut [u8], got: usize) -> RunState
+        requires { ⌜ 0 < length (now input) ⌝ }
+        ensures { λ r. ⌜ r ≡ receivedOf self got ⌝ }
+        ensures { λ r. ⌜ now (input .exit) ≡ receivedBlock got (now (input .entry)) ⌝ }
+    {
         let mut next = self;
         next.next = 0;
-        if self.eof {
-            next.over = true;
-            return next;
-        }
-        let got = libc::read(STDIN_FILENO, input);
-        if 0 < got {
-            next.length = io::count(got, input);
-            return next;
-        }
-        if got < 0 {
-            next.over = true;
+        next.length = got;
+        if got != 0 {
             return next;
         }
         let line = self.line;
@@ -208,39 +212,7 @@ impl RunState {
         next.length = 1;
         next.eof = true;
         next.over = line.is_empty();
+        next.number = 0;
         next
-    }
-}
-
-// A program's whole run. What a read brought is listed and written before the next read; a failed write ends the run at once.
-pub fn run(prints: PrintOptions) {
-    let mut store = [0u32; Decoder::STORE_LENGTH];
-    let mut tray = [0u8; Decoder::TRAY_LENGTH];
-    let mut input = io::large_buffer();
-    let mut output = io::large_buffer();
-    let mut state = RunState::start();
-    // A proved loop has to end, and nothing says that the input does: no run uses this number up.
-    let mut reads = u64::MAX;
-    while (0 < reads) & !state.over {
-        reads -= 1;
-        state = state.refill(&mut input);
-        let length = state.length;
-        state = state.list_block(
-            &input[..length],
-            &mut store,
-            &mut tray,
-            &mut output,
-            prints.frames,
-        );
-        let filled = state.filled;
-        if !io::write_all(STDOUT_FILENO, &output[..filled]) {
-            return;
-        }
-        state.filled = 0;
-    }
-    if prints.state {
-        let decoder = state.decoder;
-        let n = listing::put_state(&mut output, decoder, &store);
-        io::write_all(STDOUT_FILENO, &output[..n]);
     }
 }

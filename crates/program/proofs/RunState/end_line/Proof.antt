@@ -14,7 +14,7 @@ use Rattle.program.proofs.RunState.end_line.Tie as tie
 
 -- The places that the proofs look back to, from the one where the line is counted: its number, and the start.
 abbrev numbered : tie.After-wrapping-add-u64 → tie.After-number
-numbered c = c .before .before
+numbered c = c .before
 
 abbrev start : tie.After-wrapping-add-u64 → tie.Start
 start c = numbered c .before .before .before .before
@@ -28,10 +28,9 @@ number-of-line : (c : tie.After-wrapping-add-u64) → numbered c .number .result
 number-of-line c = let n = numbered c in n .number .ensures ∙ ap hexNumber (n .before .answer .ensures)
 
 ended : (c : tie.After-wrapping-add-u64) (store tray : List ℕ) → StepReady (before c store tray)
-    → LineEnded (before c store tray) (c .before .empty .result) (c .wrapping-add-u64 .result) (numbered c .number .result)
+    → LineEnded (before c store tray) (c .wrapping-add-u64 .result) (numbered c .number .result)
 ended c store tray t = record {
   ready = t;
-  empty = c .before .empty .ensures;
   counted = c .wrapping-add-u64 .ensures;
   numbered = number-of-line c;
 }
@@ -41,9 +40,6 @@ answer-requires c κs = search needs
 
 number-requires : tie.Need-number-requires
 number-requires c κs = search needs
-
-empty-requires : tie.Need-empty-requires
-empty-requires c κs = search needs
 
 wrapping-add-u64-requires : tie.Need-wrapping-add-u64-requires
 wrapping-add-u64-requires c κs = search needs
@@ -61,19 +57,23 @@ returns c =
     let refused = put .before .before in
     line-refused frames (ended (refused .before) store tray t) (refused .if1 .taken) _ _ (put .refused-line .ensures)
 
+empty-requires : tie.Need-empty-requires
+empty-requires c κs = search needs
+
 mul-next : tie.Need-mul-next
 mul-next c =
-    let accepted = c .before .before in
+    let accepted = c .before .before .before in
     let w = accepted .before in
     omega (arith, line-fits (start w .args .self .line) (sym (number-of-line w) ∙ accepted .if1 .left) .few)
 
 returns-2 : tie.Need-returns-2
 returns-2 c =
     λ frames store tray t none.
-    let accepted = c .before .before in
+    let emptied = c .before .before in
+    let accepted = emptied .before in
     let w = accepted .before in
     let known = start w .good .0 .1 .1 .1 .0 .1 .1 .1 .1 .0 in
-    line-accepted frames (ended w store tray t) (accepted .if1 .left) (search needs)
+    line-accepted frames (ended w store tray t) (accepted .if1 .left) _ (emptied .empty .ensures) (search needs)
 
 pub end-line-spec : {M : Type 1} → statement M
 end-line-spec =
@@ -81,10 +81,10 @@ end-line-spec =
     (tie.spec
     answer-requires
     number-requires
-    empty-requires
     wrapping-add-u64-requires
     refused-line-requires
     same-length
     returns
+    empty-requires
     mul-next
     returns-2)

@@ -87,11 +87,14 @@ put-records-requires c κs =
     let t = called r in
     records-fit (frames t) (made t) (trayKept r .tray .given)
 
--- from the end of the function
-abbrev put : tie.After-struct-known6 → tie.After-put-records
-put c = c .before .before .before
+clock-number-requires : tie.Need-clock-number-requires
+clock-number-requires c κs = search needs
 
-abbrev atEnd : tie.After-struct-known6 → tie.After-report
+-- from the end of the function
+abbrev put : tie.After-clock-number → tie.After-put-records
+put c = c .before .before .before .before
+
+abbrev atEnd : tie.After-clock-number → tie.After-report
 atEnd c = reported (put c .before .before .before .before)
 
 same-length : tie.Need-same-length
@@ -107,7 +110,8 @@ returns : tie.Need-returns
 returns c =
     let r = atEnd c in
     let t = called r in
-    after-take (frames t) (made t) (storeKept r .store .given) (trayKept r .tray .given) _ _ (put c .put-records .ensures)
+    rw (c .clock-number .ensures)
+    (after-take (frames t) (made t) (storeKept r .store .given) (trayKept r .tray .given) _ _ (put c .put-records .ensures))
 
 pub take-bits-spec : {M : Type 1} → statement M
 take-bits-spec =
@@ -122,6 +126,7 @@ take-bits-spec =
     array-share-prefix-list
     slice-aggregate-put-records
     put-records-requires
+    clock-number-requires
     same-length
     same-length-2
     same-length-3
