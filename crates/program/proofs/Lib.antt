@@ -6,3 +6,4 @@ pub mod TakeStep
 pub mod LineEnd
 pub mod ScanStep
 pub mod Steps
+pub mod Standing

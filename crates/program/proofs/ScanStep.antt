@@ -2,7 +2,7 @@
 -- Assumes nothing.
 use mathlib.Core.Bool.{Bool, true, false}
 use mathlib.Core.List.{List, _∷_, _++_}
-use mathlib.Core.Path.{_≡_, refl, sym, _∙_}
+use mathlib.Core.Path.{_≡_, refl, sym, ap, _∙_}
 use Prim.Native.Nat.{ℕ, _+_, _*_, _-_, _<_, _≤_}
 use native.Mathlib.Omega.{arith}
 use lib.ListN.{length, drop}
@@ -13,18 +13,22 @@ use Rattle.decoder.proofs.Soundness.{sound-parts}
 use Rattle.hexlines.specs.declared.Scanned.{Scanned}
 use Rattle.hexlines.specs.Lines.{emptyLine, scanOf, readSoFar, readFrom}
 use Rattle.hexlines.proofs.Blocks.{scan-complete, scan-incomplete, scan-to-end, scan-within, scan-advances}
-use Rattle.program.specs.Listing.{bitsText}
-use Rattle.program.specs.RunState.{Snapshot, snapshot, stillToPrint, allPrinted, linesPrinted}
-use Rattle.program.specs.RunState.{StepReady, lineBits, workLeft, AfterLineEnd, AfterSteps, withInput}
+use Rattle.program.specs.Listing.{bitsText, listingOf}
+use Rattle.program.specs.RunState.{Snapshot, snapshot, systemAt, blockThen, stillToPrint, allPrinted, linesPrinted}
+use Rattle.program.specs.RunState.{WellFormed, StepReady, lineBits, workLeft, AfterLineEnd, AfterSteps, withInput}
 use Rattle.program.proofs.WellFormed.{input-well-formed}
 
 -- with no bits left, the lines of what is to come
-no-bits-left : (frames : Bool) (g : Snapshot) → StepReady g → g .state .count ≡ 0 → (characters : List ℕ)
-    → allPrinted frames g characters ≡ linesPrinted frames g (readFrom (g .state .line) characters)
+pub no-bits-left : (frames : Bool) (g : Snapshot) → WellFormed g → g .state .over ≡ false → g .state .count ≡ 0 → (characters : List ℕ)
+    → stillToPrint frames g characters ≡ listingOf frames (systemAt g) (g .state .lines) (readFrom (g .state .line) characters)
 unfolding stillToPrint bitsText
-no-bits-left frames g t none characters =
-    let clock = sound-parts (g .state .decoder) (t .well-formed .sound) .next in
-    rw (t .not-over, none, le-leb (g .state .decoder .next + 0) clockLimit (omega arith))
+no-bits-left frames g w under-way none characters =
+    let clock = sound-parts (g .state .decoder) (w .sound) .next in
+    rw (under-way, none, le-leb (g .state .decoder .next + 0) clockLimit (omega arith))
+
+lines-left : (frames : Bool) (g : Snapshot) → StepReady g → g .state .count ≡ 0 → (characters : List ℕ)
+    → allPrinted frames g characters ≡ linesPrinted frames g (readFrom (g .state .line) characters)
+lines-left frames g t none characters = ap (blockThen g) (no-bits-left frames g (t .well-formed) (t .not-over) none characters)
 
 -- What `scan_line` knows: no bits are left, the block has more, and a scan of it.
 pub record ScanMade (input : List ℕ) (g : Snapshot) (scanned : Scanned) : Type 0 where
@@ -70,7 +74,7 @@ module _ {input : List ℕ} {g : Snapshot} {scanned : Scanned} (made : ScanMade 
       well-formed = f .well-formed;
       same-listing = λ rest.
           f .same-listing (drop (h .state .next) input ++ rest)
-          ∙ sym (no-bits-left frames g (made .ready) (made .none) (before rest) ∙ rw (complete-means rest, f .same-next));
+          ∙ sym (lines-left frames g (made .ready) (made .none) (before rest) ∙ rw (complete-means rest, f .same-next));
       within = rw (f .same-next) within;
       same-length = f .same-length;
       same-eof = f .same-eof;
@@ -97,8 +101,8 @@ module _ {input : List ℕ} {g : Snapshot} {scanned : Scanned} (made : ScanMade 
     steps-incomplete = record {
       well-formed = scanned-ready .well-formed;
       same-listing = λ rest.
-          no-bits-left frames (scannedState g scanned) scanned-ready (made .none) (after rest)
-          ∙ sym (no-bits-left frames g (made .ready) (made .none) (before rest) ∙ rw (incomplete-means rest));
+          lines-left frames (scannedState g scanned) scanned-ready (made .none) (after rest)
+          ∙ sym (lines-left frames g (made .ready) (made .none) (before rest) ∙ rw (incomplete-means rest));
       within = within;
       same-length = refl;
       same-eof = refl;
