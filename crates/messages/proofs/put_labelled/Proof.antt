@@ -1,6 +1,6 @@
 -- `put_labelled` meets its contract: the label, the digits that `io::decimal` makes, and the text after them.
 -- Assumes nothing.
-use mathlib.Core.List.{List, _++_, append-nil}
+use mathlib.Core.List.{List, [], _++_, append-nil}
 use mathlib.Core.Path.{_≡_, refl, sym, ap, _∙_}
 use Prim.Native.Nat.{ℕ}
 use native.Mathlib.Omega.{arith}
@@ -13,7 +13,7 @@ use Rattle.messages.proofs.Decimal.{decimal-digits}
 use Rattle.messages.proofs.put_labelled.Statement.{statement}
 use Rattle.messages.proofs.put_labelled.Tie as tie
 
--- The places that the proofs look back to: the start by the digits, and the digits by each piece that is put after them.
+-- The places that the proofs look back to: the start by the digits, the digits by the label, and the label by the digits that are put after it.
 abbrev start : tie.After-decimal → tie.Start
 start c = c .before .before .before .before .before
 
@@ -23,27 +23,48 @@ made c = c .before .before
 abbrev labelPut : tie.After-put-bytes2 → tie.After-put-bytes
 labelPut c = c .before .before .before .before .before
 
+-- The pieces.
+abbrev label : tie.After-decimal → List ℕ
+label c = start c .args .label .now
+
+abbrev number : tie.After-decimal → List ℕ
+number c = decimalOf (start c .args .number)
+
+abbrev after : tie.After-decimal → List ℕ
+after c = start c .args .after .now
+
 -- What is left to put of the text.
 abbrev Rest : tie.After-decimal → List ℕ → ℕ → List ℕ → Type 0
-Rest c out place rest = let a = start c .args in PartlyPut (a .out .now) (a .at) (labelled (a .label .now) (a .number) (a .after .now)) out place rest
+Rest c out place rest = let a = start c .args in PartlyPut (a .out .now) (a .at) (labelled (label c) (a .number) (after c)) out place rest
 
 -- the digits are the number's
-digits-made : (c : tie.After-decimal) → take (c .decimal .result) (c .decimal .last .0) ≡ decimalOf (start c .args .number)
-digits-made c = ?
+digits-made : (c : tie.After-decimal) → take (c .decimal .result) (c .decimal .last .1 .0) ≡ number c
+digits-made c = let e = c .decimal .ensures in e .1 .1 ∙ decimal-digits _ _ (omega (arith, start c)) (e .1 .0)
 
-whole : (c : tie.After-decimal) → let a = start c .args in Rest c (a .out .now) (a .at) (a .label .now ++ (decimalOf (a .number) ++ a .after .now))
+whole : (c : tie.After-decimal) → let a = start c .args in Rest c (a .out .now) (a .at) (label c ++ (number c ++ after c))
 unfolding labelled
 whole c = none-put _ _ _ (start c .pre)
 
-digits-left : (c : tie.After-put-bytes) → let a = start (made c) .args in
-    Rest (made c) (c .put-bytes .last .0) (c .put-bytes .result) (decimalOf (a .number) ++ a .after .now)
-digits-left c = next-put (whole (made c)) _ _ refl _ _ (c .put-bytes .ensures)
+digits-left : (c : tie.After-put-bytes) → let d = made c in Rest d (c .put-bytes .last .0) (c .put-bytes .result) (number d ++ after d)
+digits-left c = let d = made c in next-put (whole d) (label d) (number d ++ after d) refl _ _ (c .put-bytes .ensures)
+
+after-left : (c : tie.After-put-bytes2) → let d = made (labelPut c) in Rest d (c .put-bytes2 .last .0) (c .put-bytes2 .result) (after d)
+after-left c =
+    let d = made (labelPut c) in
+    next-put (digits-left (labelPut c)) (number d) (after d) refl _ _ (rw (digits-made d) at (c .put-bytes2 .ensures))
+
+none-left : (c : tie.After-slice-known4) → let d = made (labelPut (c .before .before .before .before .before .before)) in
+    Rest d (c .before .before .put-bytes3 .last .0) (c .before .before .put-bytes3 .result) []
+none-left c =
+    let l = c .before .before .before .before .before .before in
+    let d = made (labelPut l) in
+    next-put (after-left l) (after d) [] (sym (append-nil (after d))) _ _ (c .before .before .put-bytes3 .ensures)
 
 decimal-requires : tie.Need-decimal-requires
 decimal-requires c κs = search needs
 
 put-bytes-requires : tie.Need-put-bytes-requires
-put-bytes-requires c κs = next-fits (whole (c .before)) _ _ refl
+put-bytes-requires c κs = let d = c .before in next-fits (whole d) (label d) (number d ++ after d) refl
 
 array-share-prefix-digits : tie.Need-array-share-prefix-digits
 array-share-prefix-digits c = search needs
@@ -52,16 +73,22 @@ slice-aggregate-put-bytes : tie.Need-slice-aggregate-put-bytes
 slice-aggregate-put-bytes c = search needs
 
 put-bytes-requires-2 : tie.Need-put-bytes-requires-2
-put-bytes-requires-2 c κs = ?
+put-bytes-requires-2 c κs =
+    let l = c .before .before .before .before in
+    let d = made l in
+    rw (digits-made d) (next-fits (digits-left l) (number d) (after d) refl)
 
 put-bytes-requires-3 : tie.Need-put-bytes-requires-3
-put-bytes-requires-3 c κs = ?
+put-bytes-requires-3 c κs =
+    let l = c .before .before .before in
+    let d = made (labelPut l) in
+    next-fits (after-left l) (after d) [] (sym (append-nil (after d)))
 
 same-length : tie.Need-same-length
 same-length c = search needs
 
 returns : tie.Need-returns
-returns c = ?
+returns c = all-put (none-left c) refl
 
 pub put-labelled-spec : {M : Type 1} → statement M
 put-labelled-spec =

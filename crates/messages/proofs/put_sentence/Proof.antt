@@ -1,34 +1,52 @@
+-- `put_sentence` meets its contract: the line's number, and why it is refused.
+-- Assumes nothing.
+use mathlib.Core.List.{List, _++_}
+use mathlib.Core.Path.{_∙_}
+use Prim.Native.Nat.{ℕ}
+use native.Mathlib.Omega.{arith}
+use lib.ListN.{length-append}
 use borrow.Author.Needs.{needs}
+use Rattle.output.specs.Ascii.{ascii}
+use Rattle.output.proofs.Pieces.{put-append, put-room}
+use Rattle.messages.specs.Sentences.{labelled, reasonOf}
 use Rattle.messages.proofs.put_sentence.Statement.{statement}
 use Rattle.messages.proofs.put_sentence.Tie as tie
-use Rattle.messages.proofs.put_sentence.Reads as reads
-use Rattle.messages.proofs.put_sentence.Lts as lts
-use Rattle.messages.proofs.put_labelled.Reads as put-labelled-reads
-use Rattle.messages.proofs.put_reason.Reads as put-reason-reads
 
--- src/lib.rt:86:39
+-- The place that the proofs look back to: the start, by the first piece.
+abbrev start : tie.After-put-labelled → tie.Start
+start c = c .before .before .before .before .before
+
+-- The two pieces.
+abbrev first : tie.Start → List ℕ
+first s = labelled (ascii "line ") (s .args .line) (ascii ": ")
+
+abbrev second : tie.Start → List ℕ
+second s = reasonOf (s .args .number) (s .args .notes)
+
 slice-aggregate-put-labelled : tie.Need-slice-aggregate-put-labelled
 slice-aggregate-put-labelled c = search needs
 
--- src/lib.rt:86:55
 slice-aggregate-put-labelled-2 : tie.Need-slice-aggregate-put-labelled-2
 slice-aggregate-put-labelled-2 c = search needs
 
--- src/lib.rt:86:9
 put-labelled-requires : tie.Need-put-labelled-requires
-put-labelled-requires c κs = ?
+put-labelled-requires c κs = let s = c .before .before .before .before in omega (arith, s, length-append (first s) (second s))
 
--- src/lib.rt:87:5
 put-reason-requires : tie.Need-put-reason-requires
-put-reason-requires c κs = ?
+put-reason-requires c κs =
+    let put = c .before .before .before in
+    let s = start put in
+    put-room _ (first s) (second s) _ _ _ (put .put-labelled .ensures) (s .pre)
 
--- src/lib.rt:82:1
 same-length : tie.Need-same-length
 same-length c = search needs
 
--- src/lib.rt:82:1
 returns : tie.Need-returns
-returns c = ?
+returns c =
+    let last = c .before .before in
+    let put = last .before .before .before .before in
+    let s = start put in
+    last .put-reason .ensures ∙ put-append _ (first s) (second s) _ _ _ (put .put-labelled .ensures)
 
 pub put-sentence-spec : {M : Type 1} → statement M
 put-sentence-spec =

@@ -1,34 +1,52 @@
+-- `put_wrong_character` meets its contract: the character's place, and what it is.
+-- Assumes nothing.
+use mathlib.Core.List.{List, _++_}
+use mathlib.Core.Path.{_∙_}
+use Prim.Native.Nat.{ℕ}
+use native.Mathlib.Omega.{arith}
+use lib.ListN.{length-append}
 use borrow.Author.Needs.{needs}
+use Rattle.output.specs.Ascii.{ascii}
+use Rattle.output.proofs.Pieces.{put-append, put-room}
+use Rattle.messages.specs.Sentences.{labelled, characterText}
 use Rattle.messages.proofs.put_wrong_character.Statement.{statement}
 use Rattle.messages.proofs.put_wrong_character.Tie as tie
-use Rattle.messages.proofs.put_wrong_character.Reads as reads
-use Rattle.messages.proofs.put_wrong_character.Lts as lts
-use Rattle.messages.proofs.put_character.Reads as put-character-reads
-use Rattle.messages.proofs.put_labelled.Reads as put-labelled-reads
 
--- src/lib.rt:53:39
+-- The place that the proofs look back to: the start, by the first piece.
+abbrev start : tie.After-put-labelled → tie.Start
+start c = c .before .before .before .before .before
+
+-- The two pieces.
+abbrev first : tie.Start → List ℕ
+first s = labelled (ascii "character ") (s .args .notes .place) (ascii " is ")
+
+abbrev second : tie.Start → List ℕ
+second s = characterText (s .args .notes .character)
+
 slice-aggregate-put-labelled : tie.Need-slice-aggregate-put-labelled
 slice-aggregate-put-labelled c = search needs
 
--- src/lib.rt:53:67
 slice-aggregate-put-labelled-2 : tie.Need-slice-aggregate-put-labelled-2
 slice-aggregate-put-labelled-2 c = search needs
 
--- src/lib.rt:53:9
 put-labelled-requires : tie.Need-put-labelled-requires
-put-labelled-requires c κs = ?
+put-labelled-requires c κs = let s = c .before .before .before .before in omega (arith, s, length-append (first s) (second s))
 
--- src/lib.rt:54:5
 put-character-requires : tie.Need-put-character-requires
-put-character-requires c κs = ?
+put-character-requires c κs =
+    let put = c .before .before .before in
+    let s = start put in
+    put-room _ (first s) (second s) _ _ _ (put .put-labelled .ensures) (s .pre)
 
--- src/lib.rt:49:1
 same-length : tie.Need-same-length
 same-length c = search needs
 
--- src/lib.rt:49:1
 returns : tie.Need-returns
-returns c = ?
+returns c =
+    let last = c .before .before in
+    let put = last .before .before .before .before in
+    let s = start put in
+    last .put-character .ensures ∙ put-append _ (first s) (second s) _ _ _ (put .put-labelled .ensures)
 
 pub put-wrong-character-spec : {M : Type 1} → statement M
 put-wrong-character-spec =
