@@ -1,9 +1,4 @@
 // The program `reading`: hexadecimal lines in; one line per record out.
-use program::PrintOptions;
-
 fn main() {
-    program::run(PrintOptions {
-        frames: false,
-        state: false,
-    });
+    commands::kernelstill_reading();
 }

@@ -1,0 +1,147 @@
+// The programs `station`, `reading` and `model` by their words.
+ghost use mathlib.Core.Path.{_≡_};
+ghost use Rattle.runs.specs.Status.{IsStatus, ExitStatus};
+use libc::STDERR_FILENO;
+use libc::STDIN_FILENO;
+use libc::STDOUT_FILENO;
+use program::PrintOptions;
+
+fn usage(name: &[u8]) -> u8
+    ensures { λ r. ⌜ r ≡ 2 ⌝ }
+{
+    posix::write_whole(STDERR_FILENO, b"usage: ");
+    posix::write_whole(STDERR_FILENO, name);
+    posix::write_whole(STDERR_FILENO, b" [FILE]\n");
+    posix::WRONG_WORDS
+}
+
+// One more piece of a text on standard output, if those before it are written.
+fn print(before: bool, text: &[u8]) -> bool {
+    if !before {
+        return false;
+    }
+    posix::write_whole(STDOUT_FILENO, text)
+}
+
+// The status of a text that is printed.
+fn printed(name: &[u8], whole: bool) -> u8
+    ensures { λ r. ⌜ IsStatus r ⌝ }
+{
+    if !whole {
+        return posix::fail_output(name);
+    }
+    if !posix::close_output() {
+        return posix::fail_output(name);
+    }
+    posix::WHOLE
+}
+
+fn help(name: &[u8], prints: &[u8]) -> u8
+    ensures { λ r. ⌜ IsStatus r ⌝ }
+{
+    let usage = print(print(print(true, b"usage: "), name), b" [FILE]\n");
+    let input = print(
+        usage,
+        b"Hexadecimal lines from FILE, or from standard input if there is none or it is -; ",
+    );
+    let output = print(print(input, prints), b" to standard output.\n");
+    let status = print(
+        output,
+        b"Exit status: 0 the whole input, 1 a line was refused, 2 wrong words, 3 the system failed.\n",
+    );
+    printed(name, status)
+}
+
+fn version(name: &[u8]) -> u8
+    ensures { λ r. ⌜ IsStatus r ⌝ }
+{
+    let whole = print(print(true, name), b" (Kernelstill) 1.1.0\n");
+    printed(name, whole)
+}
+
+fn is_option(word: &[u8]) -> bool {
+    if word.len() == 0 {
+        return false;
+    }
+    word[0] == b'-'
+}
+
+// The program by its one word: an input's name or an option.
+fn run_word(name: &[u8], describes: &[u8], word: &[u8], prints: PrintOptions) -> u8
+    ensures { λ r. ⌜ IsStatus r ⌝ }
+{
+    if check::same(word, b"-") {
+        return runs::list_input(name, b"standard input", STDIN_FILENO, prints);
+    }
+    if check::same(word, b"--help") {
+        return help(name, describes);
+    }
+    if check::same(word, b"--version") {
+        return version(name);
+    }
+    if is_option(word) {
+        return usage(name);
+    }
+    let fd = os::open_read(word);
+    if fd < 0 {
+        posix::fail(name, word);
+        return posix::FAILED;
+    }
+    runs::list_input(name, word, fd, prints)
+}
+
+// The program by its words.
+fn run(name: &[u8], describes: &[u8], prints: PrintOptions) -> u8
+    ensures { λ r. ⌜ IsStatus r ⌝ }
+{
+    let words = os::arg_count();
+    if words < 2 {
+        return runs::list_input(name, b"standard input", STDIN_FILENO, prints);
+    }
+    if 2 < words {
+        return usage(name);
+    }
+    let mut word = io::buffer();
+    let n = os::arg(1, &mut word);
+    if os::errno() != 0 {
+        posix::fail(name, b"argument");
+        return posix::FAILED;
+    }
+    run_word(name, describes, &word[..n], prints)
+}
+
+// `station`: one line per record and one per frame.
+#[no_mangle]
+pub extern "C" fn kernelstill_station() -> i32
+    ensures { λ r. ⌜ ExitStatus r ⌝ }
+{
+    let prints = PrintOptions {
+        frames: true,
+        state: false,
+    };
+    run(b"station", b"a line per record and one per frame", prints) as i32
+}
+
+// `reading`: one line per record.
+#[no_mangle]
+pub extern "C" fn kernelstill_reading() -> i32
+    ensures { λ r. ⌜ ExitStatus r ⌝ }
+{
+    let prints = PrintOptions {
+        frames: false,
+        state: false,
+    };
+    run(b"reading", b"a line per record", prints) as i32
+}
+
+// `model`: one line per record, and at the end the controller as the commands left it.
+#[no_mangle]
+pub extern "C" fn kernelstill_model() -> i32
+    ensures { λ r. ⌜ ExitStatus r ⌝ }
+{
+    let prints = PrintOptions {
+        frames: false,
+        state: true,
+    };
+    run(b"model", b"a line per record, then the state,", prints) as i32
+}
