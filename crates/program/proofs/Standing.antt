@@ -111,6 +111,29 @@ steps-stand {frames} {store₀} {tray₀} {g} {h} {input} stands empty steps = r
       ∙ rw (steps .same-length, append-assoc);
 }
 
+-- ---- after a write, with the block of output empty again
+
+abbrev pub emptied : RunState → RunState
+emptied s = record {
+  decoder = s .decoder;
+  line = s .line;
+  lines = s .lines;
+  bytes = s .bytes;
+  first = s .first;
+  count = s .count;
+  next = s .next;
+  length = s .length;
+  filled = 0;
+  eof = s .eof;
+  over = s .over;
+  number = s .number;
+}
+
+pub write-stands : {frames : Bool} {store₀ tray₀ : List ℕ} {s : RunState} {store tray out input : List ℕ}
+    → Standing frames store₀ tray₀ (snapshot s store tray out) input → Standing frames store₀ tray₀ (snapshot (emptied s) store tray out) input
+unfolding stillToPrint
+write-stands stands = record { characters = stands .characters; written = stands .written; same = stands .same }
+
 -- ---- when it is over
 
 pub over-stands : {frames : Bool} {store₀ tray₀ : List ℕ} {g : Snapshot} {input : List ℕ} (stands : Standing frames store₀ tray₀ g input)

@@ -5,7 +5,8 @@ use mathlib.Core.List.{List}
 use mathlib.Core.Logic.{_⊎_}
 use mathlib.Core.Path.{_≡_}
 use Prim.Native.Nat.{ℕ, _≤_}
-use lib.ListN.{length}
+use lib.ListN.{length, replicate}
+use Rattle.limits.specs.Limits.{storeLength, trayLength}
 use Rattle.program.specs.declared.PrintOptions.{PrintOptions}
 use Rattle.program.specs.declared.RunState.{RunState}
 use Rattle.program.specs.RunState.{wantsInput, receivedOf, receivedBlock}
@@ -37,3 +38,9 @@ pub record RanOn (prints : PrintOptions) (status : ℕ) (store tray store′ tra
 
 abbrev pub Ran : PrintOptions → ℕ → List ℕ → List ℕ → List ℕ → List ℕ → Type 0
 Ran prints status store tray store′ tray′ = (status ≡ 3) ⊎ RanOn prints status store tray store′ tray′
+
+-- The same of a program, whose store and tray start at zero: its status is that of the characters that were read.
+abbrev pub Told : PrintOptions → ℕ → Type 0
+Told prints status =
+    (status ≡ 3)
+    ⊎ ((characters : List ℕ) × (status ≡ statusOf (programOf prints (replicate storeLength 0) (replicate trayLength 0) characters .refusal .number)))
