@@ -60,9 +60,21 @@ fn put_wrong_length(out: &mut [u8], at: usize, notes: LineNotes) -> usize
     ensures { λ r. ⌜ block (now (out .exit)) r ≡ putAll (now (out .entry)) at (wrongLength notes) ⌝ }
 {
     if 64 < notes.length {
-        return put_labelled(out, at, b"the count of digits is ", notes.length, b", above 64\n");
+        return put_labelled(
+            out,
+            at,
+            b"the count of digits is ",
+            notes.length,
+            b", above 64\n",
+        );
     }
-    put_labelled(out, at, b"the count of digits is ", notes.length, b", which is odd\n")
+    put_labelled(
+        out,
+        at,
+        b"the count of digits is ",
+        notes.length,
+        b", which is odd\n",
+    )
 }
 
 fn put_reason(out: &mut [u8], at: usize, number: u8, notes: LineNotes) -> usize
