@@ -1,33 +1,21 @@
--- What each way through the two functions on lines leaves, against its definition.
+-- What each way through `kernelstill_record_line` leaves, against its definition.
 -- Assumes nothing.
 use mathlib.Core.Bool.{true, false}
 use mathlib.Core.List.{List}
 use mathlib.Core.Logic.{⊎-elim}
-use mathlib.Core.Path.{_≡_, refl, ap, _∙_}
+use mathlib.Core.Path.{_≡_, ap, _∙_}
 use Prim.Native.Nat.{ℕ, _+_, _<_, _≤_}
 use native.Mathlib.Omega.{arith}
 use lib.Dec.{leb}
 use lib.ListN.{length}
 use lib.Seq.{sets}
-use borrow.Author.Tests.{lt-ltb, le-ltb, leb-true, leb-false}
+use borrow.Author.Tests.{leb-true, leb-false}
 use Rattle.bits.proofs.Truth.{cases}
 use Rattle.output.specs.Block.{Block, block, putIfFits}
 use Rattle.output.proofs.Pieces.{put-when-fits, put-when-full}
-use Rattle.hexlines.specs.declared.HexLine.{HexLine}
-use Rattle.hexlines.specs.Line.{Read, lineBytes, hexNumber, readAs, readOf}
 use Rattle.layout.specs.ListingLines.{recordLine}
 use Rattle.layout.proofs.LineLengths.{record-line-length}
-use Rattle.kernelstill.specs.Lines.{lineResult, hexResultOf, recordResultOf}
-
-module _ (line bytes : List ℕ) where
-  pub small : length bytes < lineBytes → lineResult 4 bytes ≡ hexResultOf line bytes
-  unfolding hexResultOf
-  small h = simp (lt-ltb (length bytes) lineBytes h)
-
-  pub line-read : lineBytes ≤ length bytes → (r : HexLine) (after : List ℕ) → readAs r after ≡ readOf line bytes
-      → lineResult (hexNumber r) after ≡ hexResultOf line bytes
-  unfolding hexResultOf readOf
-  line-read h r after e = simp (le-ltb (length bytes) lineBytes h) (ap (λ (x : Read). lineResult (x .number) (x .buffer)) e)
+use Rattle.kernelstill.specs.Lines.{lineResult, recordResultOf}
 
 module _ (head value : ℕ) (line after : List ℕ) (next : ℕ) (e : block after next ≡ putIfFits line 0 (recordLine head value)) where
   abbrev text : List ℕ

@@ -3,10 +3,10 @@
 use mathlib.Core.Bool.{cond}
 use mathlib.Core.List.{List}
 use Prim.Native.Nat.{ℕ}
-use lib.Dec.{ltb, leb}
+use lib.Dec.{leb}
 use lib.ListN.{length}
 use lib.Seq.{sets}
-use Rattle.hexlines.specs.Line.{lineBytes, lineMeaning}
+use Rattle.hexlines.specs.Line.{readInto}
 use Rattle.layout.specs.ListingLines.{recordLine}
 
 -- A refusal number, 0 for none, and the buffer's later contents.
@@ -18,10 +18,10 @@ abbrev pub lineResult : ℕ → List ℕ → LineResult
 lineResult number bytes = record { number = number; bytes = bytes }
 
 -- A line's bytes stand at the buffer's start; a refused line has none. A buffer of fewer than 32 bytes is number 4.
-unfoldable pub hexResultOf : List ℕ → List ℕ → LineResult
+abbrev pub hexResultOf : List ℕ → List ℕ → LineResult
 hexResultOf line bytes =
-    cond (ltb (length bytes) lineBytes) (lineResult 4 bytes)
-    (lineResult (lineMeaning line .number) (sets bytes 0 (lineMeaning line .bytes)))
+    let read = readInto line bytes in
+    lineResult (read .number) (read .buffer)
 
 -- A record's line at the buffer's start; number 4 where it has no room.
 unfoldable pub recordResultOf : ℕ → ℕ → List ℕ → LineResult

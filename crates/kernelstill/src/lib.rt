@@ -189,9 +189,6 @@ pub extern "C" fn kernelstill_frame_part(tray: &[u8], bits: usize) -> usize
 pub extern "C" fn kernelstill_hex_line(line: &[u8], bytes: &mut [u8]) -> u64
     ensures { λ r. ⌜ lineResult r (now (bytes .exit)) ≡ hexResultOf (now (line .entry)) (now (bytes .entry)) ⌝ }
 {
-    if bytes.len() < hexlines::LINE_BYTES {
-        return WRONG_BUFFERS;
-    }
     let answer = hexlines::read_line(line, bytes);
     answer.number() as u64
 }

@@ -1,17 +1,17 @@
 -- How long a sentence can be.
 -- Assumes nothing.
-use mathlib.Core.Bool.{Bool, _&&_}
+use mathlib.Core.Bool.{_&&_}
 use mathlib.Core.List.{List}
 use Prim.Native.Char.{code}
 use Prim.Native.Nat.{ℕ, _+_, _≤_}
 use native.Mathlib.Omega.{arith}
 use lib.Dec.{ltb, leb, eqb}
 use lib.ListN.{length, length-append}
-use Rattle.bits.proofs.Truth.{cond-most, choice}
+use Rattle.bits.proofs.Truth.{choice}
 use Rattle.output.specs.Ascii.{ascii}
 use Rattle.hexlines.specs.declared.LineNotes.{LineNotes}
 use Rattle.hexlines.specs.Line.{digitLimit}
-use Rattle.messages.specs.Sentences.{labelled, characterText, wrongCharacter, wrongLength, reasonOf, sentenceOf}
+use Rattle.messages.specs.Sentences.{labelled, characterText, wrongLength, reasonOf, sentenceOf}
 use Rattle.messages.proofs.Decimal.{decimal-short}
 
 labelled-length : (label : List ℕ) (n : ℕ) (after : List ℕ) → length (labelled label n after) ≤ length label + 20 + length after

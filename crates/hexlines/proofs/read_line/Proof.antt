@@ -1,14 +1,16 @@
 -- `read_line` meets its contract: a buffer with too little room is refused.
 -- Assumes nothing.
+use native.Mathlib.Omega.{arith}
+use lib.ListN.{length}
 use borrow.Author.Needs.{needs}
 use borrow.Author.Tests.{lt-ltb, le-ltb}
-use Rattle.hexlines.specs.Line.{readInto}
+use Rattle.hexlines.specs.Line.{lineBytes, readInto}
 use Rattle.hexlines.proofs.read_line.Statement.{statement}
 use Rattle.hexlines.proofs.read_line.Tie as tie
 
 returns : tie.Need-returns
 unfolding readInto
-returns c = simp (lt-ltb _ _ (c .if1 .taken))
+returns c = let a = c .before .before .before .args in simp (lt-ltb (length (a .bytes .now)) lineBytes (omega arith))
 
 read-with-room-requires : tie.Need-read-with-room-requires
 read-with-room-requires c κs = search needs

@@ -1,10 +1,10 @@
 -- `put_labelled` meets its contract: the label, the digits that `io::decimal` makes, and the text after them.
 -- Assumes nothing.
 use mathlib.Core.List.{List, [], _++_, append-nil}
-use mathlib.Core.Path.{_≡_, refl, sym, ap, _∙_}
+use mathlib.Core.Path.{_≡_, refl, sym, _∙_}
 use Prim.Native.Nat.{ℕ}
 use native.Mathlib.Omega.{arith}
-use lib.ListN.{length, take}
+use lib.ListN.{take}
 use borrow.Author.Needs.{needs}
 use Rattle.output.proofs.Pieces.{PartlyPut, none-put, next-fits, next-put, all-put}
 use Rattle.messages.specs.Decimal.{decimalOf}
@@ -13,7 +13,7 @@ use Rattle.messages.proofs.Decimal.{decimal-digits}
 use Rattle.messages.proofs.put_labelled.Statement.{statement}
 use Rattle.messages.proofs.put_labelled.Tie as tie
 
--- The places that the proofs look back to: the start by the digits, the digits by the label, and the label by the digits that are put after it.
+-- The places that the proofs look back to: the start by the digits, and what was put before each piece.
 abbrev start : tie.After-decimal → tie.Start
 start c = c .before .before .before .before .before
 
@@ -22,6 +22,9 @@ made c = c .before .before
 
 abbrev labelPut : tie.After-put-bytes2 → tie.After-put-bytes
 labelPut c = c .before .before .before .before .before
+
+abbrev digitsPut : tie.After-put-bytes3 → tie.After-put-bytes2
+digitsPut c = c .before .before .before .before
 
 -- The pieces.
 abbrev label : tie.After-decimal → List ℕ
@@ -53,12 +56,10 @@ after-left c =
     let d = made (labelPut c) in
     next-put (digits-left (labelPut c)) (number d) (after d) refl _ _ (rw (digits-made d) at (c .put-bytes2 .ensures))
 
-none-left : (c : tie.After-slice-known4) → let d = made (labelPut (c .before .before .before .before .before .before)) in
-    Rest d (c .before .before .put-bytes3 .last .0) (c .before .before .put-bytes3 .result) []
+none-left : (c : tie.After-put-bytes3) → let d = made (labelPut (digitsPut c)) in Rest d (c .put-bytes3 .last .0) (c .put-bytes3 .result) []
 none-left c =
-    let l = c .before .before .before .before .before .before in
-    let d = made (labelPut l) in
-    next-put (after-left l) (after d) [] (sym (append-nil (after d))) _ _ (c .before .before .put-bytes3 .ensures)
+    let d = made (labelPut (digitsPut c)) in
+    next-put (after-left (digitsPut c)) (after d) [] (sym (append-nil (after d))) _ _ (c .put-bytes3 .ensures)
 
 decimal-requires : tie.Need-decimal-requires
 decimal-requires c κs = search needs
@@ -88,7 +89,7 @@ same-length : tie.Need-same-length
 same-length c = search needs
 
 returns : tie.Need-returns
-returns c = all-put (none-left c) refl
+returns c = all-put (none-left (c .before .before)) refl
 
 pub put-labelled-spec : {M : Type 1} → statement M
 put-labelled-spec =

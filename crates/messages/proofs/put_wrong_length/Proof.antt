@@ -3,6 +3,7 @@
 use mathlib.Core.List.{List}
 use mathlib.Core.Path.{_≡_}
 use Prim.Native.Nat.{ℕ, _+_, _≤_}
+use native.Mathlib.Omega.{arith}
 use lib.ListN.{length}
 use borrow.Author.Needs.{needs}
 use borrow.Author.Tests.{lt-ltb, le-ltb}
@@ -22,12 +23,12 @@ notes c = start c .args .notes
 above : (c : tie.Then1) → let n = notes (c .before) in
     wrongLength n ≡ labelled (ascii "the count of digits is ") (n .length) (ascii ", above 64\n")
 unfolding wrongLength
-above c = simp (lt-ltb 64 (notes (c .before) .length) (c .if1 .taken))
+above c = simp (lt-ltb 64 (notes (c .before) .length) (omega arith))
 
 odd : (c : tie.Else1) → let n = notes (c .before) in
     wrongLength n ≡ labelled (ascii "the count of digits is ") (n .length) (ascii ", which is odd\n")
 unfolding wrongLength
-odd c = simp (le-ltb 64 (notes (c .before) .length) (c .if1 .left))
+odd c = simp (le-ltb 64 (notes (c .before) .length) (omega arith))
 
 -- there is room for it
 room : (c : tie.After-struct-known) (text : List ℕ) → wrongLength (notes c) ≡ text → let a = start c .args in
