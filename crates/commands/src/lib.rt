@@ -1,6 +1,6 @@
 // The programs `station`, `reading` and `model` by their words.
 ghost use mathlib.Core.Path.{_≡_};
-ghost use Rattle.runs.specs.Status.{IsStatus, ExitStatus};
+ghost use Rattle.runs.specs.Status.{IsStatus};
 use libc::STDERR_FILENO;
 use libc::STDIN_FILENO;
 use libc::STDOUT_FILENO;
@@ -112,36 +112,36 @@ fn run(name: &[u8], describes: &[u8], prints: PrintOptions) -> u8
 
 // `station`: one line per record and one per frame.
 #[no_mangle]
-pub extern "C" fn kernelstill_station() -> i32
-    ensures { λ r. ⌜ ExitStatus r ⌝ }
+pub extern "C" fn kernelstill_station() -> u8
+    ensures { λ r. ⌜ IsStatus r ⌝ }
 {
     let prints = PrintOptions {
         frames: true,
         state: false,
     };
-    run(b"station", b"a line per record and one per frame", prints) as i32
+    run(b"station", b"a line per record and one per frame", prints)
 }
 
 // `reading`: one line per record.
 #[no_mangle]
-pub extern "C" fn kernelstill_reading() -> i32
-    ensures { λ r. ⌜ ExitStatus r ⌝ }
+pub extern "C" fn kernelstill_reading() -> u8
+    ensures { λ r. ⌜ IsStatus r ⌝ }
 {
     let prints = PrintOptions {
         frames: false,
         state: false,
     };
-    run(b"reading", b"a line per record", prints) as i32
+    run(b"reading", b"a line per record", prints)
 }
 
 // `model`: one line per record, and at the end the controller as the commands left it.
 #[no_mangle]
-pub extern "C" fn kernelstill_model() -> i32
-    ensures { λ r. ⌜ ExitStatus r ⌝ }
+pub extern "C" fn kernelstill_model() -> u8
+    ensures { λ r. ⌜ IsStatus r ⌝ }
 {
     let prints = PrintOptions {
         frames: false,
         state: true,
     };
-    run(b"model", b"a line per record, then the state,", prints) as i32
+    run(b"model", b"a line per record, then the state,", prints)
 }

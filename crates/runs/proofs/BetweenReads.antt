@@ -7,7 +7,7 @@ use mathlib.Core.Path.{_≡_, refl, sym, ap, _∙_}
 use Prim.Native.Nat.{ℕ, _<_, _≤_}
 use native.Mathlib.Omega.{arith}
 use lib.Dec.{eqb}
-use lib.ListN.{length, set, take, length-set, length-take}
+use lib.ListN.{length, set, take, replicate, length-set, length-take}
 use borrow.Author.Tests.{eqb-true, eqb-false}
 use Rattle.bits.proofs.Truth.{choice, cases}
 use Rattle.limits.specs.Limits.{storeLength, trayLength}
@@ -128,7 +128,15 @@ module _ (prints : PrintOptions) {store₀ tray₀ : List ℕ} {s : RunState} {s
         status-told = e ∙ ap statusOf (sym (ap (λ (q : Outcome). q .refusal .number) o ∙ end-number s));
       })) f
 
+-- of a program, whose store and tray start at zero
+pub told : (prints : PrintOptions) (status : ℕ) {store′ tray′ : List ℕ}
+    → Ran prints status (replicate storeLength 0) (replicate trayLength 0) store′ tray′ → Told prints status
+told prints status r = ⊎-elim inl (λ q. inr (q .characters, q .status-told)) r
+
+status-low : (number : ℕ) → statusOf number ≤ 3
+status-low number = choice (λ (n : ℕ). n ≤ 3) (eqb number 0) {x = 0} {y = 1} (λ _. omega arith) (λ _. omega arith)
+
 pub told-status : (prints : PrintOptions) (status : ℕ) → Told prints status → IsStatus status
 told-status prints status t =
     ⊎-elim (λ e. omega arith)
-    (λ q. rw (q .1) (choice (λ (n : ℕ). n ≤ 3) (eqb _ 0) (λ _. omega arith) (λ _. omega arith))) t
+    (λ q. rw (q .1) (status-low (programOf prints (replicate storeLength 0) (replicate trayLength 0) (q .0) .refusal .number))) t

@@ -3,7 +3,6 @@
 use mathlib.Core.Bool.{cond}
 use Prim.Native.Nat.{ℕ, _≤_}
 use lib.Dec.{eqb}
-use lib.IntN.{ℤ, pos, negsuc}
 
 -- By the number of the refusal that ended the run: 0 for the whole input, 1 for a refusal. 2 is for wrong words, 3 for a failure of the system.
 abbrev pub statusOf : ℕ → ℕ
@@ -11,7 +10,3 @@ statusOf number = cond (eqb number 0) 0 1
 
 abbrev pub IsStatus : ℕ → Type 0
 IsStatus status = status ≤ 3
-
-abbrev pub ExitStatus : ℤ → Type 0
-ExitStatus (pos status) = IsStatus status
-ExitStatus (negsuc n) = ⊥

@@ -5,6 +5,7 @@ ghost use Prim.Native.Nat.{_<_};
 ghost use lib.ListN.{length};
 ghost use Rattle.output.specs.Block.{blockLength};
 ghost use Rattle.limits.specs.Limits.{storeLength, trayLength};
+ghost use Rattle.runs.specs.Status.{IsStatus};
 ghost use Rattle.runs.specs.Runs.{AfterRefill, Finished, Ran, Told};
 use decoder::Decoder;
 use libc::STDOUT_FILENO;
@@ -130,6 +131,7 @@ fn list(
 // "Its 2,048 FIFO words start at zero".
 pub fn list_input(name: &[u8], source: &[u8], fd: i32, prints: PrintOptions) -> u8
     ensures { λ r. ⌜ Told prints r ⌝ }
+    ensures { λ r. ⌜ IsStatus r ⌝ }
 {
     let mut store = [0u32; Decoder::STORE_LENGTH];
     let mut tray = [0u8; Decoder::TRAY_LENGTH];

@@ -1,7 +1,7 @@
 -- `runs::list_input` meets its contract: the run's, with a store and a tray of zeros.
 -- Assumes nothing.
-use mathlib.Core.Logic.{⊎-elim, inl, inr}
 use borrow.Author.Needs.{needs}
+use Rattle.runs.proofs.BetweenReads.{told, told-status}
 use Rattle.runs.proofs.list_input.Statement.{statement}
 use Rattle.runs.proofs.list_input.Tie as tie
 
@@ -15,7 +15,10 @@ list-requires : tie.Need-list-requires
 list-requires c κs = search needs
 
 returns : tie.Need-returns
-returns c = ⊎-elim inl (λ ran. inr (ran .characters, ran .status-told)) (c .before .before .list .ensures)
+returns c =
+    let l = c .before .before in
+    let t = told (l .before .before .before .before .before .args .prints) (l .list .result) (l .list .ensures) in
+    (t, told-status _ (l .list .result) t)
 
 pub list-input-spec : {M : Type 1} → statement M
 list-input-spec = tie.close (tie.spec slice-aggregate-list slice-aggregate-list-2 list-requires returns)
