@@ -4,8 +4,9 @@ use crate::decoder::Decoder;
 use crate::hex::HexLine;
 use crate::listing::{push_frame, push_record, push_refused};
 use crate::model::push_model;
+use crate::refusal::{Refusal, Why};
+use crate::system::{Streams, System};
 use std::io::{self, ErrorKind, Read, Write};
-use std::process::ExitCode;
 
 /// Bytes read, and written, at a time.
 const BLOCK: usize = 65_536;
@@ -23,17 +24,17 @@ pub enum Program {
 
 /// Prints every record and every frame.
 pub fn station(input: impl Read, output: impl Write) -> io::Result<()> {
-    Program::Station.run(input, output)
+    Program::Station.list_all(input, output)
 }
 
 /// Prints the records only.
 pub fn reading(input: impl Read, output: impl Write) -> io::Result<()> {
-    Program::Reading.run(input, output)
+    Program::Reading.list_all(input, output)
 }
 
 /// Prints the records, then the state of the controller.
 pub fn model(input: impl Read, output: impl Write) -> io::Result<()> {
-    Program::Model.run(input, output)
+    Program::Model.list_all(input, output)
 }
 
 impl Program {
@@ -48,26 +49,25 @@ impl Program {
         }
     }
 
-    /// The program itself, from standard input to standard output.
-    pub fn main(self) -> ExitCode {
-        match self.run(io::stdin().lock(), io::stdout().lock()) {
-            Ok(()) => ExitCode::SUCCESS,
-            Err(error) => {
-                eprintln!("{}: {error}", self.name());
-                ExitCode::FAILURE
-            }
+    /// The listing of an input, without words and messages.
+    pub fn list_all(self, input: impl Read, output: impl Write) -> io::Result<()> {
+        match self.run(&mut Streams(input, output)) {
+            Ok(_) => Ok(()),
+            Err(Failure::Read(error) | Failure::Write(error)) => Err(error),
         }
     }
 
-    pub fn run(self, mut input: impl Read, mut output: impl Write) -> io::Result<()> {
+    /// Reads the input to its end, or to a refused line, and writes its
+    /// listing.
+    pub fn run(self, system: &mut impl System) -> Result<Ended, Failure> {
         let mut run = Run::start(self);
         let mut block = vec![0; BLOCK];
         while !run.over {
-            let length = match input.read(&mut block) {
+            let length = match system.read(&mut block) {
                 Ok(0) => break,
                 Ok(length) => length,
                 Err(error) if error.kind() == ErrorKind::Interrupted => continue,
-                Err(error) => return Err(error),
+                Err(error) => return Err(Failure::Read(error)),
             };
             for &character in &block[..length] {
                 run.take(character);
@@ -75,17 +75,44 @@ impl Program {
                     break;
                 }
                 if run.out.len() >= BLOCK {
-                    run.write(&mut output)?;
+                    run.write(system)?;
                 }
             }
             // Before the next read, which may wait on a live pipe.
-            run.write(&mut output)?;
-            output.flush()?;
+            run.write(system)?;
         }
         run.finish();
-        run.write(&mut output)?;
-        output.flush()
+        run.write(system)?;
+        Ok(run.ended)
     }
+
+    /// Writes all bytes, in as many calls as it takes.
+    pub fn write(mut bytes: &[u8], system: &mut impl System) -> io::Result<()> {
+        while !bytes.is_empty() {
+            match system.write(bytes) {
+                Ok(0) => return Err(ErrorKind::WriteZero.into()),
+                Ok(length) => bytes = &bytes[length..],
+                Err(error) if error.kind() == ErrorKind::Interrupted => {}
+                Err(error) => return Err(error),
+            }
+        }
+        Ok(())
+    }
+}
+
+/// How a run ended that the system did not fail.
+#[derive(Clone, Copy, Debug, Default, PartialEq, Eq)]
+pub struct Ended {
+    /// Whether anything was written to standard output.
+    pub has_written: bool,
+    pub refusal: Option<Refusal>,
+}
+
+/// What the system failed to do.
+#[derive(Debug)]
+pub enum Failure {
+    Read(io::Error),
+    Write(io::Error),
 }
 
 /// One run of a program, but for its reading and writing.
@@ -97,6 +124,7 @@ struct Run {
     /// What is printed and not yet written.
     out: Vec<u8>,
     over: bool,
+    ended: Ended,
 }
 
 impl Run {
@@ -108,6 +136,7 @@ impl Run {
             lines_ended: 0,
             out: Vec::with_capacity(2 * BLOCK),
             over: false,
+            ended: Ended::default(),
         }
     }
 
@@ -122,7 +151,7 @@ impl Run {
     fn end_line(&mut self) {
         self.lines_ended += 1;
         let (program, out) = (self.program, &mut self.out);
-        match self.line.bytes() {
+        let refused = match self.line.bytes() {
             Ok(bytes) => {
                 let taken = self.decoder.feed(bytes, |record, frame| {
                     push_record(out, record);
@@ -130,13 +159,17 @@ impl Run {
                         push_frame(out, frame);
                     }
                 });
-                self.over = !taken;
+                // Nothing is printed for it.
+                (!taken).then_some(Why::Clock)
             }
-            Err(number) => {
-                push_refused(out, number, self.lines_ended);
-                self.over = true;
+            Err(why) => {
+                push_refused(out, why.number(), self.lines_ended);
+                Some(why)
             }
-        }
+        };
+        let line = self.lines_ended;
+        self.ended.refusal = refused.map(|why| Refusal { line, why });
+        self.over = refused.is_some();
         self.line = HexLine::default();
     }
 
@@ -151,8 +184,9 @@ impl Run {
         }
     }
 
-    fn write(&mut self, output: &mut impl Write) -> io::Result<()> {
-        output.write_all(&self.out)?;
+    fn write(&mut self, system: &mut impl System) -> Result<(), Failure> {
+        Program::write(&self.out, system).map_err(Failure::Write)?;
+        self.ended.has_written |= !self.out.is_empty();
         self.out.clear();
         Ok(())
     }
