@@ -73,6 +73,7 @@ fn scratch_is_removed() {
     let scratch = Scratch::new().unwrap();
     let case = &golden()[0];
     let file = scratch.file(case).unwrap();
+    let file = scratch.folder().join(file);
     assert_eq!(fs::read(&file).unwrap(), case.input);
     drop(scratch);
     assert!(!file.exists());

@@ -3,11 +3,18 @@
 pub mod case;
 pub mod delivery;
 pub mod difference;
+pub mod ended;
+pub mod errors;
+pub mod expected;
 pub mod fault;
+pub mod faults;
 pub mod live;
 pub mod pool;
 pub mod running;
 pub mod scratch;
+pub mod situation;
+pub mod situations;
+pub mod started;
 pub mod under_test;
 
 use crate::golden;
@@ -22,15 +29,24 @@ use under_test::UnderTest;
 const GENERATED: u64 = 400;
 
 /// Compares everything: the golden files with what the separate reader prints
-/// now, and the programs in a folder with it on every case.
-pub fn compare(programs: &Path, golden_folder: &Path) -> io::Result<Tally> {
-    let under_test = UnderTest::new(&programs.canonicalize()?);
+/// now, and the programs in a folder with it on every case. They have an exit
+/// status, or are to end with 0 in every case.
+pub fn compare(programs: &Path, has_status: bool, golden_folder: &Path) -> io::Result<Tally> {
+    let under_test = UnderTest::new(&programs.canonicalize()?, has_status);
     let scratch = Scratch::new()?;
     let cases = [fixed(), generated(GENERATED)].concat();
 
     let mut tally = Tally::default();
+    if let Err(missing) = scratch.faults() {
+        tally.note(missing);
+    }
     tally.add(golden::check(golden_folder, &cases::golden()));
     for checks in pool::each(&live::cases(), |live| live::check(&under_test, live)) {
+        tally.add(checks);
+    }
+    situations::prepare(&scratch)?;
+    let situations = situations::situations(scratch.faults().is_ok());
+    for checks in pool::each(&situations, |s| started::check(&under_test, s, &scratch)) {
         tally.add(checks);
     }
     for checks in pool::each(&cases, |case| case::check(&under_test, case, &scratch)) {
