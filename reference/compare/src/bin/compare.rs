@@ -11,8 +11,8 @@ use compare::programs::compare;
 use std::path::Path;
 use std::process::ExitCode;
 
-/// The golden files of the repository.
-const GOLDEN: &str = concat!(env!("CARGO_MANIFEST_DIR"), "/../../tests/golden");
+/// The repository, with its golden files.
+const REPOSITORY: &str = concat!(env!("CARGO_MANIFEST_DIR"), "/../..");
 
 fn main() -> ExitCode {
     let arguments: Vec<String> = std::env::args().skip(1).collect();
@@ -25,7 +25,7 @@ fn main() -> ExitCode {
             return ExitCode::FAILURE;
         }
     };
-    match compare(Path::new(folder), has_status, Path::new(GOLDEN)) {
+    match compare(Path::new(folder), has_status, Path::new(REPOSITORY)) {
         Ok(tally) => {
             println!("{tally}");
             if tally.all_passed() {

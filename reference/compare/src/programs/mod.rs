@@ -28,10 +28,10 @@ use under_test::UnderTest;
 /// Generated streams, besides all other cases.
 const GENERATED: u64 = 400;
 
-/// Compares everything: the golden files with what the separate reader prints
-/// now, and the programs in a folder with it on every case. They have an exit
+/// Compares everything: the repository's golden files and stored runs with
+/// what the separate reader prints now, and the programs in a folder with it on every case. They have an exit
 /// status, or are to end with 0 in every case.
-pub fn compare(programs: &Path, has_status: bool, golden_folder: &Path) -> io::Result<Tally> {
+pub fn compare(programs: &Path, has_status: bool, repository: &Path) -> io::Result<Tally> {
     let under_test = UnderTest::new(&programs.canonicalize()?, has_status);
     let scratch = Scratch::new()?;
     let cases = [fixed(), generated(GENERATED)].concat();
@@ -40,7 +40,10 @@ pub fn compare(programs: &Path, has_status: bool, golden_folder: &Path) -> io::R
     if let Err(missing) = scratch.faults() {
         tally.note(missing);
     }
-    tally.add(golden::check(golden_folder, &cases::golden()));
+    let golden_files = repository.join("tests/golden");
+    tally.add(golden::check(&golden_files, &cases::golden()));
+    let stored = golden::stored::files();
+    tally.add(golden::check_files(&repository.join("crates"), stored));
     for checks in pool::each(&live::cases(), |live| live::check(&under_test, live)) {
         tally.add(checks);
     }
