@@ -278,32 +278,35 @@ fn interrupted_and_short_calls() {
     assert_eq!(system.printed(), format!("{FIRST}!08 00000002\n"));
 }
 
-/// A line that is refused, and what is said of it.
+/// Lines that are refused, and what is said of each.
+const REFUSED: [(&[u8], &str); 20] = [
+    (b"\r", "character 1 is a carriage return"),
+    (b"B5C074\r", "character 7 is a carriage return"),
+    (b"B5 C074", "character 3 is a space"),
+    (b"B5C0\t74", "character 5 is a tab"),
+    (b"b5c074", "character 1 is a lower-case letter"),
+    (b"B5C07z", "character 6 is a lower-case letter"),
+    (b"0x", "character 2 is a lower-case letter"),
+    (b"0G", "character 2 is byte 47, none of 0-9 and A-F"),
+    (b"Z", "character 1 is byte 5A, none of 0-9 and A-F"),
+    (b"00/", "character 3 is byte 2F, none of 0-9 and A-F"),
+    (b"00:", "character 3 is byte 3A, none of 0-9 and A-F"),
+    (b"00@", "character 3 is byte 40, none of 0-9 and A-F"),
+    (b"`", "character 1 is byte 60, none of 0-9 and A-F"),
+    (b"{", "character 1 is byte 7B, none of 0-9 and A-F"),
+    (b"B5\0", "character 3 is byte 00, none of 0-9 and A-F"),
+    (b"\x80", "character 1 is byte 80, none of 0-9 and A-F"),
+    (b"AB\xFFxx", "character 3 is byte FF, none of 0-9 and A-F"),
+    (b"\x0B", "character 1 is byte 0B, none of 0-9 and A-F"),
+    // The first one counts, and 7 wins over 8.
+    (b"0 \r\tg", "character 2 is a space"),
+    (b"B", "the count of digits is 1, which is odd"),
+];
+
+/// The same, and lines of many digits.
 fn refused() -> Vec<(Vec<u8>, String)> {
-    let wrong = |line: &[u8], why: &str| (line.to_vec(), why.to_string());
-    let mut cases = vec![
-        wrong(b"\r", "character 1 is a carriage return"),
-        wrong(b"B5C074\r", "character 7 is a carriage return"),
-        wrong(b"B5 C074", "character 3 is a space"),
-        wrong(b"B5C0\t74", "character 5 is a tab"),
-        wrong(b"b5c074", "character 1 is a lower-case letter"),
-        wrong(b"B5C07z", "character 6 is a lower-case letter"),
-        wrong(b"0x", "character 2 is a lower-case letter"),
-        wrong(b"0G", "character 2 is byte 47, none of 0-9 and A-F"),
-        wrong(b"Z", "character 1 is byte 5A, none of 0-9 and A-F"),
-        wrong(b"00/", "character 3 is byte 2F, none of 0-9 and A-F"),
-        wrong(b"00:", "character 3 is byte 3A, none of 0-9 and A-F"),
-        wrong(b"00@", "character 3 is byte 40, none of 0-9 and A-F"),
-        wrong(b"`", "character 1 is byte 60, none of 0-9 and A-F"),
-        wrong(b"{", "character 1 is byte 7B, none of 0-9 and A-F"),
-        wrong(b"B5\0", "character 3 is byte 00, none of 0-9 and A-F"),
-        wrong(b"\x80", "character 1 is byte 80, none of 0-9 and A-F"),
-        wrong(b"AB\xFFxx", "character 3 is byte FF, none of 0-9 and A-F"),
-        wrong(b"\x0B", "character 1 is byte 0B, none of 0-9 and A-F"),
-        // The first one counts, and 7 wins over 8.
-        wrong(b"0 \r\tg", "character 2 is a space"),
-        wrong(b"B", "the count of digits is 1, which is odd"),
-    ];
+    let short = REFUSED.map(|(line, why)| (line.to_vec(), why.to_string()));
+    let mut cases = short.to_vec();
     for digits in [3, 63, 65, 66, 67, 4_097, 65_535, 65_536, 65_537, 200_001] {
         let why = if digits > 64 {
             "above 64"

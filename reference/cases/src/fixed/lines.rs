@@ -101,7 +101,7 @@ fn at_an_edge(edge: usize) -> Vec<Case> {
     };
     // As the line stands there, its digits so far may be odd or even.
     let digits = ahead.rsplit('\n').next().map_or(0, str::len);
-    let odd = if digits % 2 == 0 { "A" } else { "AA" };
+    let odd = if digits % 2 == 1 { "AA" } else { "A" };
     vec![
         case("wrong", "xEF\nE8\n"),
         case("wrong-after-a-digit", "E\rz\nE8\n"),

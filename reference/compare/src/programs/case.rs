@@ -1,9 +1,9 @@
 //! The three programs on one case, by each delivery of the input.
 
-use super::delivery::{command, Delivery};
+use super::delivery::Delivery;
 use super::expected::{Expected, Imagined};
 use super::fault::{judge, Fault};
-use super::running::Running;
+use super::running::{piped, Running};
 use super::scratch::Scratch;
 use super::under_test::UnderTest;
 use crate::tally::Check;
@@ -79,7 +79,8 @@ impl Given<'_> {
         expected: &Expected,
     ) -> io::Result<Option<Fault>> {
         let deadline = Instant::now() + self.under_test.run_limit;
-        let mut command = command(path, self.scratch);
+        let mut command = piped(path);
+        command.current_dir(self.scratch.folder());
         command.args(
             delivery
                 .words(&self.file)

@@ -4,7 +4,7 @@ use super::faults::Faults;
 use super::scratch::Scratch;
 use std::fs::File;
 use std::io::{self, Write};
-use std::process::{ChildStdin, Command, Stdio};
+use std::process::{ChildStdin, Stdio};
 use std::sync::Arc;
 use std::thread;
 use std::time::Duration;
@@ -87,14 +87,6 @@ impl Delivery {
             _ => pipe.write_all(&input),
         });
     }
-}
-
-/// A program to be started in the scratch folder, its output and error read.
-pub fn command(program: &std::path::Path, scratch: &Scratch) -> Command {
-    let mut command = Command::new(program);
-    command.current_dir(scratch.folder());
-    command.stdout(Stdio::piped()).stderr(Stdio::piped());
-    command
 }
 
 /// Writes bytes one by one, with time enough for the program to have begun

@@ -2,7 +2,7 @@
 
 use super::expected::Expected;
 use super::fault::{judge, Fault};
-use super::running::{Running, Waited};
+use super::running::{piped, Running, Waited};
 use super::under_test::UnderTest;
 use crate::printed::printed_so_far;
 use crate::tally::Check;
@@ -10,7 +10,7 @@ use cases::{fixed, generated, Case};
 use reader::Program;
 use std::io::{self, Write};
 use std::path::Path;
-use std::process::{Command, Stdio};
+use std::process::Stdio;
 use std::time::Instant;
 
 pub struct Live {
@@ -56,7 +56,9 @@ fn run(
 ) -> io::Result<Option<Fault>> {
     let input = &live.case.input[..];
     let expected = under_test.expected(Expected::plain(program, input));
-    let mut running = Running::start(piped(path), None, &expected)?;
+    let mut command = piped(path);
+    command.stdin(Stdio::piped());
+    let mut running = Running::start(command, None, &expected)?;
     let mut pipe = running.input();
     let mut written = 0;
     for (number, line) in (1..).zip(input.split_inclusive(|&byte| byte == b'\n')) {
@@ -76,11 +78,4 @@ fn run(
     let run = running.finish(Instant::now() + under_test.run_limit)?;
     drop(pipe);
     Ok(judge(&expected, &run))
-}
-
-fn piped(path: &Path) -> Command {
-    let mut command = Command::new(path);
-    command.stdin(Stdio::piped());
-    command.stdout(Stdio::piped()).stderr(Stdio::piped());
-    command
 }

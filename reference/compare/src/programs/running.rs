@@ -3,7 +3,8 @@
 use super::ended::End;
 use super::expected::Expected;
 use std::io::{self, ErrorKind, Read};
-use std::process::{Child, ChildStdin, Command};
+use std::path::Path;
+use std::process::{Child, ChildStdin, Command, Stdio};
 use std::sync::mpsc::{channel, Receiver, RecvTimeoutError, Sender};
 use std::thread;
 use std::time::{Duration, Instant};
@@ -26,6 +27,13 @@ pub struct Run {
     pub said: Vec<u8>,
     /// `None`: it was killed at the time limit.
     pub end: Option<End>,
+}
+
+/// A program to be started, its output and what it says read from pipes.
+pub fn piped(program: &Path) -> Command {
+    let mut command = Command::new(program);
+    command.stdout(Stdio::piped()).stderr(Stdio::piped());
+    command
 }
 
 #[derive(Clone, Copy, Debug, PartialEq, Eq)]

@@ -1,4 +1,5 @@
-//! Standard input that cannot be read, and lines with each wrong character.
+//! Standard input that cannot be read, standard error that cannot be written,
+//! and lines with each character.
 
 use super::{GOOD, REFUSED};
 use crate::programs::errors::ENOENT;
@@ -6,46 +7,47 @@ use crate::programs::situation::{ErrorOutput, Input, Situation};
 use reader::Program;
 
 pub fn situations() -> Vec<Situation> {
-    let new = Situation::new;
-    let mut all = vec![
-        new("standard input closed", GOOD).input(Input::Closed),
-        new("standard input closed, word -", GOOD)
-            .word("-")
-            .input(Input::Closed),
-        new("standard input a folder", GOOD).input(Input::Folder),
-        new("standard input a folder, word -", GOOD)
-            .word("-")
-            .input(Input::Folder),
-        new("standard input empty", GOOD).input(Input::Empty),
-        new("--help, standard input closed", GOOD)
-            .word("--help")
-            .input(Input::Closed),
-        new("--version, standard input a folder", GOOD)
-            .word("--version")
-            .input(Input::Folder),
-        new("wrong words, standard input closed", GOOD)
-            .word("-x")
-            .input(Input::Closed),
-    ];
+    let mut all = unread();
     for (error, name) in [
         (ErrorOutput::Closed, "closed"),
         (ErrorOutput::Full, "full"),
         (ErrorOutput::Joined, "with standard output"),
     ] {
-        let new = |what: &str, contents: &[u8]| {
-            Situation::new(format!("standard error {name}, {what}"), contents).error(error)
-        };
-        all.extend([
-            new("good", GOOD),
-            new("refused", REFUSED),
-            new("refused, named", REFUSED).named(),
-            new("wrong words", GOOD).word("--x"),
-            new("an empty word", GOOD).not_opened("", ENOENT),
-            new("standard input a folder", GOOD).input(Input::Folder),
-        ]);
+        all.extend(elsewhere(error, name));
     }
-    all.extend((0..=255).filter(|byte| *byte != b'\n').map(each_character));
+    let characters = (0..=255).filter(|byte| *byte != b'\n');
+    all.extend(characters.map(each_character));
     all
+}
+
+fn unread() -> Vec<Situation> {
+    let new =
+        |what: &str, input| Situation::new(format!("standard input {what}"), GOOD).input(input);
+    vec![
+        new("closed", Input::Closed),
+        new("closed, word -", Input::Closed).word("-"),
+        new("closed, --help", Input::Closed).word("--help"),
+        new("closed, wrong words", Input::Closed).word("-x"),
+        new("a folder", Input::Folder),
+        new("a folder, word -", Input::Folder).word("-"),
+        new("a folder, --version", Input::Folder).word("--version"),
+        new("empty", Input::Empty),
+    ]
+}
+
+/// What is said on standard error goes elsewhere.
+fn elsewhere(error: ErrorOutput, name: &str) -> Vec<Situation> {
+    let new = |what: &str, contents: &[u8]| {
+        Situation::new(format!("standard error {name}, {what}"), contents).error(error)
+    };
+    vec![
+        new("good", GOOD),
+        new("refused", REFUSED),
+        new("refused, named", REFUSED).named(),
+        new("wrong words", GOOD).word("--x"),
+        new("an empty word", GOOD).not_opened("", ENOENT),
+        new("standard input a folder", GOOD).input(Input::Folder),
+    ]
 }
 
 /// A line with this character inside.

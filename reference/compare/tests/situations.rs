@@ -1,0 +1,85 @@
+//! The situations in which programs are started: that none disturbs another,
+//! and what they cover.
+
+use compare::programs::ended::End;
+use compare::programs::situations::situations;
+use reader::Program;
+use std::collections::{BTreeSet, HashSet};
+
+/// Each has a name and a file of its own, as they are run at the same time.
+#[test]
+fn each_has_its_own_name_and_file() {
+    let (mut names, mut files) = (HashSet::new(), HashSet::new());
+    for situation in situations(true) {
+        assert!(names.insert(situation.name.clone()), "{}", situation.name);
+        assert!(files.insert(situation.file), "{}", situation.name);
+    }
+    for taken in ["folder", "loop", "faults.so"] {
+        assert!(!files.contains(taken.as_bytes()));
+    }
+}
+
+#[test]
+fn every_end_and_every_message_is_among_them() {
+    let mut ends = BTreeSet::new();
+    let mut said = String::new();
+    for situation in situations(true) {
+        for program in situation.programs.iter() {
+            let expected = situation.expected(*program);
+            ends.insert(expected.end.to_string());
+            said += &String::from_utf8_lossy(&expected.said);
+        }
+    }
+    let statuses = [0, 1, 2, 3].map(End::Status);
+    let expected = statuses.into_iter().chain([End::Signal(13)]);
+    assert!(ends.into_iter().eq(expected.map(|end| end.to_string())));
+    for text in [
+        "usage: model [FILE]\n",
+        "station: : No such file or directory\n",
+        "reading: missing.hex: No such file or directory\n",
+        "model: /dev/null/a.hex: Not a directory\n",
+        "model: loop: Too many levels of symbolic links\n",
+        "station: folder: Is a directory\n",
+        "station: argument: File name too long\n",
+        "station: standard input: Is a directory\n",
+        "reading: standard input: Bad file descriptor\n",
+        "model: standard input: Input/output error\n",
+        "station: standard output: Bad file descriptor\n",
+        "station: standard output: No space left on device\n",
+        "reading: standard output: File too large\n",
+        "model: standard output: Input/output error\n",
+        "model: standard input: line 2: character 1 is a lower-case letter\n",
+        "station: standard input: line 2: character 2 is byte 80, none of 0-9 and A-F\n",
+        "station: standard input: line 2: the count of digits is 3, which is odd\n",
+    ] {
+        assert!(said.contains(text), "{text}");
+    }
+    assert!(!said.contains("Broken pipe"));
+}
+
+/// `model` prints no state where a read has failed.
+#[test]
+fn no_state_after_a_failed_read() {
+    let all = situations(true);
+    let failed = all.iter().filter(|situation| {
+        let at = situation.faults.read_fails_at;
+        at.is_some() && !situation.contents.contains(&b'e')
+    });
+    let mut seen = 0;
+    for situation in failed {
+        let expected = situation.expected(Program::Model);
+        assert_eq!(expected.end, End::Status(3), "{}", situation.name);
+        let printed = String::from_utf8(expected.printed).unwrap();
+        assert!(!printed.contains("register"), "{}", situation.name);
+        seen += 1;
+    }
+    assert!(seen >= 30, "{seen}");
+}
+
+/// Without gcc no call can be made to fail.
+#[test]
+fn those_without_faults() {
+    let without = situations(false);
+    assert!(without.len() > 300 && without.len() + 40 < situations(true).len());
+    assert!(without.iter().all(|s| s.faults == Default::default()));
+}
