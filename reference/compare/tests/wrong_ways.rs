@@ -175,7 +175,6 @@ fn one_that_forgets_the_beginning_of_a_line_at_each_read() {
     let wrong = Wrong::new("forgets", true);
     let listing = |how| wrong.reads("paper/listing", how);
     assert_eq!(listing("as a file"), [None, None, None]);
-    assert!(differ(&listing("a byte at a time")));
     assert!(differ(&listing("interrupted calls")));
     // A line that a block's edge cuts.
     let long = wrong.reads("refusals/200000-digits", "as a file");
@@ -192,7 +191,7 @@ fn one_that_opens_anew_at_each_read() {
 #[test]
 fn one_that_hangs_after_a_failed_read() {
     let mut wrong = Wrong::new("hangs-after-a-failed-read", true);
-    wrong.programs.run_limit = Duration::from_millis(400);
+    wrong.programs.run_limit = Duration::from_secs(1);
     let faults = wrong.starts("a read fails at 10 of 14");
     assert_eq!(faults, vec![Some(Fault::Hangs(None)); 3]);
 }
