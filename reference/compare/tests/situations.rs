@@ -1,8 +1,16 @@
 //! The situations in which programs are started: that none disturbs another,
-//! and what they cover.
+//! what they cover, and that the separate reader's own programs, which meet
+//! the real system, do in each what is imagined.
 
+mod common;
+
+use common::readers_programs;
 use compare::programs::ended::End;
-use compare::programs::situations::situations;
+use compare::programs::scratch::Scratch;
+use compare::programs::situations::{prepare, situations};
+use compare::programs::under_test::UnderTest;
+use compare::programs::{pool, started};
+use compare::tally::Tally;
 use reader::Program;
 use std::collections::{BTreeSet, HashSet};
 
@@ -82,4 +90,17 @@ fn those_without_faults() {
     let without = situations(false);
     assert!(without.len() > 300 && without.len() + 40 < situations(true).len());
     assert!(without.iter().all(|s| s.faults == Default::default()));
+}
+
+#[test]
+fn the_readers_programs_pass_in_each() {
+    let programs = UnderTest::new(&readers_programs(), true);
+    let scratch = Scratch::new().unwrap();
+    prepare(&scratch).unwrap();
+    let all = situations(scratch.faults().is_ok());
+    let mut tally = Tally::default();
+    for checks in pool::each(&all, |s| started::check(&programs, s, &scratch)) {
+        tally.add(checks);
+    }
+    assert!(tally.all_passed(), "{tally}");
 }
