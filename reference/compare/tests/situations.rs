@@ -6,8 +6,10 @@ mod common;
 
 use common::readers_programs;
 use compare::programs::ended::End;
+use compare::programs::faults::Faults;
 use compare::programs::scratch::Scratch;
-use compare::programs::situations::{prepare, situations};
+use compare::programs::situation::{Output, Situation};
+use compare::programs::situations::{situations, Means};
 use compare::programs::under_test::UnderTest;
 use compare::programs::{pool, started};
 use compare::tally::Tally;
@@ -18,7 +20,7 @@ use std::collections::{BTreeSet, HashSet};
 #[test]
 fn each_has_its_own_name_and_file() {
     let (mut names, mut files) = (HashSet::new(), HashSet::new());
-    for situation in situations(true) {
+    for situation in situations(Means::ALL) {
         assert!(names.insert(situation.name.clone()), "{}", situation.name);
         assert!(files.insert(situation.file), "{}", situation.name);
     }
@@ -31,7 +33,7 @@ fn each_has_its_own_name_and_file() {
 fn every_end_and_every_message_is_among_them() {
     let mut ends = BTreeSet::new();
     let mut said = String::new();
-    for situation in situations(true) {
+    for situation in situations(Means::ALL) {
         for program in situation.programs.iter() {
             let expected = situation.expected(*program);
             ends.insert(expected.end.to_string());
@@ -68,7 +70,7 @@ fn every_end_and_every_message_is_among_them() {
 /// `model` prints no state where a read has failed.
 #[test]
 fn no_state_after_a_failed_read() {
-    let all = situations(true);
+    let all = situations(Means::ALL);
     let failed = all.iter().filter(|situation| {
         let at = situation.faults.read_fails_at;
         at.is_some() && !situation.contents.contains(&b'e')
@@ -84,20 +86,25 @@ fn no_state_after_a_failed_read() {
     assert!(seen >= 30, "{seen}");
 }
 
-/// Without gcc no call can be made to fail.
+/// Without gcc no call can be made to fail, and not everybody may mount.
 #[test]
-fn those_without_faults() {
-    let without = situations(false);
-    assert!(without.len() > 300 && without.len() + 40 < situations(true).len());
-    assert!(without.iter().all(|s| s.faults == Default::default()));
+fn those_that_need_no_means() {
+    let none = Means {
+        faults: false,
+        disk: false,
+    };
+    let without = situations(none);
+    assert!(without.len() > 300 && without.len() + 40 < situations(Means::ALL).len());
+    assert!(without.iter().all(|s| s.faults == Faults::NONE));
+    let on_disk = |s: &Situation| matches!(s.output, Output::Disk(_));
+    assert!(!without.iter().any(on_disk) && situations(Means::ALL).iter().any(on_disk));
 }
 
 #[test]
 fn the_readers_programs_pass_in_each() {
     let programs = UnderTest::new(&readers_programs(), true);
     let scratch = Scratch::new().unwrap();
-    prepare(&scratch).unwrap();
-    let all = situations(scratch.faults().is_ok());
+    let all = situations(Means::prepare(&scratch).unwrap());
     let mut tally = Tally::default();
     for checks in pool::each(&all, |s| started::check(&programs, s, &scratch)) {
         tally.add(checks);

@@ -9,7 +9,7 @@ use compare::programs::case;
 use compare::programs::ended::End;
 use compare::programs::fault::Fault;
 use compare::programs::scratch::Scratch;
-use compare::programs::situations::{prepare, situations};
+use compare::programs::situations::{situations, Means};
 use compare::programs::started;
 use compare::programs::under_test::UnderTest;
 use reader::Program;
@@ -41,21 +41,22 @@ fn folder(way: &str) -> PathBuf {
 struct Wrong {
     programs: UnderTest,
     scratch: Scratch,
+    means: Means,
 }
 
 impl Wrong {
     fn new(way: &str, has_status: bool) -> Wrong {
         let scratch = Scratch::new().unwrap();
-        prepare(&scratch).unwrap();
         Wrong {
             programs: UnderTest::new(&folder(way), has_status),
+            means: Means::prepare(&scratch).unwrap(),
             scratch,
         }
     }
 
     /// The faults of the three programs in a situation.
     fn starts(&self, name: &str) -> Vec<Option<Fault>> {
-        let all = situations(self.scratch.faults().is_ok());
+        let all = situations(self.means);
         let situation = all.iter().find(|situation| situation.name == name);
         let checks = started::check(&self.programs, situation.expect(name), &self.scratch);
         assert_eq!(checks.len(), 3);

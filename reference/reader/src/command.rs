@@ -2,7 +2,7 @@
 
 use crate::message::{self, about, text};
 use crate::program::{Failure, Program};
-use crate::system::System;
+use crate::system::{write_all, System};
 use crate::words::{asked, Asked, Input};
 use std::io::{self, ErrorKind};
 
@@ -36,7 +36,7 @@ impl Program {
     }
 
     fn print(self, text: &str, system: &mut impl System) -> Status {
-        let written = Program::write(text.as_bytes(), system).and_then(|()| system.close_output());
+        let written = write_all(text.as_bytes(), system).and_then(|()| system.close_output());
         match written {
             Ok(()) => Status::Whole,
             Err(error) => self.not_written(&error, system),

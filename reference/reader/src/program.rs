@@ -5,7 +5,7 @@ use crate::hex::HexLine;
 use crate::listing::{push_frame, push_record, push_refused};
 use crate::model::push_model;
 use crate::refusal::{Refusal, Why};
-use crate::system::{Streams, System};
+use crate::system::{write_all, Streams, System};
 use std::io::{self, ErrorKind, Read, Write};
 
 /// Bytes read, and written, at a time.
@@ -62,7 +62,7 @@ impl Program {
     pub fn run(self, system: &mut impl System) -> Result<Ended, Failure> {
         let mut run = Run::start(self);
         let mut block = vec![0; BLOCK];
-        while !run.over {
+        while !run.is_over() {
             let length = match system.read(&mut block) {
                 Ok(0) => break,
                 Ok(length) => length,
@@ -71,7 +71,7 @@ impl Program {
             };
             for &character in &block[..length] {
                 run.take(character);
-                if run.over {
+                if run.is_over() {
                     break;
                 }
                 if run.out.len() >= BLOCK {
@@ -84,19 +84,6 @@ impl Program {
         run.finish();
         run.write(system)?;
         Ok(run.ended)
-    }
-
-    /// Writes all bytes, in as many calls as it takes.
-    pub fn write(mut bytes: &[u8], system: &mut impl System) -> io::Result<()> {
-        while !bytes.is_empty() {
-            match system.write(bytes) {
-                Ok(0) => return Err(ErrorKind::WriteZero.into()),
-                Ok(length) => bytes = &bytes[length..],
-                Err(error) if error.kind() == ErrorKind::Interrupted => {}
-                Err(error) => return Err(error),
-            }
-        }
-        Ok(())
     }
 }
 
@@ -123,7 +110,6 @@ struct Run {
     lines_ended: u64,
     /// What is printed and not yet written.
     out: Vec<u8>,
-    over: bool,
     ended: Ended,
 }
 
@@ -135,9 +121,13 @@ impl Run {
             line: HexLine::default(),
             lines_ended: 0,
             out: Vec::with_capacity(2 * BLOCK),
-            over: false,
             ended: Ended::default(),
         }
+    }
+
+    /// A refused line ends it.
+    fn is_over(&self) -> bool {
+        self.ended.refusal.is_some()
     }
 
     fn take(&mut self, character: u8) {
@@ -169,14 +159,13 @@ impl Run {
         };
         let line = self.lines_ended;
         self.ended.refusal = refused.map(|why| Refusal { line, why });
-        self.over = refused.is_some();
         self.line = HexLine::default();
     }
 
     /// The end of the input, or of the run after a refused line.
     fn finish(&mut self) {
         // Nothing after the last line feed is no line.
-        if !self.over && self.line.started() {
+        if !self.is_over() && self.line.started() {
             self.end_line();
         }
         if self.program == Program::Model {
@@ -185,7 +174,7 @@ impl Run {
     }
 
     fn write(&mut self, system: &mut impl System) -> Result<(), Failure> {
-        Program::write(&self.out, system).map_err(Failure::Write)?;
+        write_all(&self.out, system).map_err(Failure::Write)?;
         self.ended.has_written |= !self.out.is_empty();
         self.out.clear();
         Ok(())

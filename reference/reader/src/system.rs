@@ -20,6 +20,19 @@ pub trait System {
     fn say(&mut self, line: &[u8]);
 }
 
+/// Writes all bytes to standard output, in as many calls as it takes.
+pub fn write_all(mut bytes: &[u8], system: &mut impl System) -> io::Result<()> {
+    while !bytes.is_empty() {
+        match system.write(bytes) {
+            Ok(0) => return Err(ErrorKind::WriteZero.into()),
+            Ok(length) => bytes = &bytes[length..],
+            Err(error) if error.kind() == ErrorKind::Interrupted => {}
+            Err(error) => return Err(error),
+        }
+    }
+    Ok(())
+}
+
 /// A system that has nothing but an input and an output.
 pub struct Streams<I, O>(pub I, pub O);
 

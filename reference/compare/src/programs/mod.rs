@@ -3,6 +3,7 @@
 pub mod case;
 pub mod delivery;
 pub mod difference;
+pub mod disk;
 pub mod ended;
 pub mod errors;
 pub mod expected;
@@ -21,6 +22,7 @@ use crate::golden;
 use crate::tally::Tally;
 use cases::{fixed, generated};
 use scratch::Scratch;
+use situations::Means;
 use std::io;
 use std::path::Path;
 use under_test::UnderTest;
@@ -37,8 +39,12 @@ pub fn compare(programs: &Path, has_status: bool, repository: &Path) -> io::Resu
     let cases = [fixed(), generated(GENERATED)].concat();
 
     let mut tally = Tally::default();
+    let means = Means::prepare(&scratch)?;
     if let Err(missing) = scratch.faults() {
         tally.note(missing);
+    }
+    if !means.disk {
+        tally.note("no small file system can be mounted: a full disk is NOT compared");
     }
     let golden_files = repository.join("tests/golden");
     tally.add(golden::check(&golden_files, &cases::golden()));
@@ -47,8 +53,7 @@ pub fn compare(programs: &Path, has_status: bool, repository: &Path) -> io::Resu
     for checks in pool::each(&live::cases(), |live| live::check(&under_test, live)) {
         tally.add(checks);
     }
-    situations::prepare(&scratch)?;
-    let situations = situations::situations(scratch.faults().is_ok());
+    let situations = situations::situations(means);
     for checks in pool::each(&situations, |s| started::check(&under_test, s, &scratch)) {
         tally.add(checks);
     }

@@ -8,7 +8,10 @@ use super::faults::Faults;
 use reader::Program;
 
 /// Blocks in which a shell counts the size limit of files.
-pub const LIMIT_BLOCK: usize = 512;
+const LIMIT_BLOCK: usize = 512;
+
+/// Pages of a small file system.
+pub const PAGE: usize = 4_096;
 
 #[derive(Clone, Debug)]
 pub struct Situation {
@@ -46,6 +49,8 @@ pub enum Output {
     Full,
     /// A file of so many blocks at most.
     Limited(usize),
+    /// A file on a small file system of so many pages.
+    Disk(usize),
     /// A pipe whose reader goes away after so many bytes, and whether the
     /// program ignores the signal.
     Leaves {
@@ -139,6 +144,7 @@ impl Situation {
             Output::Kept => self.faults.write_fails_at.map(|at| (at, ENOSPC)),
             Output::Closed => Some((0, EBADF)),
             Output::Full => Some((0, ENOSPC)),
+            Output::Disk(pages) => Some((pages * PAGE, ENOSPC)),
             Output::Limited(blocks) => Some((blocks * LIMIT_BLOCK, EFBIG)),
             Output::Leaves { after, .. } => Some((after, EPIPE)),
         };

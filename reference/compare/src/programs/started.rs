@@ -1,6 +1,7 @@
 //! The programs started in a situation. A shell closes descriptors, ignores
 //! signals and limits files ahead of the program, and then is it.
 
+use super::disk;
 use super::fault::{judge, Fault};
 use super::running::{Run, Running};
 use super::scratch::Scratch;
@@ -77,6 +78,7 @@ fn shell(path: &Path, program: Program, situation: &Situation, scratch: &Scratch
 /// What the shell does.
 fn script(situation: &Situation) -> String {
     let ahead = match situation.output {
+        Output::Disk(pages) => return disk::script(pages),
         Output::Limited(blocks) => format!("trap '' XFSZ; ulimit -f {blocks}; "),
         Output::Leaves { ignored: true, .. } => "trap '' PIPE; ".to_string(),
         _ => String::new(),
@@ -113,7 +115,7 @@ type Ends = (Stdio, Option<Box<dyn Read + Send>>);
 
 fn output(output: Output, limited: &Path) -> io::Result<Ends> {
     Ok(match output {
-        Output::Kept | Output::Closed => (Stdio::piped(), None),
+        Output::Kept | Output::Closed | Output::Disk(_) => (Stdio::piped(), None),
         Output::Full => (
             Stdio::from(OpenOptions::new().write(true).open(FULL)?),
             None,

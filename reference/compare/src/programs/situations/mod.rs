@@ -6,6 +6,7 @@ mod inputs;
 mod outputs;
 mod words;
 
+use super::disk;
 use super::scratch::Scratch;
 use super::situation::Situation;
 use super::started::FOLDER;
@@ -32,19 +33,43 @@ pub fn large() -> Vec<u8> {
     ("B5C000\n".to_string() + &line.repeat(2_100)).into_bytes()
 }
 
-/// What the words of the situations name in the scratch folder.
-pub fn prepare(scratch: &Scratch) -> io::Result<()> {
-    fs::create_dir(scratch.folder().join(FOLDER))?;
-    symlink(LOOP, scratch.folder().join(LOOP))
+/// What there is to make the system fail.
+#[derive(Clone, Copy, Debug, PartialEq, Eq)]
+pub struct Means {
+    /// Calls can be made to fail.
+    pub faults: bool,
+    /// A small file system can be mounted.
+    pub disk: bool,
 }
 
-/// All of them, with those in which calls fail or without.
-pub fn situations(with_faults: bool) -> Vec<Situation> {
+impl Means {
+    pub const ALL: Means = Means {
+        faults: true,
+        disk: true,
+    };
+
+    /// Puts into the scratch folder what the situations need there, and says
+    /// what of it can be had.
+    pub fn prepare(scratch: &Scratch) -> io::Result<Means> {
+        fs::create_dir(scratch.folder().join(FOLDER))?;
+        symlink(LOOP, scratch.folder().join(LOOP))?;
+        Ok(Means {
+            faults: scratch.faults().is_ok(),
+            disk: disk::can_be_had(scratch),
+        })
+    }
+}
+
+/// All for which there are the means.
+pub fn situations(means: Means) -> Vec<Situation> {
     let mut all = words::situations();
     all.extend(inputs::situations());
     all.extend(outputs::situations());
-    if with_faults {
+    if means.faults {
         all.extend(calls::situations());
+    }
+    if means.disk {
+        all.extend(outputs::full_disk());
     }
     all
 }

@@ -76,6 +76,22 @@ fn written_in_part() -> Vec<Situation> {
     all
 }
 
+/// A disk on which there is room for a part.
+pub fn full_disk() -> Vec<Situation> {
+    let on = |pages: usize, what: &str, contents: &[u8]| {
+        let name = format!("a disk of {pages} pages, {what}");
+        Situation::new(name, contents).output(Output::Disk(pages))
+    };
+    let refused = [&large()[..], b"x"].concat();
+    vec![
+        on(1, "good", GOOD),
+        on(1, "large", &large()),
+        on(17, "large", &large()),
+        on(17, "refused", &refused),
+        on(1_000, "refused", &refused),
+    ]
+}
+
 /// So many records: EnDataTake, then LV1, a byte each.
 fn exactly(records: usize) -> Vec<u8> {
     let triggers = "E8\n".repeat(records - 1);
