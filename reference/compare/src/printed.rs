@@ -6,7 +6,7 @@ use reader::Program;
 pub fn printed(program: Program, input: &[u8]) -> Vec<u8> {
     let mut printed = Vec::new();
     program
-        .run(input, &mut printed)
+        .list_all(input, &mut printed)
         .expect("memory can be read and written");
     printed
 }

@@ -12,6 +12,7 @@ pub struct Check {
 
 #[derive(Default)]
 pub struct Tally {
+    notes: Vec<String>,
     passed: usize,
     failed: Vec<String>,
 }
@@ -34,6 +35,11 @@ impl Tally {
         }
     }
 
+    /// Something that a reader of the count must know.
+    pub fn note(&mut self, note: impl fmt::Display) {
+        self.notes.push(note.to_string());
+    }
+
     pub fn all_passed(&self) -> bool {
         self.failed.is_empty()
     }
@@ -41,6 +47,9 @@ impl Tally {
 
 impl fmt::Display for Tally {
     fn fmt(&self, f: &mut fmt::Formatter) -> fmt::Result {
+        for note in &self.notes {
+            writeln!(f, "{note}")?;
+        }
         for fault in self.failed.iter().take(PRINTED) {
             writeln!(f, "FAILED {fault}")?;
         }

@@ -1,7 +1,7 @@
 //! The golden files: writing them, and seeing every change of them.
 
 use cases::{golden, Case};
-use compare::golden::{check, strays, write};
+use compare::golden::{check, check_files, files, stored, strays, write};
 use compare::programs::fault::Fault;
 use compare::programs::scratch::Scratch;
 use std::fs;
@@ -28,7 +28,7 @@ fn every_change_of_a_golden_file_shows() {
     let folder = folder("golden");
     let cases: Vec<Case> = golden().into_iter().take(3).collect();
     for case in &cases {
-        write(&folder, case).unwrap();
+        write(&folder, files(case)).unwrap();
     }
     assert_eq!(check(&folder, &cases).len(), 12);
     assert_eq!(failed(&folder, &cases), []);
@@ -62,6 +62,56 @@ fn every_change_of_a_golden_file_shows() {
     assert_eq!(failed(&folder, &cases), []);
 }
 
+/// What is said of a refused line has a file; nothing said has none.
+#[test]
+fn what_is_said_is_a_file() {
+    let folder = folder("said");
+    let named = |name: &str| {
+        let case = golden().into_iter().find(|case| case.name == name);
+        [case.expect(name)]
+    };
+    let refused = named("refusals/odd");
+    write(&folder, files(&refused[0])).unwrap();
+    assert_eq!(check(&folder, &refused).len(), 5);
+    assert_eq!(failed(&folder, &refused), []);
+    let said = folder.join("refusals/odd.said");
+    let lines = ["station", "reading", "model"].map(|name| {
+        format!("{name}: standard input: line 2: the count of digits is 5, which is odd\n")
+    });
+    assert_eq!(fs::read_to_string(&said).unwrap(), lines.concat());
+    fs::write(folder.join("refusals/empty.said"), "").unwrap();
+    let faults = failed(&folder, &refused);
+    assert!(matches!(&faults[..], [(_, Fault::Stray)]));
+
+    assert_eq!(files(&named("paper/listing")[0]).len(), 4);
+}
+
+/// The stored runs show a frame, a refusal, a state and more than a block.
+#[test]
+fn stored_runs() {
+    let folder = folder("stored");
+    write(&folder, stored::files()).unwrap();
+    let checks = check_files(&folder, stored::files());
+    assert!(checks.len() == 6 && checks.iter().all(|check| check.fault.is_none()));
+    let read = |name: &str| fs::read_to_string(folder.join(name)).unwrap();
+    let (input, output) = (read("station/stdin"), read("station/stdout"));
+    assert!((65_537..75_000).contains(&input.len()) && output.len() < 20_000);
+    // The block's edge cuts a line with bits of a frame.
+    assert!(!input[..65_536].ends_with('\n') && input.as_bytes()[65_536] != b'\n');
+    assert!(output.contains("\n>C3A5F1\n"));
+    let last = output.lines().last().unwrap();
+    assert!(last.starts_with("!07 ") && output.matches("\n>").count() >= 7);
+    assert!(!read("reading/stdout").contains(['!', '>']));
+    let state = read("model/stdout");
+    assert!(state.contains("\n!08 ") && state.contains("\nword "));
+    fs::write(folder.join("model/stdout"), "").unwrap();
+    let checks = check_files(&folder, stored::files());
+    assert_eq!(
+        checks.iter().filter(|check| check.fault.is_some()).count(),
+        1
+    );
+}
+
 #[test]
 fn a_missing_folder_shows() {
     let folder = folder("missing").join("none");
@@ -73,6 +123,7 @@ fn scratch_is_removed() {
     let scratch = Scratch::new().unwrap();
     let case = &golden()[0];
     let file = scratch.file(case).unwrap();
+    let file = scratch.folder().join(file);
     assert_eq!(fs::read(&file).unwrap(), case.input);
     drop(scratch);
     assert!(!file.exists());

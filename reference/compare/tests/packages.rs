@@ -46,6 +46,13 @@ const DOORS: [&str; 9] = [
     "process::Command",
 ];
 
+/// The one source with such doors: the programs' way to the system, through
+/// which they open what their word names.
+const SYSTEM: &str = "reader/src/bin/system/mod.rs";
+
+/// The programs begin at C's `main`; the version is the package's own.
+const NO_DOORS: [&str; 2] = ["extern \"C\" fn main()", "env!(\"CARGO_PKG_VERSION\")"];
+
 fn sources(folder: &Path) -> Vec<PathBuf> {
     let entries = fs::read_dir(folder).expect("a folder");
     let paths = entries.map(|entry| entry.expect("an entry").path());
@@ -66,8 +73,11 @@ fn the_reader_and_the_inputs_reach_nothing_outside() {
         assert!(library.contains("#![forbid(unsafe_code)]"), "{name}");
         let sources = sources(&folder.join("src"));
         assert!(sources.len() >= 10, "{name}");
-        for path in sources {
-            let source = fs::read_to_string(&path).expect("a source");
+        for path in sources.iter().filter(|path| !path.ends_with(SYSTEM)) {
+            let mut source = fs::read_to_string(path).expect("a source");
+            for allowed in NO_DOORS {
+                source = source.replace(allowed, "");
+            }
             for door in DOORS {
                 assert!(!source.contains(door), "{door} in {}", path.display());
             }

@@ -1,16 +1,23 @@
 //! The page for the person at the bench, docs/USING.md, and its example:
-//! every line of output that it shows is real.
+//! every line that it shows, of output, messages and exit status, is real.
+
+mod common;
 
 use cases::fixed;
+use common::readers_programs;
 use compare::printed::printed;
 use reader::Program;
 use std::collections::HashSet;
 use std::fs;
-use std::path::Path;
+use std::path::{Path, PathBuf};
+use std::process::Command;
+
+fn repository() -> PathBuf {
+    Path::new(env!("CARGO_MANIFEST_DIR")).join("../..")
+}
 
 fn read(path: &str) -> String {
-    let folder = Path::new(env!("CARGO_MANIFEST_DIR")).join("../..");
-    fs::read_to_string(folder.join(path)).expect(path)
+    fs::read_to_string(repository().join(path)).expect(path)
 }
 
 fn prints(program: Program, input: &str) -> String {
@@ -63,16 +70,30 @@ fn sessions(page: &str) -> Vec<(&str, String)> {
     sessions
 }
 
+/// What a shell shows, from the repository's root, where the programs are the
+/// separate reader's.
+fn shown(command: &str, programs: &Path) -> String {
+    let path = std::env::var("PATH").unwrap_or_default();
+    let mut shell = Command::new("/bin/sh");
+    shell.arg("-c").arg(format!("exec 2>&1\n{command}"));
+    shell.env("PATH", format!("{}:{path}", programs.display()));
+    let output = shell.current_dir(repository()).output().unwrap();
+    String::from_utf8(output.stdout).unwrap()
+}
+
 #[test]
 fn each_command_of_the_page_prints_what_is_below_it() {
     let page = read("docs/USING.md");
     let sessions = sessions(&page);
-    assert!(sessions.len() >= 4);
-    for (command, output) in sessions {
-        let input = command.strip_prefix("printf '").unwrap();
-        let input = input.strip_suffix("' | station").expect(command);
-        let input = input.replace("\\n", "\n");
-        assert_eq!(prints(Program::Station, &input), output, "{command}");
+    let programs = readers_programs();
+    for (command, output) in &sessions {
+        assert_eq!(&shown(command, &programs), output, "{command}");
+    }
+    // Enough of them, with each exit status but the first, and a message.
+    assert!(sessions.len() >= 15, "{}", sessions.len());
+    let shown: String = sessions.into_iter().map(|(_, output)| output).collect();
+    for line in ["status 1\n", "status 2\n", "status 3\n", ": line 2: "] {
+        assert!(shown.contains(line), "{line}");
     }
 }
 

@@ -1,9 +1,11 @@
 //! The comparison's own logic.
 
 use compare::programs::difference::difference;
+use compare::programs::ended::End;
+use compare::programs::expected::Expected;
 use compare::programs::fault::{judge, Fault};
 use compare::programs::pool;
-use compare::programs::running::Ended;
+use compare::programs::running::Run;
 use compare::tally::{Check, Tally};
 use std::time::Duration;
 
@@ -52,18 +54,75 @@ fn differences() {
     assert!(message.contains("byte 10001, line 1") && message.contains("xy"));
 }
 
+/// The fault of a run that is to print "a", to say "b" and to end so.
+fn fault(expected: End, printed: &str, said: &str, end: Option<End>) -> Option<Fault> {
+    let expected = Expected {
+        printed: b"a\n".to_vec(),
+        said: b"b\n".to_vec(),
+        end: expected,
+    };
+    let run = Run {
+        printed: printed.as_bytes().to_vec(),
+        said: said.as_bytes().to_vec(),
+        end,
+    };
+    judge(&expected, &run)
+}
+
 #[test]
 fn judgements() {
-    let fault = |printed: &str, ended| judge(b"a\n", printed.as_bytes(), ended);
-    assert_eq!(fault("a\n", Ended::ByItself), None);
-    assert_eq!(fault("a\n", Ended::BySignal), Some(Fault::Crashes));
-    assert_eq!(fault("a\n", Ended::Killed), Some(Fault::Hangs(None)));
-    assert!(matches!(
-        fault("a", Ended::Killed),
-        Some(Fault::Hangs(Some(_)))
-    ));
-    for ended in [Ended::ByItself, Ended::BySignal] {
-        assert!(matches!(fault("b\n", ended), Some(Fault::Differs(_))));
+    let ends = [
+        End::Status(0),
+        End::Status(1),
+        End::Status(13),
+        End::Signal(11),
+        End::Signal(13),
+    ];
+    for expected in ends {
+        assert_eq!(fault(expected, "a\n", "b\n", Some(expected)), None);
+        let hangs = fault(expected, "a\n", "b\n", None);
+        assert_eq!(hangs, Some(Fault::Hangs(None)));
+        let hangs = fault(expected, "a", "b\n", None);
+        assert!(matches!(hangs, Some(Fault::Hangs(Some(_)))));
+        for got in ends {
+            let ends = (got != expected).then_some(Fault::Ends { expected, got });
+            assert_eq!(fault(expected, "a\n", "b\n", Some(got)), ends);
+            // What it printed comes first, then what it said.
+            for said in ["b\n", ""] {
+                let differs = fault(expected, "b\n", said, Some(got));
+                assert!(matches!(differs, Some(Fault::Differs(_))));
+            }
+            for said in ["", "b", "b\nb\n", "c\n"] {
+                let says = fault(expected, "a\n", said, Some(got));
+                assert!(matches!(says, Some(Fault::Says(_))));
+            }
+        }
+    }
+}
+
+#[test]
+fn faults_in_words() {
+    let says = fault(End::Status(1), "a\n", "", Some(End::Status(1))).unwrap();
+    let text = "standard error differs at byte 1, line 1: expected \"b\\n\", got the end";
+    assert_eq!(says.to_string(), text);
+    let ends = fault(End::Status(1), "a\n", "b\n", Some(End::Signal(11))).unwrap();
+    let text = "ends with signal 11, expected exit status 1; its output is right";
+    assert_eq!(ends.to_string(), text);
+}
+
+#[test]
+fn without_a_status_it_is_0() {
+    let expected = |end| Expected {
+        printed: Vec::new(),
+        said: Vec::new(),
+        end,
+    };
+    for (end, without) in [
+        (End::Status(0), End::Status(0)),
+        (End::Status(3), End::Status(0)),
+        (End::Signal(13), End::Signal(13)),
+    ] {
+        assert_eq!(expected(end).without_status(), expected(without));
     }
 }
 
@@ -85,6 +144,10 @@ fn tallies() {
     let text = tally.to_string();
     assert_eq!(text.lines().count(), 42);
     assert!(text.ends_with("\nand 60 more\n2 passed, 100 failed"));
+    tally.note("Not all is compared.");
+    assert!(tally
+        .to_string()
+        .starts_with("Not all is compared.\nFAILED x"));
 }
 
 #[test]

@@ -1,7 +1,11 @@
 //! The comparison passes the programs themselves and rejects wrong ones.
 
+mod common;
+
 use cases::{fixed, Case};
+use common::readers_programs;
 use compare::programs::case;
+use compare::programs::ended::End;
 use compare::programs::fault::Fault;
 use compare::programs::live;
 use compare::programs::scratch::Scratch;
@@ -11,24 +15,23 @@ use reader::Program;
 use std::fs::{self, Permissions};
 use std::os::unix::fs::PermissionsExt;
 use std::path::{Path, PathBuf};
-use std::process::Command;
 use std::sync::OnceLock;
 use std::time::Duration;
 
 /// Scripts that stand in for all three programs; REAL is the program itself.
 const SCRIPTS: [(&str, &str); 9] = [
-    ("real", "exec REAL"),
-    ("drops-a-line", "REAL | sed 2d"),
+    ("real", "exec REAL \"$@\""),
+    ("drops-a-line", "REAL \"$@\" | sed 2d"),
     ("hangs", "exec sleep 1000"),
-    ("hangs-after-its-output", "REAL; exec sleep 1000 >&-"),
+    ("hangs-after-its-output", "REAL \"$@\"; exec sleep 1000 >&-"),
     ("prints-for-ever", "exec yes"),
     (
         "reads-all-first",
-        "d=$(cat; echo x); printf %s \"${d%x}\" | REAL",
+        "d=$(cat; echo x); printf %s \"${d%x}\" | REAL \"$@\"",
     ),
-    ("reads-after-a-refusal", "REAL; exec cat"),
-    ("crashes", "REAL; kill -SEGV $$"),
-    ("fails", "REAL; exit 3"),
+    ("reads-after-a-refusal", "REAL \"$@\"; s=$?; cat; exit $s"),
+    ("crashes", "REAL \"$@\"; kill -SEGV $$"),
+    ("fails", "REAL \"$@\"; exit 3"),
 ];
 
 /// Their folders. All are written ahead of the first start of a program: a
@@ -52,24 +55,8 @@ fn scripts() -> &'static Path {
     })
 }
 
-/// The folder of the separate reader's programs, beside this package's. They
-/// are built, as they are another package's: a test of the whole workspace
-/// has done so already, a test of this package alone has not.
-fn readers_programs() -> PathBuf {
-    let folder = Path::new(env!("CARGO_BIN_EXE_compare")).parent().unwrap();
-    let mut build = Command::new(env!("CARGO"));
-    build.args(["build", "--offline", "--quiet", "--bins", "--manifest-path"]);
-    build.arg(concat!(env!("CARGO_MANIFEST_DIR"), "/../reader/Cargo.toml"));
-    build.arg("--target-dir").arg(folder.parent().unwrap());
-    if folder.ends_with("release") {
-        build.arg("--release");
-    }
-    assert!(build.status().unwrap().success());
-    folder.to_path_buf()
-}
-
 fn patient(script: &str) -> UnderTest {
-    UnderTest::new(&scripts().join(script))
+    UnderTest::new(&scripts().join(script), true)
 }
 
 /// With limits that a right program keeps to all the same.
@@ -99,32 +86,21 @@ fn live_faults(programs: &UnderTest) -> Vec<Option<Fault>> {
 
 #[test]
 fn the_programs_themselves_pass() {
-    for folder in ["real", "fails"] {
-        let programs = patient(folder);
-        for name in [
-            "paper/listing",
-            "frames/wr-9",
-            "refusals/odd",
-            "lines/empty-input",
-        ] {
-            let faults = faults(&programs, name);
-            // Three programs, three deliveries.
-            assert_eq!(faults, vec![None; 9], "{folder}, {name}");
-        }
-        assert!(
-            live_faults(&programs).iter().all(Option::is_none),
-            "{folder}"
-        );
+    let programs = patient("real");
+    for name in [
+        "paper/listing",
+        "frames/wr-9",
+        "refusals/odd",
+        "lines/empty-input",
+    ] {
+        // Three programs, five deliveries.
+        assert_eq!(faults(&programs, name), vec![None; 15], "{name}");
     }
+    assert!(live_faults(&programs).iter().all(Option::is_none));
     // Long inputs are not written a byte at a time.
-    assert_eq!(
-        faults(&patient("real"), "refusals/200000-digits"),
-        vec![None; 6]
-    );
-    assert_eq!(
-        faults(&patient("real"), "frames/receiver-65528"),
-        vec![None; 6]
-    );
+    for name in ["refusals/200000-digits", "frames/receiver-65528"] {
+        assert_eq!(faults(&programs, name), vec![None; 12], "{name}");
+    }
 }
 
 #[test]
@@ -132,14 +108,14 @@ fn wrong_output_is_reported_with_its_place() {
     let programs = patient("drops-a-line");
     let scratch = Scratch::new().unwrap();
     let checks = case::check(&programs, &named("paper/listing"), &scratch);
-    assert_eq!(checks.len(), 9);
+    assert_eq!(checks.len(), 15);
     let mut tally = Tally::default();
     tally.add(checks);
     let first = "FAILED station, paper/listing, as a file: differs at byte 40, line 2: \
                  expected \"000000000015 01 05 00000015\\n\", got \"00000000001C 01 07 0000011C\\n\"";
     let text = tally.to_string();
     assert_eq!(text.lines().next(), Some(first));
-    assert!(text.ends_with("\n0 passed, 9 failed"));
+    assert!(text.ends_with("\n0 passed, 15 failed"));
 }
 
 #[test]
@@ -154,24 +130,37 @@ fn output_without_end_is_cut_off() {
 fn a_program_that_hangs_is_killed_and_given_up() {
     let mut programs = impatient("hangs");
     programs.run_limit = Duration::from_millis(100);
-    for fault in faults(&programs, "paper/listing") {
-        assert!(matches!(fault, Some(Fault::Hangs(Some(_)))), "{fault:?}");
+    let first = faults(&programs, "paper/listing");
+    for (number, fault) in first.iter().enumerate() {
+        // Each program is given up after three.
+        match number % 5 {
+            0..=2 => assert!(matches!(fault, Some(Fault::Hangs(Some(_)))), "{fault:?}"),
+            _ => assert_eq!(fault, &Some(Fault::GivenUp)),
+        }
     }
     let again = Some(Fault::GivenUp);
-    assert_eq!(faults(&programs, "frames/wr-9"), vec![again; 9]);
+    assert_eq!(faults(&programs, "frames/wr-9"), vec![again; 15]);
 }
 
 #[test]
 fn a_program_that_hangs_after_its_output_is_killed_too() {
-    for fault in faults(&impatient("hangs-after-its-output"), "paper/listing") {
-        assert_eq!(fault, Some(Fault::Hangs(None)));
-    }
+    let faults = faults(&impatient("hangs-after-its-output"), "paper/listing");
+    let hang = faults
+        .iter()
+        .filter(|fault| **fault == Some(Fault::Hangs(None)));
+    let given_up = faults
+        .iter()
+        .filter(|fault| **fault == Some(Fault::GivenUp));
+    assert_eq!((hang.count(), given_up.count()), (9, 6));
 }
 
 #[test]
-fn a_crash_shows() {
-    let faults = faults(&patient("crashes"), "paper/listing");
-    assert_eq!(faults, vec![Some(Fault::Crashes); 9]);
+fn a_crash_and_another_status_show() {
+    let expected = End::Status(0);
+    for (script, got) in [("crashes", End::Signal(11)), ("fails", End::Status(3))] {
+        let faults = faults(&patient(script), "paper/listing");
+        assert_eq!(faults, vec![Some(Fault::Ends { expected, got }); 15]);
+    }
 }
 
 #[test]
@@ -190,7 +179,7 @@ fn a_lagging_program_fails_on_a_live_pipe_only() {
         assert_eq!(check.fault, Some(Fault::LagsAtLine(1)), "{}", check.name);
     }
     let programs = patient("reads-all-first");
-    assert_eq!(faults(&programs, "refusals/odd"), vec![None; 9]);
+    assert_eq!(faults(&programs, "refusals/odd"), vec![None; 15]);
 }
 
 /// A refused line ends the run, though the pipe stays open.

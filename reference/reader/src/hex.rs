@@ -1,47 +1,49 @@
 //! Hexadecimal lines (numbers 7 and 8 of the refusal table).
 
-/// Digits that a line may have at most.
-const LINE_DIGITS: usize = 64;
+use crate::refusal::{Why, LINE_DIGITS};
 
 /// A line as it arrives, character by character. A line of any length needs
-/// no more room than this: beyond its first digits only their count and
-/// whether a wrong character came decide.
+/// no more room than this: beyond its first digits only their count and the
+/// first wrong character decide.
 #[derive(Clone, Debug, Default)]
 pub struct HexLine {
-    wrong: bool,
-    digits: u64,
-    bytes: [u8; LINE_DIGITS / 2],
-    started: bool,
+    characters: u64,
+    /// Place, from 1, and byte of the first character that is no digit.
+    wrong: Option<(u64, u8)>,
+    bytes: [u8; LINE_DIGITS as usize / 2],
 }
 
 impl HexLine {
     /// Takes a character; a line feed is not one of a line's characters.
     pub fn push(&mut self, character: u8) {
-        self.started = true;
-        let Some(digit) = digit(character) else {
-            self.wrong = true;
-            return;
-        };
-        if let Some(byte) = self.bytes.get_mut((self.digits / 2) as usize) {
-            *byte = *byte << 4 | digit;
+        let place = self.characters;
+        self.characters += 1;
+        match digit(character) {
+            None => self.wrong = self.wrong.or(Some((self.characters, character))),
+            Some(digit) => {
+                if let Some(byte) = self.bytes.get_mut((place / 2) as usize) {
+                    *byte = *byte << 4 | digit;
+                }
+            }
         }
-        self.digits = self.digits.saturating_add(1);
     }
 
     /// Whether any character came, so that an end of the input ends a line.
     pub fn started(&self) -> bool {
-        self.started
+        self.characters > 0
     }
 
-    /// The bytes of the whole line, or the number it is rejected with.
-    pub fn bytes(&self) -> Result<&[u8], u8> {
-        if self.wrong {
-            return Err(7);
+    /// The bytes of the whole line, or why it is refused.
+    pub fn bytes(&self) -> Result<&[u8], Why> {
+        if let Some((place, byte)) = self.wrong {
+            return Err(Why::Character { place, byte });
         }
-        if self.digits % 2 == 1 || self.digits > LINE_DIGITS as u64 {
-            return Err(8);
+        // All are digits.
+        let digits = self.characters;
+        if digits % 2 == 1 || digits > LINE_DIGITS {
+            return Err(Why::Digits(digits));
         }
-        Ok(&self.bytes[..(self.digits / 2) as usize])
+        Ok(&self.bytes[..(digits / 2) as usize])
     }
 }
 
@@ -53,11 +55,12 @@ fn digit(character: u8) -> Option<u8> {
     }
 }
 
-/// The bytes of one line, given without its line feed.
+/// The bytes of one line, given without its line feed, or the number with
+/// which it is refused.
 pub fn hex_line(line: &[u8]) -> Result<Vec<u8>, u8> {
     let mut taken = HexLine::default();
     for &character in line {
         taken.push(character);
     }
-    taken.bytes().map(<[u8]>::to_vec)
+    taken.bytes().map(<[u8]>::to_vec).map_err(Why::number)
 }

@@ -7,6 +7,7 @@
 
 #![forbid(unsafe_code)]
 
+pub mod command;
 pub mod cycle;
 pub mod decoder;
 pub mod effect;
@@ -15,24 +16,31 @@ pub mod hex;
 pub mod hunting;
 pub mod limits;
 pub mod listing;
+pub mod message;
 pub mod model;
 pub mod plan;
 pub mod program;
 pub mod recogniser;
 pub mod record;
+pub mod refusal;
 pub mod slow;
 pub mod sound;
 pub mod state;
+pub mod system;
 pub mod take;
 pub mod tray;
 pub mod window;
+pub mod words;
 
+pub use command::Status;
 pub use hex::hex_line;
 pub use plan::Plan;
 pub use program::{model, reading, station, Program};
 pub use recogniser::Recogniser;
 pub use record::Record;
+pub use refusal::{Refusal, Why};
 pub use sound::sound;
 pub use state::{open, State, Warnings};
+pub use system::System;
 pub use take::{take, Answer, Ending};
 pub use tray::frame_part;

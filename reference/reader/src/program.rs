@@ -4,8 +4,9 @@ use crate::decoder::Decoder;
 use crate::hex::HexLine;
 use crate::listing::{push_frame, push_record, push_refused};
 use crate::model::push_model;
+use crate::refusal::{Refusal, Why};
+use crate::system::{write_all, Streams, System};
 use std::io::{self, ErrorKind, Read, Write};
-use std::process::ExitCode;
 
 /// Bytes read, and written, at a time.
 const BLOCK: usize = 65_536;
@@ -23,17 +24,17 @@ pub enum Program {
 
 /// Prints every record and every frame.
 pub fn station(input: impl Read, output: impl Write) -> io::Result<()> {
-    Program::Station.run(input, output)
+    Program::Station.list_all(input, output)
 }
 
 /// Prints the records only.
 pub fn reading(input: impl Read, output: impl Write) -> io::Result<()> {
-    Program::Reading.run(input, output)
+    Program::Reading.list_all(input, output)
 }
 
 /// Prints the records, then the state of the controller.
 pub fn model(input: impl Read, output: impl Write) -> io::Result<()> {
-    Program::Model.run(input, output)
+    Program::Model.list_all(input, output)
 }
 
 impl Program {
@@ -48,44 +49,57 @@ impl Program {
         }
     }
 
-    /// The program itself, from standard input to standard output.
-    pub fn main(self) -> ExitCode {
-        match self.run(io::stdin().lock(), io::stdout().lock()) {
-            Ok(()) => ExitCode::SUCCESS,
-            Err(error) => {
-                eprintln!("{}: {error}", self.name());
-                ExitCode::FAILURE
-            }
+    /// The listing of an input, without words and messages.
+    pub fn list_all(self, input: impl Read, output: impl Write) -> io::Result<()> {
+        match self.run(&mut Streams(input, output)) {
+            Ok(_) => Ok(()),
+            Err(Failure::Read(error) | Failure::Write(error)) => Err(error),
         }
     }
 
-    pub fn run(self, mut input: impl Read, mut output: impl Write) -> io::Result<()> {
+    /// Reads the input to its end, or to a refused line, and writes its
+    /// listing.
+    pub fn run(self, system: &mut impl System) -> Result<Ended, Failure> {
         let mut run = Run::start(self);
         let mut block = vec![0; BLOCK];
-        while !run.over {
-            let length = match input.read(&mut block) {
+        while !run.is_over() {
+            let length = match system.read(&mut block) {
                 Ok(0) => break,
                 Ok(length) => length,
                 Err(error) if error.kind() == ErrorKind::Interrupted => continue,
-                Err(error) => return Err(error),
+                Err(error) => return Err(Failure::Read(error)),
             };
             for &character in &block[..length] {
                 run.take(character);
-                if run.over {
+                if run.is_over() {
                     break;
                 }
                 if run.out.len() >= BLOCK {
-                    run.write(&mut output)?;
+                    run.write(system)?;
                 }
             }
             // Before the next read, which may wait on a live pipe.
-            run.write(&mut output)?;
-            output.flush()?;
+            run.write(system)?;
         }
         run.finish();
-        run.write(&mut output)?;
-        output.flush()
+        run.write(system)?;
+        Ok(run.ended)
     }
+}
+
+/// How a run ended that the system did not fail.
+#[derive(Clone, Copy, Debug, Default, PartialEq, Eq)]
+pub struct Ended {
+    /// Whether anything was written to standard output.
+    pub has_written: bool,
+    pub refusal: Option<Refusal>,
+}
+
+/// What the system failed to do.
+#[derive(Debug)]
+pub enum Failure {
+    Read(io::Error),
+    Write(io::Error),
 }
 
 /// One run of a program, but for its reading and writing.
@@ -96,7 +110,7 @@ struct Run {
     lines_ended: u64,
     /// What is printed and not yet written.
     out: Vec<u8>,
-    over: bool,
+    ended: Ended,
 }
 
 impl Run {
@@ -107,8 +121,13 @@ impl Run {
             line: HexLine::default(),
             lines_ended: 0,
             out: Vec::with_capacity(2 * BLOCK),
-            over: false,
+            ended: Ended::default(),
         }
+    }
+
+    /// A refused line ends it.
+    fn is_over(&self) -> bool {
+        self.ended.refusal.is_some()
     }
 
     fn take(&mut self, character: u8) {
@@ -122,7 +141,7 @@ impl Run {
     fn end_line(&mut self) {
         self.lines_ended += 1;
         let (program, out) = (self.program, &mut self.out);
-        match self.line.bytes() {
+        let refused = match self.line.bytes() {
             Ok(bytes) => {
                 let taken = self.decoder.feed(bytes, |record, frame| {
                     push_record(out, record);
@@ -130,20 +149,23 @@ impl Run {
                         push_frame(out, frame);
                     }
                 });
-                self.over = !taken;
+                // Nothing is printed for it.
+                (!taken).then_some(Why::Clock)
             }
-            Err(number) => {
-                push_refused(out, number, self.lines_ended);
-                self.over = true;
+            Err(why) => {
+                push_refused(out, why.number(), self.lines_ended);
+                Some(why)
             }
-        }
+        };
+        let line = self.lines_ended;
+        self.ended.refusal = refused.map(|why| Refusal { line, why });
         self.line = HexLine::default();
     }
 
     /// The end of the input, or of the run after a refused line.
     fn finish(&mut self) {
         // Nothing after the last line feed is no line.
-        if !self.over && self.line.started() {
+        if !self.is_over() && self.line.started() {
             self.end_line();
         }
         if self.program == Program::Model {
@@ -151,8 +173,9 @@ impl Run {
         }
     }
 
-    fn write(&mut self, output: &mut impl Write) -> io::Result<()> {
-        output.write_all(&self.out)?;
+    fn write(&mut self, system: &mut impl System) -> Result<(), Failure> {
+        write_all(&self.out, system).map_err(Failure::Write)?;
+        self.ended.has_written |= !self.out.is_empty();
         self.out.clear();
         Ok(())
     }

@@ -413,6 +413,7 @@ fn a_live_pipe() {
     let mut child = Command::new(env!("CARGO_BIN_EXE_station"))
         .stdin(Stdio::piped())
         .stdout(Stdio::piped())
+        .stderr(Stdio::null())
         .spawn()
         .unwrap();
     let mut input = child.stdin.take().unwrap();
@@ -437,6 +438,6 @@ fn a_live_pipe() {
     // A refused line ends the run though the pipe stays open.
     input.write_all(b"e0\n").unwrap();
     assert_eq!(next(1), "!07 00000003\n");
-    assert!(child.wait().unwrap().success());
+    assert_eq!(child.wait().unwrap().code(), Some(1));
     reader.join().unwrap();
 }

@@ -1,17 +1,49 @@
 //! A short run at the bench, with every kind of record and every flag: the
-//! example for the person who uses the reader.
+//! example for the person who uses the reader. The same with a refused line,
+//! and a longer one.
 
 use crate::{code, Case, Stream};
 
-/// Cycles of a full line.
+/// Cycles of a full line, and bytes with its line feed.
 const LINE: usize = 256;
+const LINE_BYTES: usize = LINE / 4 + 1;
+
+/// Bytes that a program reads at a time.
+const BLOCK: usize = 65_536;
 
 pub fn cases() -> Vec<Case> {
-    let mut stream = warnings(triggers(frames(fifos(registers()))));
+    let stream = capture();
+    let odd = [&stream.lines()[..], b"E0B08\nE0B080\n"].concat();
+    vec![
+        Case::stream("capture/capture", &stream).golden_if(true),
+        Case::new("refusals/after-a-capture", odd),
+        Case::new("refusals/after-a-block", two_blocks(stream)),
+    ]
+}
+
+fn capture() -> Stream {
+    let stream = warnings(triggers(frames(fifos(registers()))));
     // Idle up to the end of the line.
     let idle = stream.bits.len().wrapping_neg() % LINE;
-    stream = stream.zeros(idle);
-    vec![Case::stream("capture/capture", &stream).golden_if(true)]
+    stream.zeros(idle)
+}
+
+/// A capture on either side of a block's edge, which cuts a line and the
+/// frame of which that line has bits. A refused line ends it.
+fn two_blocks(capture: Stream) -> Vec<u8> {
+    let edge = BLOCK / LINE_BYTES * LINE + BLOCK % LINE_BYTES * 4;
+    let second = capture.bits.clone();
+    let frame = Stream::new().number(0x00C3_A5F1, 24).bits;
+    // Half of the frame's 192 cycles stand ahead of the edge.
+    let ahead = Stream::new()
+        .wr_register(5, 24 << 3)
+        .slow(code::WR_FRONT_END, 0);
+    let idle = edge - capture.bits.len() - ahead.bits.len() - 96;
+    let stream = capture.zeros(idle).wr_register(5, 24 << 3);
+    let stream = stream.front_end(code::WR_FRONT_END, &frame).zeros(30);
+    let mut lines = stream.raw(&second).lines();
+    lines.extend(b"E0B080 E8\nE0B080\n");
+    lines
 }
 
 fn registers() -> Stream {

@@ -12,7 +12,7 @@ const FIT: [(&str, &[u8]); 5] = [
 ];
 
 /// Name and input, which ends at a refused line.
-const REFUSED: [(&str, &[u8]); 21] = [
+const REFUSED: [(&str, &[u8]); 27] = [
     ("lower-case", b"B5C074\ne0b080\n"),
     ("lower-case-last-digit", b"B5C074\nE0B08a\n"),
     ("after-f", b"B5C074\nE0B08G\n"),
@@ -34,10 +34,16 @@ const REFUSED: [(&str, &[u8]); 21] = [
     ("two-refused", b"B5C074\nE0B08\nx\n"),
     ("fault-on-line-1", b"B5C07\nE0B080\n"),
     ("lines-after-a-refused-one", b"B5C074\nx\nE0B080\n"),
+    ("space-then-lower-case", b"B5C074\nE0 b0\n"),
+    ("lower-case-then-return", b"B5C074\nE0b\r\n"),
+    ("tabulator-last", b"B5C074\nE0B080\t"),
+    ("upper-case-z", b"B5C074\nZ\n"),
+    ("many-wrong", b"B5C074\nno capture at all\n"),
+    ("prefix", b"0xB5C074\n"),
 ];
 
 /// Digits and what follows them in the line.
-const DIGITS: [(usize, &str); 10] = [
+const DIGITS: [(usize, &str); 20] = [
     (64, ""),
     (65, ""),
     (66, ""),
@@ -48,7 +54,21 @@ const DIGITS: [(usize, &str); 10] = [
     (200_000, ""),
     (200_000, "x"),
     (200_001, ""),
+    (63, ""),
+    (67, ""),
+    (3_000, ""),
+    (3_001, "x"),
+    (65_528, "x"),
+    (65_529, "x"),
+    (65_530, ""),
+    (65_535, "x"),
+    (65_536, "x"),
+    (131_073, ""),
 ];
+
+/// Bytes of the input ahead of which a refused line's first wrong character,
+/// or its last digit, stands: about the edges of blocks.
+const EDGES: [usize; 6] = [4_096, 65_535, 65_536, 65_537, 131_072, 131_073];
 
 pub fn cases() -> Vec<Case> {
     let fit = FIT.map(|(name, input)| Case::new(format!("lines/{name}"), input));
@@ -56,7 +76,7 @@ pub fn cases() -> Vec<Case> {
     let mut cases: Vec<Case> = fit.into_iter().chain(refused).collect();
     cases.extend(DIGITS.map(|(digits, end)| many_digits(digits, end)));
     for (name, end) in [("odd", "A\n"), ("wrong", "0x\n"), ("odd-no-line-feed", "A")] {
-        for ahead in [255, 65_535, 65_540] {
+        for ahead in [255, 65_535, 65_540, 69_999] {
             let input = format!("{}{end}", "\n".repeat(ahead));
             cases.push(Case::new(
                 format!("refusals/line-{}-{name}", ahead + 1),
@@ -64,7 +84,29 @@ pub fn cases() -> Vec<Case> {
             ));
         }
     }
+    cases.extend(EDGES.into_iter().flat_map(at_an_edge));
     cases.into_iter().map(golden_if_short_text).collect()
+}
+
+/// Full lines, and one whose end is cut by the edge of a block: wrong in its
+/// last character ahead of that, in its first one after it, or odd.
+fn at_an_edge(edge: usize) -> Vec<Case> {
+    // Triggers all over, so that a line that is taken twice, or not, shows.
+    let line = "EF7BDEF7BD".repeat(6) + "EF7B\n";
+    let ahead = "B5C000\n".to_string() + &line.repeat(edge / line.len() + 1);
+    let ahead = &ahead[..edge];
+    let case = |name: &str, end: &str| {
+        let input = format!("{ahead}{end}");
+        Case::new(format!("refusals/edge-{edge}-{name}"), input)
+    };
+    // As the line stands there, its digits so far may be odd or even.
+    let digits = ahead.rsplit('\n').next().map_or(0, str::len);
+    let odd = if digits % 2 == 1 { "AA" } else { "A" };
+    vec![
+        case("wrong", "xEF\nE8\n"),
+        case("wrong-after-a-digit", "E\rz\nE8\n"),
+        case("odd", &format!("{odd}\nE8\n")),
+    ]
 }
 
 fn many_digits(digits: usize, end: &str) -> Case {

@@ -1,13 +1,14 @@
-//! Writes each case's input and what the three programs print for it:
-//! `vectors FOLDER [--golden | --generated N]`.
+//! Writes each case's input and what the three programs print and say for it:
+//! `vectors FOLDER [--golden | --generated N | --stored]`.
 //!
 //! With `--golden` only the cases that have golden files, and files of cases
-//! that are no more are removed.
+//! that are no more are removed. With `--stored` the runs that are stored
+//! beside the programs, where FOLDER is that of the crates.
 
 #![forbid(unsafe_code)]
 
 use cases::{fixed, generated, golden, Case};
-use compare::golden::{strays, write};
+use compare::golden::{files, stored, strays, write};
 use std::fs;
 use std::io;
 use std::path::Path;
@@ -19,6 +20,7 @@ fn main() -> ExitCode {
     let written = match arguments[..] {
         [folder] if !folder.starts_with("--") => write_all(Path::new(folder), fixed()),
         [folder, "--golden"] => write_golden(Path::new(folder)),
+        [folder, "--stored"] => write(Path::new(folder), stored::files()).map(|()| 3),
         [folder, "--generated", count] => match count.parse() {
             Ok(count) => write_all(Path::new(folder), [fixed(), generated(count)].concat()),
             Err(_) => return usage(),
@@ -38,13 +40,13 @@ fn main() -> ExitCode {
 }
 
 fn usage() -> ExitCode {
-    eprintln!("vectors FOLDER [--golden | --generated N]");
+    eprintln!("vectors FOLDER [--golden | --generated N | --stored]");
     ExitCode::FAILURE
 }
 
 fn write_all(folder: &Path, cases: Vec<Case>) -> io::Result<usize> {
     for case in &cases {
-        write(folder, case)?;
+        write(folder, files(case))?;
     }
     Ok(cases.len())
 }

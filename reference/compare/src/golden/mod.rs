@@ -1,10 +1,12 @@
-//! The golden files of cases: each input with what the three programs print.
+//! The golden files of cases: each input with what the three programs print
+//! and say; and the runs that are stored beside the programs.
 
 mod check;
+pub mod stored;
 
-pub use check::check;
+pub use check::{check, check_files};
 
-use crate::printed::printed;
+use crate::programs::expected::Expected;
 use cases::Case;
 use reader::Program;
 use std::collections::BTreeSet;
@@ -12,20 +14,33 @@ use std::fs;
 use std::io;
 use std::path::{Path, PathBuf};
 
-/// The ending of an input's file.
-const INPUT: &str = "in";
+/// A file's path below a folder, and its contents.
+pub type Contents = (PathBuf, Vec<u8>);
 
-/// The paths, below the folder, and the contents of a case's files.
-pub fn files(case: &Case) -> Vec<(PathBuf, Vec<u8>)> {
+/// The endings of an input's file, and of the one with what is said on
+/// standard error.
+const INPUT: &str = "in";
+const SAID: &str = "said";
+
+/// A case's files. The programs say nothing of a fit input.
+pub fn files(case: &Case) -> Vec<Contents> {
     let path = |end: &str| PathBuf::from(format!("{}.{end}", case.name));
     let mut files = vec![(path(INPUT), case.input.clone())];
-    files.extend(Program::ALL.map(|program| (path(program.name()), printed(program, &case.input))));
+    let mut said = Vec::new();
+    for program in Program::ALL {
+        let expected = Expected::plain(program, &case.input);
+        files.push((path(program.name()), expected.printed));
+        said.extend(expected.said);
+    }
+    if !said.is_empty() {
+        files.push((path(SAID), said));
+    }
     files
 }
 
-/// Writes a case's files.
-pub fn write(folder: &Path, case: &Case) -> io::Result<()> {
-    for (path, contents) in files(case) {
+/// Writes files, and the folders in which they lie.
+pub fn write(folder: &Path, files: Vec<Contents>) -> io::Result<()> {
+    for (path, contents) in files {
         let path = folder.join(path);
         if let Some(subject) = path.parent() {
             fs::create_dir_all(subject)?;
@@ -38,7 +53,8 @@ pub fn write(folder: &Path, case: &Case) -> io::Result<()> {
 /// The files, by their paths below the folder, that look like a case's but
 /// belong to none of these.
 pub fn strays(folder: &Path, cases: &[Case]) -> io::Result<Vec<PathBuf>> {
-    let names: BTreeSet<&str> = cases.iter().map(|case| case.name.as_str()).collect();
+    let of_cases = cases.iter().flat_map(files).map(|(path, _)| path);
+    let of_cases: BTreeSet<PathBuf> = of_cases.collect();
     let mut strays = Vec::new();
     let mut folders = vec![PathBuf::new()];
     while let Some(below) = folders.pop() {
@@ -47,7 +63,7 @@ pub fn strays(folder: &Path, cases: &[Case]) -> io::Result<Vec<PathBuf>> {
             let path = below.join(entry.file_name());
             if entry.file_type()?.is_dir() {
                 folders.push(path);
-            } else if has_known_ending(&path) && !is_of(&path, &names) {
+            } else if has_known_ending(&path) && !of_cases.contains(&path) {
                 strays.push(path);
             }
         }
@@ -57,12 +73,7 @@ pub fn strays(folder: &Path, cases: &[Case]) -> io::Result<Vec<PathBuf>> {
 }
 
 fn has_known_ending(path: &Path) -> bool {
-    let endings = Program::ALL.map(Program::name);
+    let programs = Program::ALL.map(Program::name);
     let ending = path.extension().and_then(|ending| ending.to_str());
-    ending.is_some_and(|ending| ending == INPUT || endings.contains(&ending))
-}
-
-fn is_of(path: &Path, names: &BTreeSet<&str>) -> bool {
-    let name = path.with_extension("");
-    name.to_str().is_some_and(|name| names.contains(name))
+    ending.is_some_and(|ending| [INPUT, SAID].contains(&ending) || programs.contains(&ending))
 }

@@ -1,7 +1,9 @@
 //! What can be wrong with a run of a program, or with a golden file.
 
 use super::difference::{difference, Difference};
-use super::running::Ended;
+use super::ended::End;
+use super::expected::Expected;
+use super::running::Run;
 use std::fmt;
 
 #[derive(Clone, Debug, PartialEq, Eq)]
@@ -9,8 +11,13 @@ pub enum Fault {
     Differs(Difference),
     /// Killed at the time limit, with what it had printed till then.
     Hangs(Option<Difference>),
-    /// It printed the right output, and then was ended by a signal.
-    Crashes,
+    /// It printed the right output, but said something else.
+    Says(Difference),
+    /// It printed and said what is right, but ended in another way.
+    Ends {
+        expected: End,
+        got: End,
+    },
     /// The records of this line, counted from 1, did not come while the
     /// pipe stayed open.
     LagsAtLine(usize),
@@ -23,14 +30,15 @@ pub enum Fault {
 }
 
 /// The fault of a run that has ended, if any.
-pub fn judge(expected: &[u8], printed: &[u8], ended: Ended) -> Option<Fault> {
-    let difference = difference(expected, printed);
-    match (ended, difference) {
-        (Ended::Killed, difference) => Some(Fault::Hangs(difference)),
-        (_, Some(difference)) => Some(Fault::Differs(difference)),
-        (Ended::BySignal, None) => Some(Fault::Crashes),
-        (Ended::ByItself, None) => None,
-    }
+pub fn judge(expected: &Expected, run: &Run) -> Option<Fault> {
+    let printed = difference(&expected.printed, &run.printed);
+    let Some(got) = run.end else {
+        return Some(Fault::Hangs(printed));
+    };
+    let said = || difference(&expected.said, &run.said).map(Fault::Says);
+    let expected = expected.end;
+    let ended = || (expected != got).then_some(Fault::Ends { expected, got });
+    printed.map(Fault::Differs).or_else(said).or_else(ended)
 }
 
 impl fmt::Display for Fault {
@@ -39,7 +47,13 @@ impl fmt::Display for Fault {
             Fault::Differs(difference) => write!(f, "{difference}"),
             Fault::Hangs(None) => write!(f, "does not end; its output so far is right"),
             Fault::Hangs(Some(difference)) => write!(f, "does not end; {difference}"),
-            Fault::Crashes => write!(f, "is ended by a signal; its output is right"),
+            Fault::Says(difference) => write!(f, "standard error {difference}"),
+            Fault::Ends { expected, got } => {
+                write!(
+                    f,
+                    "ends with {got}, expected {expected}; its output is right"
+                )
+            }
             Fault::LagsAtLine(line) => {
                 write!(f, "the records of line {line} do not come in time")
             }

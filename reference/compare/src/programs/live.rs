@@ -1,9 +1,10 @@
 //! A live pipe: each line's records come before the next line is written.
 
+use super::expected::Expected;
 use super::fault::{judge, Fault};
-use super::running::{Running, Waited};
+use super::running::{piped, Running, Waited};
 use super::under_test::UnderTest;
-use crate::printed::{printed, printed_so_far};
+use crate::printed::printed_so_far;
 use crate::tally::Check;
 use cases::{fixed, generated, Case};
 use reader::Program;
@@ -42,10 +43,7 @@ pub fn cases() -> Vec<Live> {
 pub fn check(under_test: &UnderTest, live: &Live) -> Vec<Check> {
     let check = |program: Program| Check {
         name: format!("{}, {}, on a live pipe", program.name(), live.case.name),
-        fault: under_test.run(program, |path| {
-            run(under_test, path, program, live)
-                .unwrap_or_else(|error| Some(Fault::NotStarted(error.to_string())))
-        }),
+        fault: under_test.run(program, |path| run(under_test, path, program, live)),
     };
     Program::ALL.map(check).into()
 }
@@ -57,8 +55,10 @@ fn run(
     live: &Live,
 ) -> io::Result<Option<Fault>> {
     let input = &live.case.input[..];
-    let expected = printed(program, input);
-    let mut running = Running::start(path, Stdio::piped(), expected.len())?;
+    let expected = under_test.expected(Expected::plain(program, input));
+    let mut command = piped(path);
+    command.stdin(Stdio::piped());
+    let mut running = Running::start(command, None, &expected)?;
     let mut pipe = running.input();
     let mut written = 0;
     for (number, line) in (1..).zip(input.split_inclusive(|&byte| byte == b'\n')) {
@@ -75,7 +75,7 @@ fn run(
     if !live.left_open {
         pipe = None;
     }
-    let ended = running.finish(Instant::now() + under_test.run_limit)?;
+    let run = running.finish(Instant::now() + under_test.run_limit)?;
     drop(pipe);
-    Ok(judge(&expected, &running.printed, ended))
+    Ok(judge(&expected, &run))
 }

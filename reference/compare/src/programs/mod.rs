@@ -3,17 +3,26 @@
 pub mod case;
 pub mod delivery;
 pub mod difference;
+pub mod disk;
+pub mod ended;
+pub mod errors;
+pub mod expected;
 pub mod fault;
+pub mod faults;
 pub mod live;
 pub mod pool;
 pub mod running;
 pub mod scratch;
+pub mod situation;
+pub mod situations;
+pub mod started;
 pub mod under_test;
 
 use crate::golden;
 use crate::tally::Tally;
 use cases::{fixed, generated};
 use scratch::Scratch;
+use situations::Means;
 use std::io;
 use std::path::Path;
 use under_test::UnderTest;
@@ -21,16 +30,31 @@ use under_test::UnderTest;
 /// Generated streams, besides all other cases.
 const GENERATED: u64 = 400;
 
-/// Compares everything: the golden files with what the separate reader prints
-/// now, and the programs in a folder with it on every case.
-pub fn compare(programs: &Path, golden_folder: &Path) -> io::Result<Tally> {
-    let under_test = UnderTest::new(&programs.canonicalize()?);
+/// Compares everything: the repository's golden files and stored runs with
+/// what the separate reader prints now, and the programs in a folder with it on every case. They have an exit
+/// status, or are to end with 0 in every case.
+pub fn compare(programs: &Path, has_status: bool, repository: &Path) -> io::Result<Tally> {
+    let under_test = UnderTest::new(&programs.canonicalize()?, has_status);
     let scratch = Scratch::new()?;
     let cases = [fixed(), generated(GENERATED)].concat();
 
     let mut tally = Tally::default();
-    tally.add(golden::check(golden_folder, &cases::golden()));
+    let means = Means::prepare(&scratch)?;
+    if let Err(missing) = scratch.faults() {
+        tally.note(missing);
+    }
+    if !means.disk {
+        tally.note("no small file system can be mounted: a full disk is NOT compared");
+    }
+    let golden_files = repository.join("tests/golden");
+    tally.add(golden::check(&golden_files, &cases::golden()));
+    let stored = golden::stored::files();
+    tally.add(golden::check_files(&repository.join("crates"), stored));
     for checks in pool::each(&live::cases(), |live| live::check(&under_test, live)) {
+        tally.add(checks);
+    }
+    let situations = situations::situations(means);
+    for checks in pool::each(&situations, |s| started::check(&under_test, s, &scratch)) {
         tally.add(checks);
     }
     for checks in pool::each(&cases, |case| case::check(&under_test, case, &scratch)) {

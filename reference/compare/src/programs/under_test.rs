@@ -1,7 +1,9 @@
 //! The programs under test.
 
+use super::expected::Expected;
 use super::fault::Fault;
 use reader::Program;
+use std::io;
 use std::path::{Path, PathBuf};
 use std::sync::atomic::{AtomicUsize, Ordering};
 use std::time::Duration;
@@ -12,6 +14,8 @@ const MOST_HANGS: usize = 3;
 
 pub struct UnderTest {
     folder: PathBuf,
+    /// Whether they have an exit status; if not, it is 0 in every case.
+    has_status: bool,
     hangs: [AtomicUsize; 3],
     /// How long a run may take.
     pub run_limit: Duration,
@@ -20,23 +24,37 @@ pub struct UnderTest {
 }
 
 impl UnderTest {
-    pub fn new(folder: &Path) -> UnderTest {
+    pub fn new(folder: &Path, has_status: bool) -> UnderTest {
         UnderTest {
             folder: folder.to_path_buf(),
+            has_status,
             hangs: Default::default(),
             run_limit: Duration::from_secs(10),
             line_limit: Duration::from_secs(5),
         }
     }
 
+    /// What is expected of them where the separate reader does this.
+    pub fn expected(&self, reader: Expected) -> Expected {
+        match self.has_status {
+            true => reader,
+            false => reader.without_status(),
+        }
+    }
+
     /// One run of a program, unless it hung too often. The run answers its
     /// fault, if any.
-    pub fn run(&self, program: Program, run: impl FnOnce(&Path) -> Option<Fault>) -> Option<Fault> {
+    pub fn run(
+        &self,
+        program: Program,
+        run: impl FnOnce(&Path) -> io::Result<Option<Fault>>,
+    ) -> Option<Fault> {
         let hangs = &self.hangs[program as usize];
         if hangs.load(Ordering::Relaxed) >= MOST_HANGS {
             return Some(Fault::GivenUp);
         }
-        let fault = run(&self.folder.join(program.name()));
+        let fault = run(&self.folder.join(program.name()))
+            .unwrap_or_else(|error| Some(Fault::NotStarted(error.to_string())));
         if matches!(fault, Some(Fault::Hangs(_))) {
             hangs.fetch_add(1, Ordering::Relaxed);
         }

@@ -1,7 +1,10 @@
 //! Hexadecimal lines in, a listing out: the records, then the state of the controller.
 
-#![forbid(unsafe_code)]
+#![no_main]
 
-fn main() -> std::process::ExitCode {
-    reader::Program::Model.main()
+mod system;
+
+#[no_mangle]
+extern "C" fn main() -> std::ffi::c_int {
+    system::main(reader::Program::Model)
 }

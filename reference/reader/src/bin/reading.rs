@@ -1,7 +1,10 @@
 //! Hexadecimal lines in, a listing out: the records only.
 
-#![forbid(unsafe_code)]
+#![no_main]
 
-fn main() -> std::process::ExitCode {
-    reader::Program::Reading.main()
+mod system;
+
+#[no_mangle]
+extern "C" fn main() -> std::ffi::c_int {
+    system::main(reader::Program::Reading)
 }

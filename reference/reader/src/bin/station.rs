@@ -1,7 +1,10 @@
 //! Hexadecimal lines in, a listing out: every record and every frame.
 
-#![forbid(unsafe_code)]
+#![no_main]
 
-fn main() -> std::process::ExitCode {
-    reader::Program::Station.main()
+mod system;
+
+#[no_mangle]
+extern "C" fn main() -> std::ffi::c_int {
+    system::main(reader::Program::Station)
 }

@@ -1,0 +1,113 @@
+//! The situations in which programs are started: that none disturbs another,
+//! what they cover, and that the separate reader's own programs, which meet
+//! the real system, do in each what is imagined.
+
+mod common;
+
+use common::readers_programs;
+use compare::programs::ended::End;
+use compare::programs::faults::Faults;
+use compare::programs::scratch::Scratch;
+use compare::programs::situation::{Output, Situation};
+use compare::programs::situations::{situations, Means};
+use compare::programs::under_test::UnderTest;
+use compare::programs::{pool, started};
+use compare::tally::Tally;
+use reader::Program;
+use std::collections::{BTreeSet, HashSet};
+
+/// Each has a name and a file of its own, as they are run at the same time.
+#[test]
+fn each_has_its_own_name_and_file() {
+    let (mut names, mut files) = (HashSet::new(), HashSet::new());
+    for situation in situations(Means::ALL) {
+        assert!(names.insert(situation.name.clone()), "{}", situation.name);
+        assert!(files.insert(situation.file), "{}", situation.name);
+    }
+    for taken in ["folder", "loop", "faults.so"] {
+        assert!(!files.contains(taken.as_bytes()));
+    }
+}
+
+#[test]
+fn every_end_and_every_message_is_among_them() {
+    let mut ends = BTreeSet::new();
+    let mut said = String::new();
+    for situation in situations(Means::ALL) {
+        for program in situation.programs.iter() {
+            let expected = situation.expected(*program);
+            ends.insert(expected.end.to_string());
+            said += &String::from_utf8_lossy(&expected.said);
+        }
+    }
+    let statuses = [0, 1, 2, 3].map(End::Status);
+    let expected = statuses.into_iter().chain([End::Signal(13)]);
+    assert!(ends.into_iter().eq(expected.map(|end| end.to_string())));
+    for text in [
+        "usage: model [FILE]\n",
+        "station: : No such file or directory\n",
+        "reading: missing.hex: No such file or directory\n",
+        "model: /dev/null/a.hex: Not a directory\n",
+        "model: loop: Too many levels of symbolic links\n",
+        "station: folder: Is a directory\n",
+        "station: argument: File name too long\n",
+        "station: standard input: Is a directory\n",
+        "reading: standard input: Bad file descriptor\n",
+        "model: standard input: Input/output error\n",
+        "station: standard output: Bad file descriptor\n",
+        "station: standard output: No space left on device\n",
+        "reading: standard output: File too large\n",
+        "model: standard output: Input/output error\n",
+        "model: standard input: line 2: character 1 is a lower-case letter\n",
+        "station: standard input: line 2: character 2 is byte 80, none of 0-9 and A-F\n",
+        "station: standard input: line 2: the count of digits is 3, which is odd\n",
+    ] {
+        assert!(said.contains(text), "{text}");
+    }
+    assert!(!said.contains("Broken pipe"));
+}
+
+/// `model` prints no state where a read has failed.
+#[test]
+fn no_state_after_a_failed_read() {
+    let all = situations(Means::ALL);
+    let failed = all.iter().filter(|situation| {
+        let at = situation.faults.read_fails_at;
+        at.is_some() && !situation.contents.contains(&b'e')
+    });
+    let mut seen = 0;
+    for situation in failed {
+        let expected = situation.expected(Program::Model);
+        assert_eq!(expected.end, End::Status(3), "{}", situation.name);
+        let printed = String::from_utf8(expected.printed).unwrap();
+        assert!(!printed.contains("register"), "{}", situation.name);
+        seen += 1;
+    }
+    assert!(seen >= 30, "{seen}");
+}
+
+/// Without gcc no call can be made to fail, and not everybody may mount.
+#[test]
+fn those_that_need_no_means() {
+    let none = Means {
+        faults: false,
+        disk: false,
+    };
+    let without = situations(none);
+    assert!(without.len() > 300 && without.len() + 40 < situations(Means::ALL).len());
+    assert!(without.iter().all(|s| s.faults == Faults::NONE));
+    let on_disk = |s: &Situation| matches!(s.output, Output::Disk(_));
+    assert!(!without.iter().any(on_disk) && situations(Means::ALL).iter().any(on_disk));
+}
+
+#[test]
+fn the_readers_programs_pass_in_each() {
+    let programs = UnderTest::new(&readers_programs(), true);
+    let scratch = Scratch::new().unwrap();
+    let all = situations(Means::prepare(&scratch).unwrap());
+    let mut tally = Tally::default();
+    for checks in pool::each(&all, |s| started::check(&programs, s, &scratch)) {
+        tally.add(checks);
+    }
+    assert!(tally.all_passed(), "{tally}");
+}

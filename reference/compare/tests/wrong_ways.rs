@@ -1,0 +1,230 @@
+//! The comparison rejects programs that are wrong in one way, each in a
+//! situation that shows it (`examples/wrong.rs`).
+
+mod common;
+
+use cases::fixed;
+use common::wrong_program;
+use compare::programs::case;
+use compare::programs::ended::End;
+use compare::programs::fault::Fault;
+use compare::programs::scratch::Scratch;
+use compare::programs::situations::{situations, Means};
+use compare::programs::started;
+use compare::programs::under_test::UnderTest;
+use reader::Program;
+use std::fs;
+use std::os::unix::fs::symlink;
+use std::path::{Path, PathBuf};
+use std::sync::{Mutex, OnceLock};
+use std::time::Duration;
+
+/// A folder with the three programs that are wrong in this way.
+fn folder(way: &str) -> PathBuf {
+    static WRONG: OnceLock<PathBuf> = OnceLock::new();
+    static MAKING: Mutex<()> = Mutex::new(());
+    let wrong = WRONG.get_or_init(wrong_program);
+    let folder = Path::new(env!("CARGO_TARGET_TMPDIR"))
+        .join("ways")
+        .join(way);
+    let _making = MAKING.lock();
+    fs::create_dir_all(&folder).unwrap();
+    for program in Program::ALL {
+        let link = folder.join(program.name());
+        let _ = fs::remove_file(&link);
+        symlink(wrong, link).unwrap();
+    }
+    folder
+}
+
+/// Programs that are wrong in one way, and the folder in which they are run.
+struct Wrong {
+    programs: UnderTest,
+    scratch: Scratch,
+    means: Means,
+}
+
+impl Wrong {
+    fn new(way: &str, has_status: bool) -> Wrong {
+        let scratch = Scratch::new().unwrap();
+        Wrong {
+            programs: UnderTest::new(&folder(way), has_status),
+            means: Means::prepare(&scratch).unwrap(),
+            scratch,
+        }
+    }
+
+    /// The faults of the three programs in a situation.
+    fn starts(&self, name: &str) -> Vec<Option<Fault>> {
+        let all = situations(self.means);
+        let situation = all.iter().find(|situation| situation.name == name);
+        let checks = started::check(&self.programs, situation.expect(name), &self.scratch);
+        assert_eq!(checks.len(), 3);
+        checks.into_iter().map(|check| check.fault).collect()
+    }
+
+    /// Their faults on a case, by one delivery.
+    fn reads(&self, name: &str, how: &str) -> Vec<Option<Fault>> {
+        let case = fixed().into_iter().find(|case| case.name == name);
+        let checks = case::check(&self.programs, &case.expect(name), &self.scratch);
+        let delivered = checks.into_iter().filter(|check| check.name.ends_with(how));
+        let faults: Vec<Option<Fault>> = delivered.map(|check| check.fault).collect();
+        assert_eq!(faults.len(), 3);
+        faults
+    }
+}
+
+fn differ(faults: &[Option<Fault>]) -> bool {
+    faults
+        .iter()
+        .all(|fault| matches!(fault, Some(Fault::Differs(_))))
+}
+
+fn say(faults: &[Option<Fault>]) -> bool {
+    faults
+        .iter()
+        .all(|fault| matches!(fault, Some(Fault::Says(_))))
+}
+
+/// The program with nothing wrong passes where the others fail.
+#[test]
+fn the_right_program_passes() {
+    let right = Wrong::new("right", true);
+    for name in [
+        "- for standard input",
+        "named file",
+        "named file, refused",
+        "wrong words [\"-x\"]",
+        "a missing file",
+        "standard input a folder",
+        "a read fails at 10 of 14",
+        "a read fails at 0 of 14, named",
+        "interrupted, good",
+        "standard error with standard output, refused",
+    ] {
+        assert_eq!(right.starts(name), [None, None, None], "{name}");
+    }
+    for how in [
+        "as a file",
+        "through a pipe",
+        "a byte at a time",
+        "interrupted calls",
+    ] {
+        assert_eq!(right.reads("paper/listing", how), [None, None, None]);
+        assert_eq!(right.reads("refusals/odd", how), [None, None, None]);
+    }
+}
+
+#[test]
+fn one_that_writes_each_block_twice() {
+    let wrong = Wrong::new("writes-twice", true);
+    assert!(differ(&wrong.reads("paper/listing", "as a file")));
+    assert!(differ(&wrong.starts("--help")));
+}
+
+#[test]
+fn one_that_speaks_on_a_good_run() {
+    let wrong = Wrong::new("speaks", true);
+    assert!(say(&wrong.reads("paper/listing", "as a file")));
+    let faults = wrong.starts("standard error with standard output, good");
+    assert!(differ(&faults));
+}
+
+#[test]
+fn one_that_says_nothing_on_a_failure() {
+    let wrong = Wrong::new("silent", true);
+    for name in [
+        "named file, refused",
+        "wrong words [\"-x\"]",
+        "a missing file",
+        "standard input a folder",
+        "standard output full, good",
+        "a read fails at 10 of 14",
+    ] {
+        assert!(say(&wrong.starts(name)), "{name}");
+    }
+    assert!(say(&wrong.reads("refusals/odd", "as a file")));
+}
+
+#[test]
+fn one_that_exits_0_on_a_refusal() {
+    let ends = |status| {
+        let (expected, got) = (End::Status(status), End::Status(0));
+        vec![Some(Fault::Ends { expected, got }); 3]
+    };
+    let wrong = Wrong::new("no-status", true);
+    let none = Wrong::new("no-status", false);
+    let right = Wrong::new("right", false);
+    for (name, status) in [
+        ("named file, refused", 1),
+        ("wrong words [\"-x\"]", 2),
+        ("a missing file", 3),
+        ("standard output full, good", 3),
+    ] {
+        assert_eq!(wrong.starts(name), ends(status), "{name}");
+        // That is right of programs without a status, and no other is.
+        assert_eq!(none.starts(name), [None, None, None], "{name}");
+        let faults = right.starts(name);
+        assert!(faults.iter().all(|f| matches!(f, Some(Fault::Ends { .. }))));
+    }
+    assert_eq!(wrong.reads("refusals/odd", "as a file"), ends(1));
+}
+
+/// It is right where each line comes whole.
+#[test]
+fn one_that_forgets_the_beginning_of_a_line_at_each_read() {
+    let wrong = Wrong::new("forgets", true);
+    let listing = |how| wrong.reads("paper/listing", how);
+    assert_eq!(listing("as a file"), [None, None, None]);
+    assert!(differ(&listing("interrupted calls")));
+    // A line that a block's edge cuts.
+    let long = wrong.reads("refusals/200000-digits", "as a file");
+    assert!(say(&long), "{long:?}");
+}
+
+#[test]
+fn one_that_opens_anew_at_each_read() {
+    let wrong = Wrong::new("opens-anew", true);
+    assert!(differ(&wrong.starts("named file")));
+    assert!(differ(&wrong.reads("paper/listing", "as a named file")));
+}
+
+#[test]
+fn one_that_hangs_after_a_failed_read() {
+    let mut wrong = Wrong::new("hangs-after-a-failed-read", true);
+    wrong.programs.run_limit = Duration::from_secs(1);
+    let faults = wrong.starts("a read fails at 10 of 14");
+    assert_eq!(faults, vec![Some(Fault::Hangs(None)); 3]);
+}
+
+/// Its `model` prints the state, the others say nothing.
+#[test]
+fn one_that_takes_a_failed_read_for_the_end() {
+    let wrong = Wrong::new("takes-a-failed-read-for-the-end", true);
+    let faults = wrong.starts("a read fails at 7 of 14");
+    assert!(say(&faults[..2]) && differ(&faults[2..]), "{faults:?}");
+}
+
+#[test]
+fn one_that_fails_when_interrupted() {
+    let wrong = Wrong::new("fails-when-interrupted", true);
+    assert!(differ(&wrong.starts("interrupted, good")));
+    assert!(differ(&wrong.reads("paper/listing", "interrupted calls")));
+}
+
+#[test]
+fn one_that_drops_the_rest_of_a_short_write() {
+    let wrong = Wrong::new("drops-the-rest-of-a-write", true);
+    assert!(differ(&wrong.starts("interrupted, good")));
+    assert!(differ(&wrong.reads("paper/listing", "interrupted calls")));
+}
+
+/// Rust's own start ignores SIGPIPE, and the stand-in closes without a look.
+#[test]
+fn ends_by_a_signal_and_closings_are_looked_at() {
+    let right = Wrong::new("right", true);
+    let faults = right.starts("standard output a closed pipe, SIGPIPE not ignored, good");
+    let (expected, got) = (End::Signal(13), End::Status(3));
+    assert_eq!(faults, vec![Some(Fault::Ends { expected, got }); 3]);
+    assert!(say(&right.starts("closing fails, good")));
+}

@@ -1,0 +1,369 @@
+//! The programs as they are started: words, messages, exit status, and what
+//! the system fails to do.
+
+use reader::{Program, Status, System};
+use std::collections::VecDeque;
+use std::io::{self, ErrorKind};
+
+/// The system's numbers of its errors.
+const ENOENT: i32 = 2;
+const EINTR: i32 = 4;
+const EIO: i32 = 5;
+const EBADF: i32 = 9;
+const EISDIR: i32 = 21;
+const ENOSPC: i32 = 28;
+const EPIPE: i32 = 32;
+
+/// A system whose answers a test gives.
+#[derive(Default)]
+struct Scripted {
+    /// Whether a file can be opened.
+    opening: Option<i32>,
+    /// What each read gives; then the input ends.
+    reads: VecDeque<Result<Vec<u8>, i32>>,
+    /// How many bytes each write takes at most; then all.
+    writes: VecDeque<Result<usize, i32>>,
+    closing: Option<i32>,
+    opened: Vec<Vec<u8>>,
+    printed: Vec<u8>,
+    said: Vec<u8>,
+    closed: bool,
+}
+
+fn answer(error: Option<i32>) -> io::Result<()> {
+    error.map_or(Ok(()), |number| Err(io::Error::from_raw_os_error(number)))
+}
+
+impl System for Scripted {
+    fn open(&mut self, name: &[u8]) -> io::Result<()> {
+        self.opened.push(name.to_vec());
+        answer(self.opening)
+    }
+
+    fn read(&mut self, block: &mut [u8]) -> io::Result<usize> {
+        let piece = self.reads.pop_front().unwrap_or(Ok(Vec::new()));
+        let piece = piece.map_err(io::Error::from_raw_os_error)?;
+        block[..piece.len()].copy_from_slice(&piece);
+        Ok(piece.len())
+    }
+
+    fn write(&mut self, bytes: &[u8]) -> io::Result<usize> {
+        assert!(!self.closed && !bytes.is_empty());
+        let most = self.writes.pop_front().unwrap_or(Ok(usize::MAX));
+        let length = most.map_err(io::Error::from_raw_os_error)?.min(bytes.len());
+        self.printed.extend(&bytes[..length]);
+        Ok(length)
+    }
+
+    fn close_output(&mut self) -> io::Result<()> {
+        self.closed = true;
+        answer(self.closing)
+    }
+
+    fn say(&mut self, line: &[u8]) {
+        self.said.extend(line);
+    }
+}
+
+impl Scripted {
+    fn input(pieces: &[&[u8]]) -> Scripted {
+        Scripted {
+            reads: pieces.iter().map(|piece| Ok(piece.to_vec())).collect(),
+            ..Scripted::default()
+        }
+    }
+
+    /// Starts a program; answers its status and what it said.
+    fn start(&mut self, program: Program, words: &[&str]) -> (Status, String) {
+        let words: Vec<Vec<u8>> = words.iter().map(|word| word.as_bytes().to_vec()).collect();
+        let status = program.start(&words, self);
+        (status, String::from_utf8(self.said.clone()).unwrap())
+    }
+
+    fn printed(&self) -> &str {
+        std::str::from_utf8(&self.printed).unwrap()
+    }
+}
+
+fn said(status: Status, line: &str) -> (Status, String) {
+    (status, line.to_string())
+}
+
+const FIRST: &str = "000000000010 28 01 00000000\n000000000015 01 05 00000015\n";
+
+#[test]
+fn help_and_version() {
+    let help = "usage: model [FILE]\n\
+        Hexadecimal lines from FILE, or from standard input if there is none or it is -; a line per record, then the state, to standard output.\n\
+        Exit status: 0 the whole input, 1 a line was refused, 2 wrong words, 3 the system failed.\n";
+    let does = "a line per record, then the state,";
+    for (program, other) in [
+        (Program::Station, "a line per record and one per frame"),
+        (Program::Reading, "a line per record"),
+        (Program::Model, does),
+    ] {
+        let mut system = Scripted::input(&[b"B5C074\n"]);
+        let ended = system.start(program, &["--help"]);
+        assert_eq!(ended, said(Status::Whole, ""));
+        let expected = help.replace(does, other).replace("model", program.name());
+        assert_eq!(system.printed(), expected);
+        assert!(system.closed);
+
+        let mut system = Scripted::default();
+        let ended = system.start(program, &["--version"]);
+        assert_eq!(ended, said(Status::Whole, ""));
+        let version = concat!(" (Kernelstill) ", env!("CARGO_PKG_VERSION"), "\n");
+        assert_eq!(system.printed(), format!("{}{version}", program.name()));
+    }
+}
+
+#[test]
+fn wrong_words() {
+    for words in [
+        &["-x"][..],
+        &["--"],
+        &["--help "],
+        &["--Help"],
+        &["--versio"],
+        &["-h"],
+        &["--help", "--help"],
+        &["a", "b"],
+        &["-", "-"],
+        &["", ""],
+        &["--help", "a", "b"],
+    ] {
+        for program in Program::ALL {
+            let mut system = Scripted::input(&[b"B5C074\n"]);
+            let usage = format!("usage: {} [FILE]\n", program.name());
+            let ended = system.start(program, words);
+            assert_eq!(ended, said(Status::WrongWords, &usage), "{words:?}");
+            assert_eq!((system.printed(), system.reads.len()), ("", 1));
+            assert_eq!(system.opened, [b""; 0]);
+        }
+    }
+}
+
+#[test]
+fn the_input_by_its_word() {
+    for (words, opened) in [
+        (&[][..], &[][..]),
+        (&["-"], &[]),
+        (&["a.hex"], &["a.hex"]),
+        (&[""], &[""]),
+        (&["a -"], &["a -"]),
+        (&["--help/../a".trim_start_matches('-')], &["help/../a"]),
+    ] {
+        let mut system = Scripted::input(&[b"B5C074\n"]);
+        let ended = system.start(Program::Station, words);
+        assert_eq!(ended, said(Status::Whole, ""));
+        assert_eq!(system.printed(), FIRST);
+        let opened: Vec<Vec<u8>> = opened.iter().map(|name| name.as_bytes().to_vec()).collect();
+        assert_eq!(system.opened, opened);
+    }
+}
+
+#[test]
+fn a_long_word() {
+    let longest = "x".repeat(4_095);
+    let mut system = Scripted::default();
+    let ended = system.start(Program::Reading, &[&longest]);
+    assert_eq!(ended, said(Status::Whole, ""));
+    assert_eq!(system.opened, [longest.as_bytes()]);
+    for word in ["x".repeat(4_096), "-".repeat(5_000)] {
+        let mut system = Scripted::default();
+        let ended = system.start(Program::Reading, &[&word]);
+        let line = "reading: argument: File name too long\n";
+        assert_eq!(ended, said(Status::SystemFailed, line));
+        assert_eq!(system.opened, [b""; 0]);
+        // Two words are wrong, whatever they are.
+        let ended = Scripted::default().start(Program::Reading, &[&word, "-"]);
+        assert_eq!(ended, said(Status::WrongWords, "usage: reading [FILE]\n"));
+    }
+}
+
+#[test]
+fn a_file_that_cannot_be_opened() {
+    for program in Program::ALL {
+        let mut system = Scripted {
+            opening: Some(ENOENT),
+            ..Scripted::default()
+        };
+        let (status, line) = system.start(program, &["no such.hex"]);
+        let text = "no such.hex: No such file or directory";
+        assert_eq!(line, format!("{}: {text}\n", program.name()));
+        assert_eq!((status, system.printed()), (Status::SystemFailed, ""));
+    }
+}
+
+/// The line under way is not ended, and no state is printed.
+#[test]
+fn a_read_that_fails() {
+    for program in Program::ALL {
+        for (words, error, text) in [
+            (&[][..], EBADF, "standard input: Bad file descriptor"),
+            (&["-"], EIO, "standard input: Input/output error"),
+            (&["folder"], EISDIR, "folder: Is a directory"),
+        ] {
+            let mut system = Scripted::input(&[b"B5C0", b"74\nE0B08"]);
+            system.reads.push_back(Err(error));
+            let line = format!("{}: {text}\n", program.name());
+            let ended = system.start(program, words);
+            assert_eq!(ended, said(Status::SystemFailed, &line));
+            assert_eq!(system.printed(), FIRST);
+        }
+    }
+}
+
+#[test]
+fn a_write_that_fails() {
+    for (error, line) in [
+        (
+            ENOSPC,
+            "station: standard output: No space left on device\n",
+        ),
+        (EBADF, "station: standard output: Bad file descriptor\n"),
+        // A reader that has gone away.
+        (EPIPE, ""),
+    ] {
+        for input in [&b"B5C074\n"[..], b"B5C074\nx\n"] {
+            let mut system = Scripted::input(&[input, b"E0B080\n"]);
+            system.writes = [Ok(3), Ok(7), Err(error)].into();
+            let ended = system.start(Program::Station, &[]);
+            assert_eq!(ended, said(Status::SystemFailed, line));
+            assert_eq!(system.printed(), &FIRST[..10]);
+            assert_eq!(system.reads.len(), 1);
+        }
+        let mut system = Scripted::default();
+        system.writes.push_back(Err(error));
+        let ended = system.start(Program::Station, &["--help"]);
+        assert_eq!(ended, said(Status::SystemFailed, line));
+    }
+}
+
+#[test]
+fn a_closing_that_fails() {
+    let full = "model: standard output: No space left on device\n";
+    for (words, input) in [
+        (&[][..], &b"B5C074\n"[..]),
+        (&[], b"x"),
+        (&["--help"], b""),
+        (&["--version"], b""),
+    ] {
+        let mut system = Scripted::input(&[input]);
+        system.closing = Some(ENOSPC);
+        let ended = system.start(Program::Model, words);
+        assert_eq!(ended, said(Status::SystemFailed, full));
+    }
+    // Nothing was written.
+    let mut system = Scripted::input(&[b"00\n"]);
+    system.closing = Some(EBADF);
+    let ended = system.start(Program::Reading, &[]);
+    assert_eq!(ended, said(Status::Whole, ""));
+    assert!(!system.closed);
+}
+
+/// Interrupted calls are made again, and short writes continued.
+#[test]
+fn interrupted_and_short_calls() {
+    let mut system = Scripted::default();
+    for character in b"B5C074\nE0B08\n" {
+        system.reads.extend([Err(EINTR), Ok(vec![*character])]);
+    }
+    system.writes = (0..400)
+        .map(|n| if n % 2 == 0 { Err(EINTR) } else { Ok(1) })
+        .collect();
+    let line = "station: standard input: line 2: the count of digits is 5, which is odd\n";
+    let ended = system.start(Program::Station, &[]);
+    assert_eq!(ended, said(Status::Refused, line));
+    assert_eq!(system.printed(), format!("{FIRST}!08 00000002\n"));
+}
+
+/// Lines that are refused, and what is said of each.
+const REFUSED: [(&[u8], &str); 20] = [
+    (b"\r", "character 1 is a carriage return"),
+    (b"B5C074\r", "character 7 is a carriage return"),
+    (b"B5 C074", "character 3 is a space"),
+    (b"B5C0\t74", "character 5 is a tab"),
+    (b"b5c074", "character 1 is a lower-case letter"),
+    (b"B5C07z", "character 6 is a lower-case letter"),
+    (b"0x", "character 2 is a lower-case letter"),
+    (b"0G", "character 2 is byte 47, none of 0-9 and A-F"),
+    (b"Z", "character 1 is byte 5A, none of 0-9 and A-F"),
+    (b"00/", "character 3 is byte 2F, none of 0-9 and A-F"),
+    (b"00:", "character 3 is byte 3A, none of 0-9 and A-F"),
+    (b"00@", "character 3 is byte 40, none of 0-9 and A-F"),
+    (b"`", "character 1 is byte 60, none of 0-9 and A-F"),
+    (b"{", "character 1 is byte 7B, none of 0-9 and A-F"),
+    (b"B5\0", "character 3 is byte 00, none of 0-9 and A-F"),
+    (b"\x80", "character 1 is byte 80, none of 0-9 and A-F"),
+    (b"AB\xFFxx", "character 3 is byte FF, none of 0-9 and A-F"),
+    (b"\x0B", "character 1 is byte 0B, none of 0-9 and A-F"),
+    // The first one counts, and 7 wins over 8.
+    (b"0 \r\tg", "character 2 is a space"),
+    (b"B", "the count of digits is 1, which is odd"),
+];
+
+/// The same, and lines of many digits.
+fn refused() -> Vec<(Vec<u8>, String)> {
+    let short = REFUSED.map(|(line, why)| (line.to_vec(), why.to_string()));
+    let mut cases = short.to_vec();
+    for digits in [3, 63, 65, 66, 67, 4_097, 65_535, 65_536, 65_537, 200_001] {
+        let why = if digits > 64 {
+            "above 64"
+        } else {
+            "which is odd"
+        };
+        let line = vec![b'7'; digits];
+        cases.push((
+            line.clone(),
+            format!("the count of digits is {digits}, {why}"),
+        ));
+        let place = digits + 1;
+        let wrong = [&line[..], b"\r7"].concat();
+        cases.push((wrong, format!("character {place} is a carriage return")));
+    }
+    cases
+}
+
+#[test]
+fn refused_lines() {
+    for (line, why) in refused() {
+        for (ahead, name) in [(0, "-"), (9, "a.hex"), (69_999, "-")] {
+            let input = [&vec![b'\n'; ahead][..], &line, b"\n"].concat();
+            let pieces: Vec<&[u8]> = input.chunks(5_000).collect();
+            let mut system = Scripted::input(&pieces);
+            let number = ahead + 1;
+            let input = if name == "-" { "standard input" } else { name };
+            let expected = format!("model: {input}: line {number}: {why}\n");
+            let ended = system.start(Program::Model, &[name]);
+            assert_eq!(ended, said(Status::Refused, &expected));
+            // The output comes whole all the same.
+            assert!(system
+                .printed()
+                .contains(&format!(" {number:08X}\nregister 0 ")));
+        }
+    }
+}
+
+/// The clock's end cannot be reached by an input; its words can be had.
+#[test]
+fn the_end_of_the_clock() {
+    let refusal = reader::Refusal {
+        line: 4_294_967_296,
+        why: reader::Why::Clock,
+    };
+    let text = "line 4294967296: its bits pass the last clock cycle";
+    assert_eq!(
+        (refusal.to_string(), refusal.why.number()),
+        (text.to_string(), 6)
+    );
+}
+
+/// Its own name for an error, without the number that Rust adds to it.
+#[test]
+fn texts_of_errors() {
+    let text = |error: io::Error| reader::message::text(&error);
+    assert_eq!(text(io::Error::from_raw_os_error(EISDIR)), "Is a directory");
+    let made = ErrorKind::WriteZero.into();
+    assert!(!text(made).is_empty());
+}
