@@ -90,6 +90,9 @@ fn run_word(name: &[u8], describes: &[u8], word: &[u8], prints: PrintOptions) ->
     runs::list_input(name, word, fd, prints)
 }
 
+// The longest name of a file, without the 0 that C ends it with.
+const LONGEST_WORD: usize = libc::PATH_MAX - 1;
+
 // The program by its words.
 fn run(name: &[u8], describes: &[u8], prints: PrintOptions) -> u8
     ensures { λ r. ⌜ IsStatus r ⌝ }
@@ -101,7 +104,7 @@ fn run(name: &[u8], describes: &[u8], prints: PrintOptions) -> u8
     if 2 < words {
         return usage(name);
     }
-    let mut word = io::buffer();
+    let mut word = [0u8; LONGEST_WORD];
     let n = os::arg(1, &mut word);
     if os::errno() != 0 {
         posix::fail(name, b"argument");

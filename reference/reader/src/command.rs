@@ -6,6 +6,19 @@ use crate::system::{write_all, System};
 use crate::words::{asked, Asked, Input};
 use std::io::{self, ErrorKind};
 
+/// The system's number for a descriptor that is not open.
+const EBADF: i32 = 9;
+
+/// Closes standard output. One that was not open has lost nothing, and an
+/// interrupted closing has closed it.
+fn close(system: &mut impl System) -> io::Result<()> {
+    match system.close_output() {
+        Err(error) if error.raw_os_error() == Some(EBADF) => Ok(()),
+        Err(error) if error.kind() == ErrorKind::Interrupted => Ok(()),
+        closed => closed,
+    }
+}
+
 /// The exit status.
 #[derive(Clone, Copy, Debug, PartialEq, Eq)]
 pub enum Status {
@@ -36,7 +49,7 @@ impl Program {
     }
 
     fn print(self, text: &str, system: &mut impl System) -> Status {
-        let written = write_all(text.as_bytes(), system).and_then(|()| system.close_output());
+        let written = write_all(text.as_bytes(), system).and_then(|()| close(system));
         match written {
             Ok(()) => Status::Whole,
             Err(error) => self.not_written(&error, system),
@@ -50,17 +63,15 @@ impl Program {
                 return self.not_read(input, &error, system);
             }
         }
-        let ended = match self.run(system) {
-            Ok(ended) => ended,
+        let refusal = match self.run(system) {
+            Ok(refusal) => refusal,
             Err(Failure::Read(error)) => return self.not_read(input, &error, system),
             Err(Failure::Write(error)) => return self.not_written(&error, system),
         };
-        if ended.has_written {
-            if let Err(error) = system.close_output() {
-                return self.not_written(&error, system);
-            }
+        if let Err(error) = close(system) {
+            return self.not_written(&error, system);
         }
-        match ended.refusal {
+        match refusal {
             None => Status::Whole,
             Some(refusal) => {
                 system.say(&about(self, input.name(), &refusal.to_string()));

@@ -59,7 +59,7 @@ impl Program {
 
     /// Reads the input to its end, or to a refused line, and writes its
     /// listing.
-    pub fn run(self, system: &mut impl System) -> Result<Ended, Failure> {
+    pub fn run(self, system: &mut impl System) -> Result<Option<Refusal>, Failure> {
         let mut run = Run::start(self);
         let mut block = vec![0; BLOCK];
         while !run.is_over() {
@@ -83,16 +83,8 @@ impl Program {
         }
         run.finish();
         run.write(system)?;
-        Ok(run.ended)
+        Ok(run.refusal)
     }
-}
-
-/// How a run ended that the system did not fail.
-#[derive(Clone, Copy, Debug, Default, PartialEq, Eq)]
-pub struct Ended {
-    /// Whether anything was written to standard output.
-    pub has_written: bool,
-    pub refusal: Option<Refusal>,
 }
 
 /// What the system failed to do.
@@ -110,7 +102,7 @@ struct Run {
     lines_ended: u64,
     /// What is printed and not yet written.
     out: Vec<u8>,
-    ended: Ended,
+    refusal: Option<Refusal>,
 }
 
 impl Run {
@@ -121,13 +113,13 @@ impl Run {
             line: HexLine::default(),
             lines_ended: 0,
             out: Vec::with_capacity(2 * BLOCK),
-            ended: Ended::default(),
+            refusal: None,
         }
     }
 
     /// A refused line ends it.
     fn is_over(&self) -> bool {
-        self.ended.refusal.is_some()
+        self.refusal.is_some()
     }
 
     fn take(&mut self, character: u8) {
@@ -158,7 +150,7 @@ impl Run {
             }
         };
         let line = self.lines_ended;
-        self.ended.refusal = refused.map(|why| Refusal { line, why });
+        self.refusal = refused.map(|why| Refusal { line, why });
         self.line = HexLine::default();
     }
 
@@ -175,7 +167,6 @@ impl Run {
 
     fn write(&mut self, system: &mut impl System) -> Result<(), Failure> {
         write_all(&self.out, system).map_err(Failure::Write)?;
-        self.ended.has_written |= !self.out.is_empty();
         self.out.clear();
         Ok(())
     }

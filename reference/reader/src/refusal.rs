@@ -61,6 +61,6 @@ fn kind(byte: u8) -> String {
         b' ' => "a space".to_string(),
         b'\t' => "a tab".to_string(),
         b'a'..=b'z' => "a lower-case letter".to_string(),
-        _ => format!("byte {byte:02X}, none of 0-9 and A-F"),
+        _ => format!("byte {byte}, none of 0-9 and A-F"),
     }
 }

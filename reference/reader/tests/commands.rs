@@ -254,12 +254,13 @@ fn a_closing_that_fails() {
         let ended = system.start(Program::Model, words);
         assert_eq!(ended, said(Status::SystemFailed, full));
     }
-    // Nothing was written.
-    let mut system = Scripted::input(&[b"00\n"]);
-    system.closing = Some(EBADF);
-    let ended = system.start(Program::Reading, &[]);
-    assert_eq!(ended, said(Status::Whole, ""));
-    assert!(!system.closed);
+    for no_failure in [EBADF, EINTR] {
+        let mut system = Scripted::input(&[b"00\n"]);
+        system.closing = Some(no_failure);
+        let ended = system.start(Program::Reading, &[]);
+        assert_eq!(ended, said(Status::Whole, ""));
+        assert!(system.closed);
+    }
 }
 
 /// Interrupted calls are made again, and short writes continued.
@@ -287,17 +288,17 @@ const REFUSED: [(&[u8], &str); 20] = [
     (b"b5c074", "character 1 is a lower-case letter"),
     (b"B5C07z", "character 6 is a lower-case letter"),
     (b"0x", "character 2 is a lower-case letter"),
-    (b"0G", "character 2 is byte 47, none of 0-9 and A-F"),
-    (b"Z", "character 1 is byte 5A, none of 0-9 and A-F"),
-    (b"00/", "character 3 is byte 2F, none of 0-9 and A-F"),
-    (b"00:", "character 3 is byte 3A, none of 0-9 and A-F"),
-    (b"00@", "character 3 is byte 40, none of 0-9 and A-F"),
-    (b"`", "character 1 is byte 60, none of 0-9 and A-F"),
-    (b"{", "character 1 is byte 7B, none of 0-9 and A-F"),
-    (b"B5\0", "character 3 is byte 00, none of 0-9 and A-F"),
-    (b"\x80", "character 1 is byte 80, none of 0-9 and A-F"),
-    (b"AB\xFFxx", "character 3 is byte FF, none of 0-9 and A-F"),
-    (b"\x0B", "character 1 is byte 0B, none of 0-9 and A-F"),
+    (b"0G", "character 2 is byte 71, none of 0-9 and A-F"),
+    (b"Z", "character 1 is byte 90, none of 0-9 and A-F"),
+    (b"00/", "character 3 is byte 47, none of 0-9 and A-F"),
+    (b"00:", "character 3 is byte 58, none of 0-9 and A-F"),
+    (b"00@", "character 3 is byte 64, none of 0-9 and A-F"),
+    (b"`", "character 1 is byte 96, none of 0-9 and A-F"),
+    (b"{", "character 1 is byte 123, none of 0-9 and A-F"),
+    (b"B5\0", "character 3 is byte 0, none of 0-9 and A-F"),
+    (b"\x80", "character 1 is byte 128, none of 0-9 and A-F"),
+    (b"AB\xFFxx", "character 3 is byte 255, none of 0-9 and A-F"),
+    (b"\x0B", "character 1 is byte 11, none of 0-9 and A-F"),
     // The first one counts, and 7 wins over 8.
     (b"0 \r\tg", "character 2 is a space"),
     (b"B", "the count of digits is 1, which is odd"),
