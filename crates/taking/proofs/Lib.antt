@@ -8,3 +8,4 @@ pub mod PerformCases
 pub mod LoopInvariant
 pub mod SlowSteps
 pub mod SoundnessKept
+pub mod RecordsFit
