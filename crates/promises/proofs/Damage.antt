@@ -1,12 +1,12 @@
 -- The third demand, proved.
 -- Assumes nothing.
+use Rattle.taking.proofs.BitCalls.{callsFor, calls-take}
 use Rattle.damage.specs.CleanStreams.{streamBits, inverted}
 use Rattle.damage.specs.Records.{countersOf, sends}
 use Rattle.damage.proofs.Comparison.{replaced}
 use Rattle.damage.proofs.CallLists.{clean-words, damaged-words}
+use Rattle.damage.proofs.StreamBits.{stream-binary, inverted-binary, length-inverted}
 use Rattle.promises.specs.Damage.{ThirdDemand, ThirdDemandMet}
-use Rattle.promises.proofs.BitCalls.{callsFor, calls-take}
-use Rattle.promises.proofs.StreamsBinary.{stream-binary, inverted-binary, length-inverted}
 
 pub third-demand : ThirdDemand
 third-demand d clean damaged items trailing k r = record {

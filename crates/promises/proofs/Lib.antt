@@ -1,6 +1,5 @@
 pub mod Refusals
+pub mod Frames
 pub mod Records
-pub mod BitCalls
-pub mod StreamsBinary
 pub mod Damage
 pub mod Hosts

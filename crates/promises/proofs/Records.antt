@@ -14,6 +14,7 @@ use Rattle.taking.proofs.CallLists.{call-kept, carried-words, carried-system}
 use Rattle.taking.proofs.LoopInvariant.{length-bits}
 use Rattle.taking.proofs.SoundnessKept.{start-sound, take-sound}
 use Rattle.taking.proofs.RecordsFit.{words-fit}
+use Rattle.promises.proofs.Frames.{frames}
 use Rattle.promises.specs.Records.{Exact, Ends, Cuts, SecondDemand}
 
 exact : (d : Decoder) (c : Call) → Exact d c
@@ -46,4 +47,4 @@ cuts s ps qs e = (
 )
 
 pub second-demand : SecondDemand
-second-demand = record { exact = exact; ends = ends; cuts = cuts; opens-sound = start-sound; stays-sound = take-sound; fits = λ d cs. words-fit cs d }
+second-demand = record { exact = exact; ends = ends; cuts = cuts; frames = frames; opens-sound = start-sound; stays-sound = take-sound; fits = λ d cs. words-fit cs d }

@@ -9,3 +9,5 @@ pub mod LoopInvariant
 pub mod SlowSteps
 pub mod SoundnessKept
 pub mod RecordsFit
+pub mod FrameTurns
+pub mod BitCalls

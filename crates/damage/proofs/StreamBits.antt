@@ -7,13 +7,9 @@ use native.Mathlib.Omega.{arith}
 use lib.Dec.{T, ltb, lt→ltb}
 use lib.ListN.{length}
 use Rattle.bits.proofs.Truth.{and-both, and-left, and-right}
+use Rattle.bits.proofs.BitRanges.{binary, binary-append}
 use Rattle.damage.specs.Commands.{Command, lv1, bcr, ecr, cal, sync, codeOf}
 use Rattle.damage.specs.CleanStreams.{Item, zeros, itemBits, streamBits, inverted}
-use Rattle.promises.proofs.BitCalls.{binary}
-
-binary-append : (xs ys : List ℕ) → T (binary xs) → T (binary ys) → T (binary (xs ++ ys))
-binary-append [] ys b c = c
-binary-append (x ∷ xs) ys b c = and-both (ltb x 2) (binary (xs ++ ys)) (and-left (ltb x 2) _ b) (binary-append xs ys (and-right (ltb x 2) _ b) c)
 
 zeros-binary : (n : ℕ) → T (binary (zeros n))
 zeros-binary zero = tt

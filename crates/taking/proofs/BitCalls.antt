@@ -1,7 +1,6 @@
 -- Any bits that the clock has room for can be taken: a call for each bit, with buffers of its own.
 -- Assumes nothing.
 use mathlib.Core.Path.{_≡_, _∙_, refl, ap, ap₂}
-use mathlib.Core.Bool.{Bool, true, _&&_}
 use mathlib.Core.List.{List, [], _∷_, _++_}
 use Prim.Native.Nat.{ℕ, suc, _+_, _*_, _<_, _≤_}
 use native.Mathlib.Omega.{arith}
@@ -10,24 +9,20 @@ use lib.ListN.{length, replicate}
 use borrow.Author.Tests.{le-leb}
 use Rattle.bits.specs.Bits.{bitOf}
 use Rattle.bits.proofs.Truth.{holds-true, choice, and-left, and-right}
+use Rattle.bits.proofs.BitRanges.{binary, binary-append, bits-binary}
 use Rattle.controller.specs.declared.Cycle.{Cycle}
 use Rattle.controller.specs.declared.Cycle.the-variants.{Silent, Recorded}
 use Rattle.controller.specs.Records.{headOf, isFrameHead}
 use Rattle.decoder.specs.declared.Decoder.{Decoder}
 use Rattle.limits.specs.Limits.{clockLimit, storeLength, trayLength}
 use Rattle.decoder.specs.Sound.{soundOf}
 use Rattle.taking.specs.Run.{Run, Turned, afterCycle, runOf, stateAfter}
-use Rattle.taking.specs.Turn.{System, turnOf}
+use Rattle.taking.specs.Turn.{System, decoderOf, turnOf}
 use Rattle.taking.specs.Take.{Call, CallResult, call, lent, takenOf, takeOf}
-use Rattle.taking.specs.Calls.{bitsTaken, allBits}
+use Rattle.taking.specs.Calls.{Part, callOf, resultOf, systemAfter, bitsTaken, allBits, carriedBits}
 use Rattle.taking.proofs.CallLists.{call-kept}
 use Rattle.taking.proofs.Refusals.{taken}
 use Rattle.taking.proofs.SoundnessKept.{take-sound}
-
--- Each number is a bit.
-abbrev pub binary : List ℕ → Bool
-binary [] = true
-binary (bit ∷ bits) = ltb bit 2 && binary bits
 
 -- The bit is the highest of a byte; the list has room for one record.
 abbrev pub callFor : ℕ → Call
@@ -69,3 +64,12 @@ calls-take (bit ∷ bits) d b s h =
     let low = ltb→lt bit 2 (and-left (ltb bit 2) (binary bits) b) in
     let one = next-cycle d bit s low (omega arith) in
     ap₂ _++_ (takes-bit d bit s low (omega arith)) (calls-take bits next (and-right (ltb bit 2) (binary bits) b) (take-sound d (callFor bit) s) (omega arith))
+
+-- The bits of a list of calls are bits.
+pub carried-binary : (s : System) (ps : List Part) → T (binary (carriedBits s ps))
+unfolding carriedBits
+carried-binary s [] = tt
+carried-binary s (p ∷ ps) =
+    let after : System = systemAfter (resultOf s p) in
+    binary-append (bitsTaken (decoderOf s) (callOf s p)) (carriedBits after ps)
+    (bits-binary (p .input) (resultOf s p .taken .report .bits) (p .count) (p .first)) (carried-binary after ps)
