@@ -3,3 +3,4 @@ pub mod Frames
 pub mod Records
 pub mod Damage
 pub mod Hosts
+pub mod HostCalls
