@@ -1,11 +1,14 @@
--- A range of the input as a list of bits: its length, its first bit, and what is left after some of them.
+-- A range of the input as a list of bits: its length, its first bit, what is left after some of them, and that each is 0 or 1.
 -- Assumes nothing.
 use mathlib.Core.Path.{_≡_, _∙_, refl, ap}
-use mathlib.Core.List.{List, [], _∷_}
+use mathlib.Core.Bool.{Bool, true, _&&_}
+use mathlib.Core.List.{List, [], _∷_, _++_}
 use Prim.Native.Nat.{ℕ, zero, suc, _+_, _-_, _<_, _≤_}
 use native.Mathlib.Omega.{arith}
-use lib.ListN.{length, drop}
+use lib.Dec.{T, ltb, lt→ltb}
+use lib.ListN.{length, take, drop}
 use Rattle.bits.specs.Bits.{bitOf, bitsOf}
+use Rattle.bits.proofs.Truth.{and-both, and-left, and-right}
 
 module _ (input : List ℕ) where
   pub length-bits : (first count : ℕ) → length (bitsOf input first count) ≡ count
@@ -35,3 +38,18 @@ module _ (input : List ℕ) where
 
   pub bits-over : (at end : ℕ) → end ≤ at → bitsOf input at (end - at) ≡ []
   bits-over at end h = let k : end - at ≡ 0 = omega arith in rw k
+
+-- Each number is 0 or 1.
+abbrev pub binary : List ℕ → Bool
+binary [] = true
+binary (bit ∷ bits) = ltb bit 2 && binary bits
+
+pub binary-append : (xs ys : List ℕ) → T (binary xs) → T (binary ys) → T (binary (xs ++ ys))
+binary-append [] ys b c = c
+binary-append (x ∷ xs) ys b c = and-both (ltb x 2) (binary (xs ++ ys)) (and-left (ltb x 2) _ b) (binary-append xs ys (and-right (ltb x 2) _ b) c)
+
+pub bits-binary : (input : List ℕ) (n count first : ℕ) → T (binary (take n (bitsOf input first count)))
+bits-binary input zero count first = tt
+bits-binary input (suc n) zero first = tt
+bits-binary input (suc n) (suc count) first =
+    and-both (ltb (bitOf input first) 2) _ (lt→ltb (bitOf input first) 2 (omega arith)) (bits-binary input n count (first + 1))

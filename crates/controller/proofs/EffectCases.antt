@@ -3,7 +3,8 @@
 use mathlib.Core.Bool.{Bool, true, false}
 use mathlib.Core.List.{List}
 use mathlib.Core.Path.{_≡_, refl}
-use Prim.Native.Nat.{ℕ, zero, suc, _+_, _/_, _%_, _^_}
+use Prim.Native.Nat.{ℕ, zero, suc, _+_, _/_, _%_, _^_, _<_}
+use native.Mathlib.Omega.{arith}
 use lib.Dec.{eqb}
 use lib.ListN.{getD, set}
 use Rattle.bits.proofs.Truth.{choice, or-left, or-right}
@@ -60,7 +61,7 @@ module _ (P : List ℕ → Pointers → Counters → Bool → Type 0) where
     pub now : Holds m
     pub lv1 : P (m .registers) (m .pointers) (lv1Counted (m .counters)) (m .running)
     pub fast : (body : ℕ) → P (m .registers) (fastPointers body (m .pointers)) (fastCounted body time (m .counters)) (m .running)
-    pub write : (address value : ℕ) → existsAt plan address ≡ true → changesRegisters q ≡ true
+    pub write : (address value : ℕ) → value < 2 ^ 16 → existsAt plan address ≡ true → changesRegisters q ≡ true
         → P (writtenOf plan m address value) (m .pointers) (m .counters) (m .running)
     pub push : (feen word : ℕ)
         → P (m .registers) (pointers (writeOf 16 0 feen word (fifos (m .pointers .writes) store) .writes) (m .pointers .reads)) (m .counters) (m .running)
@@ -75,7 +76,7 @@ module _ (P : List ℕ → Pointers → Counters → Bool → Type 0) where
     slow-keeps (Command command address value) k =
         let R : Acted → Type 0 = λ a. Holds (a .model) in
         command-cases (λ f. R (f .acted)) plan m command address value time store
-        (λ e. choice R (existsAt plan address) (λ there. k .write address (value % 2 ^ 16) there (or-left (eqb command 0) (eqb command 9) e)) (λ _. k .now))
+        (λ e. choice R (existsAt plan address) (λ there. k .write address (value % 2 ^ 16) (omega arith) there (or-left (eqb command 0) (eqb command 9) e)) (λ _. k .now))
         (choice R (existsAt plan address) (λ _. k .now) (λ _. k .now))
         (k .push (feenOf plan m) (value % 2 ^ 27))
         (k .pop (address % 16))

@@ -3,7 +3,7 @@
 use mathlib.Core.Bool.{Bool, true, false, _||_}
 use mathlib.Core.List.{List, [], _∷_}
 use mathlib.Core.Path.{_≡_, refl, ap}
-use Prim.Native.Nat.{ℕ, zero, suc, _+_, _≤_}
+use Prim.Native.Nat.{ℕ, zero, suc, _+_, _^_, _≤_, _<_}
 use native.Mathlib.Nat.{le-refl}
 use native.Mathlib.Omega.{arith}
 use lib.Dec.{ltb, eqb}
@@ -24,6 +24,7 @@ use Rattle.registers.specs.Sound.{everyFrom, fitsAt, pointersFit, zeroAt, missi
 use Rattle.registers.proofs.WriteLoop.{fifos}
 use Rattle.controller.specs.Commands.{actOf}
 use Rattle.controller.specs.Requests.{changesRegisters, changesRunning}
+use Rattle.controller.specs.Widths.{WidthsFit, ModelFits}
 use Rattle.controller.proofs.EffectCases.{write-keeps, act-keeps}
 
 -- The model after a request.
@@ -92,7 +93,7 @@ module _ (plan : Plan) (m : Model) (q : Request) (time : ℕ) (store : List ℕ)
     now = now;
     lv1 = now;
     fast = λ body. choice P (eqb body 0b0010) (λ _. none) (λ _. now);
-    write = λ _ _ _ _. now;
+    write = λ _ _ _ _ _. now;
     push = push;
     pop = pop;
     reset = λ _. none;
@@ -110,7 +111,7 @@ module _ (plan : Plan) (m : Model) (q : Request) (time : ℕ) (store : List ℕ)
 
   -- A fact of the registers: it holds now, and after a write and a reset by a request that changes them.
   registers-keep : (P : List ℕ → Type 0) → P (m .registers)
-      → ((address value : ℕ) → existsAt plan address ≡ true → changesRegisters q ≡ true → P (writtenOf plan m address value))
+      → ((address value : ℕ) → value < 2 ^ 16 → existsAt plan address ≡ true → changesRegisters q ≡ true → P (writtenOf plan m address value))
       → (changesRegisters q ≡ true → P zeros16) → P (after plan m q time store .registers)
   registers-keep P now write reset = act-keeps (λ r p c b. P r) plan m time store q (record {
     now = now;
@@ -126,14 +127,36 @@ module _ (plan : Plan) (m : Model) (q : Request) (time : ℕ) (store : List ℕ)
   pub missing-zero : missingZero plan m ≡ true → missingZero plan (after plan m q time store) ≡ true
   unfolding missingZero
   missing-zero h =
-      registers-keep (ZeroIn plan) h (λ address value there _. written-zero plan (m .registers) address _ there h) (λ _. zeros-zero plan)
+      registers-keep (ZeroIn plan) h (λ address value _ there _. written-zero plan (m .registers) address _ there h) (λ _. zeros-zero plan)
+
+  -- Registers and L1ID stay within their widths.
+  pub model-fits : ModelFits m → ModelFits (after plan m q time store)
+  model-fits f =
+      act-keeps (λ r p c b. WidthsFit r c) plan m time store q (record {
+        now = f;
+        lv1 = record { l1id = omega arith; each-register = f .each-register };
+        fast = λ body. record {
+          l1id = choice (λ n. n < 2 ^ 8) (eqb body 0b0010) (λ _. omega arith) (λ _. f .l1id);
+          each-register = f .each-register;
+        };
+        write = λ address value h _ _. record {
+          l1id = f .l1id;
+          each-register = λ n.
+              set-case (λ x. x < 2 ^ 16) (m .registers) address n _
+              (λ _. choice (λ x. x < 2 ^ 16) (eqb address (plan .csr)) (λ _. omega arith) (λ _. h)) (f .each-register n);
+        };
+        push = λ _ _. f;
+        pop = λ _. f;
+        reset = λ _. record { l1id = omega arith; each-register = λ n. rw (zeros-at 16 n) (omega arith) };
+        run = λ _ _. f;
+      })
 
   pub base-low : m .counters .base ≤ time → after plan m q time store .counters .base ≤ time
   base-low h = act-keeps (λ r p c b. c .base ≤ time) plan m time store q (record {
     now = h;
     lv1 = h;
     fast = λ body. choice (λ n. n ≤ time) (eqb body 0b0001) (λ _. le-refl time) (λ _. h);
-    write = λ _ _ _ _. h;
+    write = λ _ _ _ _ _. h;
     push = λ _ _. h;
     pop = λ _. h;
     reset = λ _. le-refl time;
@@ -141,7 +164,7 @@ module _ (plan : Plan) (m : Model) (q : Request) (time : ℕ) (store : List ℕ)
   })
 
   pub registers-kept : changesRegisters q ≡ false → after plan m q time store .registers ≡ m .registers
-  registers-kept h = registers-keep (λ r. r ≡ m .registers) refl (λ _ _ _ t. clash t h) (λ t. clash t h)
+  registers-kept h = registers-keep (λ r. r ≡ m .registers) refl (λ _ _ _ _ t. clash t h) (λ t. clash t h)
 
   pub cnt-kept : changesRegisters q ≡ false → cntOf plan (after plan m q time store) ≡ cntOf plan m
   cnt-kept h = ap (λ l. getD l (plan .cnt) 0) (registers-kept h)
@@ -152,7 +175,7 @@ module _ (plan : Plan) (m : Model) (q : Request) (time : ℕ) (store : List ℕ)
     now = refl;
     lv1 = refl;
     fast = λ _. refl;
-    write = λ _ _ _ _. refl;
+    write = λ _ _ _ _ _. refl;
     push = λ _ _. refl;
     pop = λ _. refl;
     reset = λ _. refl;

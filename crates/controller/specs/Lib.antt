@@ -1,3 +1,4 @@
 pub mod Records
 pub mod Commands
 pub mod Requests
+pub mod Widths

@@ -8,3 +8,4 @@ pub mod TraceRecords
 pub mod Comparison
 pub mod RunModeEffects
 pub mod CallLists
+pub mod StreamBits

@@ -1,4 +1,4 @@
--- A bit put into a byte at a place's weight leaves a byte, is read back from it, and changes no higher bit.
+-- A bit put into a byte at a place's weight leaves a byte, is read back from it, and changes no higher and no lower bit.
 -- Assumes nothing.
 use mathlib.Core.Path.{_≡_}
 use Prim.Native.Nat.{ℕ, _+_, _*_, _-_, _/_, _%_, _^_, _≤_, _<_}
@@ -13,6 +13,7 @@ pub record Put (byte bit weight : ℕ) : Type 0 where
   pub fits : byte - byte / weight % 2 * weight + bit * weight < byte / 256 * 256 + 256
   pub read : (byte - byte / weight % 2 * weight + bit * weight) / weight % 2 ≡ bit
   pub above : (byte - byte / weight % 2 * weight + bit * weight) / (weight * 2) ≡ byte / (weight * 2)
+  pub below : (byte - byte / weight % 2 * weight + bit * weight) % weight ≡ byte % weight
 
 -- by the eight places, each of a literal weight
 module _ (byte bit : ℕ) (small : bit < 2) where

@@ -1,4 +1,7 @@
 pub mod Refusals
+pub mod Frames
 pub mod Records
 pub mod Damage
 pub mod Hosts
+pub mod WidthsKept
+pub mod HostCalls

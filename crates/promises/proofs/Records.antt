@@ -1,11 +1,11 @@
 -- The second demand, proved.
 -- Assumes nothing.
-use mathlib.Core.Path.{_≡_, _∙_, sym, ap}
+use mathlib.Core.Path.{_≡_, _∙_, sym, ap, subst}
 use Prim.Native.Nat.{_+_, _-_}
 use native.Mathlib.Omega.{arith}
 use lib.ListN.{length}
 use Rattle.decoder.specs.declared.Decoder.{Decoder}
-use Rattle.taking.specs.Run.{Run, runOf, stateAfter, wordsAfter}
+use Rattle.taking.specs.Run.{Run, NoFrames, runOf, stateAfter, wordsAfter}
 use Rattle.taking.specs.Turn.{System, turnOf}
 use Rattle.taking.specs.Take.{Call, offered, lent, takenOf}
 use Rattle.taking.proofs.RunFaithful.{run-faithful}
@@ -13,6 +13,8 @@ use Rattle.taking.proofs.RunEndings.{run-ended}
 use Rattle.taking.proofs.CallLists.{call-kept, carried-words, carried-system}
 use Rattle.taking.proofs.LoopInvariant.{length-bits}
 use Rattle.taking.proofs.SoundnessKept.{start-sound, take-sound}
+use Rattle.taking.proofs.RecordsFit.{words-fit}
+use Rattle.promises.proofs.Frames.{frames}
 use Rattle.promises.specs.Records.{Exact, Ends, Cuts, SecondDemand}
 
 exact : (d : Decoder) (c : Call) → Exact d c
@@ -34,7 +36,8 @@ module _ (d : Decoder) (c : Call) where
         full = λ h. let g = e .full h in let w = f .whole in (omega arith, omega arith);
         frame = λ h.
             let g = e .framed h in
-            record { before = g .before; head = g .head; value = g .value; parts = rw z (sym (f .words) ∙ g .parts); frame = g .frame };
+            record { before = g .before; head = g .head; value = g .value; parts = rw z (sym (f .words) ∙ g .parts); frame = g .frame; earlier = g .earlier };
+        no-frame = λ h. rw z (subst NoFrames (f .words) (e .unframed h));
       }
 
 cuts : (s : System) → Cuts s
@@ -44,4 +47,4 @@ cuts s ps qs e = (
 )
 
 pub second-demand : SecondDemand
-second-demand = record { exact = exact; ends = ends; cuts = cuts; opens-sound = start-sound; stays-sound = take-sound }
+second-demand = record { exact = exact; ends = ends; cuts = cuts; frames = frames; opens-sound = start-sound; stays-sound = take-sound; fits = λ d cs. words-fit cs d }

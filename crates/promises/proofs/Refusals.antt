@@ -2,11 +2,13 @@
 -- Assumes nothing.
 use mathlib.Core.Path.{_≡_, _∙_, refl, sym, ap}
 use mathlib.Core.Bool.{Bool, true, false, cond, not, _&&_, _||_}
-use Prim.Native.Nat.{ℕ, _+_, _*_, _-_}
+use mathlib.Core.List.{List, [], _∷_}
+use Prim.Native.Nat.{ℕ, zero, suc, _+_, _*_, _-_, _%_, _<_}
 use native.Mathlib.Omega.{arith}
 use lib.Dec.{leb, ltb, eqb}
 use lib.ListN.{length}
 use borrow.Author.Tests.{le-leb, lt-leb, ltb-true, ltb-false}
+use Rattle.bits.proofs.Truth.{clash}
 use Rattle.limits.specs.Limits.{clockLimit, storeLength, trayLength, inputLimit}
 use Rattle.registers.specs.declared.Plan.{Plan}
 use Rattle.registers.specs.Plan.{existsAt, planFits}
@@ -19,7 +21,11 @@ use Rattle.taking.specs.Turn.{turnOf}
 use Rattle.taking.specs.Take.{Call, CallResult, offered, lent, refused, clockFits, takenOf, takeOf, endingNumber}
 use Rattle.taking.proofs.RunEndings.{run-ended}
 use Rattle.taking.proofs.Refusals.{buffers, range, unsound, wrong-buffers, wrong-range, clock-over, taken}
-use Rattle.promises.specs.Refusals.{firstOf, threeInMask, threeDiffer, takingRows, Opens, Takes, FirstDemand}
+use Rattle.hexlines.specs.Digits.{isDigit, allDigits, bytesOf}
+use Rattle.hexlines.specs.Line as lines
+use Rattle.hexlines.specs.Line.{countFits, lineMeaning, readOf}
+use Rattle.promises.specs.Refusals.{firstOf, threeInMask, threeDiffer, takingRows, wrongCharacter, someWrong, hexRows}
+use Rattle.promises.specs.Refusals.{Opens, Takes, ReadsLine, FirstDemand}
 
 -- tests turned round
 not-leb-by : (a b : ℕ) (t : Bool) → ltb b a ≡ t → not (leb a b) ≡ ltb b a
@@ -118,9 +124,60 @@ module _ (d : Decoder) (c : Call) where
         through = λ h. t .through (rows ∙ h);
       }
 
+-- A line's rows, by its two tests.
+digits-row : (line : List ℕ) → not (allDigits line) ≡ someWrong line
+digits-row [] = refl
+digits-row (c ∷ cs) = not-and (isDigit c) (allDigits cs) ∙ ap (λ t. wrongCharacter c || t) (digits-row cs)
+
+odd-by : (n : ℕ) → n < 2 → not (eqb n 0) ≡ eqb n 1
+odd-by zero h = refl
+odd-by (suc zero) h = refl
+odd-by (suc (suc n)) h = absurd (omega arith)
+
+count-row : (n : ℕ) → not (countFits n) ≡ (eqb (n % 2) 1 || ltb 64 n)
+count-row n =
+    not-and (eqb (n % 2) 0) (leb n 64)
+    ∙ (λ i. odd-by (n % 2) (omega arith) i || not-leb n 64 i)
+
+module _ (line buffer : List ℕ) where
+  abbrev first : ℕ
+  first = firstOf (hexRows line)
+
+  -- a refusal, and a line that is fit
+  line-refused : (n : ℕ) → eqb n 0 ≡ false → lineMeaning line ≡ lines.refused n → first ≡ n → ReadsLine line buffer
+  unfolding readOf
+  line-refused n some e f = record {
+    meaning = rw (e, f);
+    number = rw (e, f);
+    no-bytes = λ _. rw e;
+    unchanged = λ _. rw (e, f);
+    through = λ z. clash (ap (λ n. eqb n 0) (sym f ∙ z)) some;
+  }
+
+  line-fits : lineMeaning line ≡ record { number = 0; bytes = bytesOf line } → first ≡ 0 → ReadsLine line buffer
+  unfolding readOf
+  line-fits e f = record {
+    meaning = rw (e, f);
+    number = rw (e, f);
+    no-bytes = λ some. clash (ap (λ n. eqb n 0) f) some;
+    unchanged = λ some. clash (ap (λ n. eqb n 0) f) some;
+    through = λ _. rw e;
+  }
+
+  reads-by : (a b : Bool) → allDigits line ≡ a → countFits (length line) ≡ b
+      → someWrong line ≡ not a → (eqb (length line % 2) 1 || ltb 64 (length line)) ≡ not b → ReadsLine line buffer
+  unfolding lineMeaning
+  reads-by false b e f g h = line-refused 7 refl (rw e) (rw g)
+  reads-by true false e f g h = line-refused 8 refl (rw (e, f)) (rw (g, h))
+  reads-by true true e f g h = line-fits (rw (e, f)) (rw (g, h))
+
+  reads : ReadsLine line buffer
+  reads = reads-by (allDigits line) (countFits (length line)) refl refl (sym (digits-row line)) (sym (count-row (length line)))
+
 pub first-demand : FirstDemand
 first-demand = record {
   limits = record { clock = refl; store = refl; tray = refl; input = refl; unit = refl };
   opens = opens;
   takes = takes;
+  reads = reads;
 }

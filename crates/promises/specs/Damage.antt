@@ -3,9 +3,10 @@
 use mathlib.Core.Path.{_≡_}
 use mathlib.Core.Bool.{true}
 use mathlib.Core.List.{List}
-use Prim.Native.Nat.{ℕ, _<_}
+use Prim.Native.Nat.{ℕ, _+_, _<_, _≤_}
 use lib.Dec.{T}
 use lib.ListN.{length}
+use Rattle.limits.specs.Limits.{clockLimit}
 use Rattle.recogniser.specs.declared.Phase.the-variants.{Hunt}
 use Rattle.decoder.specs.declared.Decoder.{Decoder}
 use Rattle.decoder.specs.Sound.{soundOf}
@@ -16,15 +17,18 @@ use Rattle.damage.specs.CleanStreams.{Item, streamBits, timed, inverted}
 use Rattle.damage.specs.Records.{countersOf, sends, cleanRecords, damagedRecords}
 use Rattle.damage.specs.Comparison.{Replaced}
 
--- Any sound state in RunMode, hunting, window 00000; a clean stream; a bit of it; and two lists of calls, any cuts, any buffers, refused calls
--- included, of which one has taken the stream and the other the same bits with that one inverted.
-pub record Runs (d : Decoder) (clean damaged : List Call) (items : List Item) (trailing k : ℕ) : Type 0 where
+-- Any sound state in RunMode, hunting, window 00000; a clean stream; and a bit of it.
+pub record Stream (d : Decoder) (items : List Item) (trailing k : ℕ) : Type 0 where
   pub sound : T (soundOf d)
   pub running : d .model .running ≡ true
   pub hunting : d .recogniser .phase ≡ Hunt
   pub window : d .recogniser .shift ≡ 0
   pub timing : T (timed items)
   pub inside : k < length (streamBits items trailing)
+
+-- Two lists of calls, any cuts, any buffers, refused calls included, of which one has taken the stream and the other the same bits with that one inverted.
+pub record Runs (d : Decoder) (clean damaged : List Call) (items : List Item) (trailing k : ℕ) : Type 0 where
+  pub stream : Stream d items trailing k
   pub took-clean : allBits d clean ≡ streamBits items trailing
   pub took-damaged : allBits d damaged ≡ inverted k (streamBits items trailing)
 
@@ -40,3 +44,14 @@ abbrev pub ThirdDemand : Type 0
 ThirdDemand =
     (d : Decoder) (clean damaged : List Call) (items : List Item) (trailing k : ℕ)
     → Runs d clean damaged items trailing k → Wrote d clean damaged items k
+
+-- No premise is empty: wherever the clock has room for the stream, there are two such lists of calls.
+pub record Taken (d : Decoder) (items : List Item) (trailing k : ℕ) : Type 0 where
+  pub clean : List Call
+  pub damaged : List Call
+  pub runs : Runs d clean damaged items trailing k
+
+abbrev pub ThirdDemandMet : Type 0
+ThirdDemandMet =
+    (d : Decoder) (items : List Item) (trailing k : ℕ)
+    → Stream d items trailing k → d .next + length (streamBits items trailing) ≤ clockLimit → Taken d items trailing k

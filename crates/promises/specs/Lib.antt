@@ -1,4 +1,6 @@
 pub mod Refusals
+pub mod Frames
 pub mod Records
 pub mod Damage
 pub mod Hosts
+pub mod HostCalls

@@ -12,11 +12,13 @@ use Rattle.decoder.specs.declared.Decoder.{Decoder}
 use Rattle.limits.specs.Limits.{listUnit}
 use Rattle.decoder.specs.Opening.{openOf}
 use Rattle.decoder.specs.Sound.{soundOf}
+use Rattle.controller.specs.Widths.{ModelFits, WordsFit}
 use Rattle.taking.specs.declared.Ending.the-variants.{Done, Frame, ListFull}
-use Rattle.taking.specs.Run.{LastIsFrame, stateAfter, wordsAfter}
+use Rattle.taking.specs.Run.{NoFrames, LastIsFrame, stateAfter, wordsAfter}
 use Rattle.taking.specs.Turn.{System, turnOf}
 use Rattle.taking.specs.Take.{Call, offered, lent, takenOf, takeOf}
-use Rattle.taking.specs.Calls.{bitsTaken, wordsStanding, systemAfter, Part, carriedBits, carriedWords, carriedSystem}
+use Rattle.taking.specs.Calls.{bitsTaken, wordsStanding, allWords, systemAfter, Part, carriedBits, carriedWords, carriedSystem}
+use Rattle.promises.specs.Frames.{Frames}
 
 -- A call, refused or not, leaves and writes what the bits that it took say, cycle by cycle: none missing and none added.
 pub record Exact (d : Decoder) (c : Call) : Type 0 where
@@ -24,12 +26,15 @@ pub record Exact (d : Decoder) (c : Call) : Type 0 where
   pub words : wordsStanding d c ≡ wordsAfter turnOf (lent d c) (bitsTaken d c)
 
 -- Each ending of a call that is not refused has its condition: "'done' .. with every bit of its count taken", 'list full' "when bits remain and fewer than
--- two words are free", 'frame' "after a record of kind 24, 25 or 26".
+-- two words are free", 'frame' "after a record of kind 24, 25 or 26, where it stops at once": so no earlier record is a frame's, and none at all where
+-- the call ends otherwise.
 pub record Ends (d : Decoder) (c : Call) : Type 0 where
   pub done : takenOf d c .taken .report .ending ≡ Done → takenOf d c .taken .report .bits ≡ c .count
   pub full : takenOf d c .taken .report .ending ≡ ListFull
       → (takenOf d c .taken .report .bits < c .count) × (length (c .list) - c .free - listUnit * takenOf d c .taken .report .records < listUnit)
   pub frame : takenOf d c .taken .report .ending ≡ Frame → LastIsFrame (wordsAfter turnOf (lent d c) (take (takenOf d c .taken .report .bits) (offered c)))
+  pub no-frame : (takenOf d c .taken .report .ending ≡ Frame → ⊥)
+      → NoFrames (wordsAfter turnOf (lent d c) (take (takenOf d c .taken .report .bits) (offered c)))
 
 -- Two lists of calls from one state, store and tray carried over, refused calls among them: where the bits taken join to the same stream, so do the
 -- records, and the state, store and tray at the end are the same.
@@ -42,6 +47,11 @@ pub record SecondDemand : Type 0 where
   pub exact : (d : Decoder) (c : Call) → Exact d c
   pub ends : (d : Decoder) (c : Call) → Ends d c
   pub cuts : (s : System) → Cuts s
+  -- After 'frame' the second call hands back the frame's bits, wherever the frame was cut into calls.
+  pub frames : Frames
   -- Opening gives a sound state, and a sound state stays sound.
   pub opens-sound : (plan : Plan) (cycle : ℕ) → T (soundOf (openOf plan cycle .decoder))
   pub stays-sound : (d : Decoder) (c : Call) → T (soundOf d) → T (soundOf (takeOf d c .taken .decoder))
+  -- Each record that a list of calls writes from a sound state has its time below 2^48 and "a value below 2^32", so that a printed line loses nothing.
+  -- Registers and L1ID fit their widths by the types of a program.
+  pub fits : (d : Decoder) (cs : List Call) → T (soundOf d) → ModelFits (d .model) → WordsFit (allWords d cs)

@@ -3,9 +3,11 @@
 use mathlib.Core.Path.{_≡_}
 use mathlib.Core.Bool.{Bool, false, cond, not, _&&_, _||_}
 use mathlib.Core.List.{List, [], _∷_}
-use Prim.Native.Nat.{ℕ, _+_, _*_, _^_}
+use Prim.Native.Char.{code}
+use Prim.Native.Nat.{ℕ, _+_, _*_, _%_, _^_}
 use lib.Dec.{leb, ltb, eqb}
 use lib.ListN.{length}
+use lib.Seq.{sets}
 use Rattle.limits.specs.Limits.{clockLimit, storeLength, trayLength, inputLimit, listUnit}
 use Rattle.registers.specs.declared.Plan.{Plan}
 use Rattle.registers.specs.Plan.{existsAt, defaultPlan}
@@ -14,6 +16,8 @@ use Rattle.decoder.specs.Opening.{openedAt, openOf, openingNumber}
 use Rattle.decoder.specs.Sound.{soundOf}
 use Rattle.taking.specs.declared.Ending.{Ending}
 use Rattle.taking.specs.Take.{Call, refused, takenOf, takeOf, endingNumber}
+use Rattle.hexlines.specs.Digits.{bytesOf}
+use Rattle.hexlines.specs.Line.{Read, lineMeaning, readOf}
 
 -- A row of the refusal table: its number, and whether it applies to this call.
 pub record Row : Type 0 where
@@ -60,6 +64,23 @@ takingRows d c =
     ∷ row 6 (ltb clockLimit (d .next + c .count))
     ∷ []
 
+-- The rows checked at a hexadecimal line, on its characters: "a character is not 0-9 or A-F"; "the count of digits is odd, or above 64".
+abbrev pub between : ℕ → ℕ → ℕ → Bool
+between low high c = leb low c && leb c high
+
+abbrev pub wrongCharacter : ℕ → Bool
+wrongCharacter c = not (between (code "0") (code "9") c || between (code "A") (code "F") c)
+
+abbrev pub someWrong : List ℕ → Bool
+someWrong [] = false
+someWrong (c ∷ cs) = wrongCharacter c || someWrong cs
+
+abbrev pub hexRows : List ℕ → List Row
+hexRows line =
+    row 7 (someWrong line)
+    ∷ row 8 (eqb (length line % 2) 1 || ltb 64 (length line))
+    ∷ []
+
 -- An opening answers the number of the first row that applies, "the default start state at cycle 0" at a refusal, else the start state asked for.
 pub record Opens (plan : Plan) (cycle : ℕ) : Type 0 where
   pub number : openingNumber (openOf plan cycle .opening) ≡ firstOf (openingRows plan cycle)
@@ -72,7 +93,21 @@ pub record Takes (d : Decoder) (c : Call) : Type 0 where
   pub rejected : eqb (firstOf (takingRows d c)) 0 ≡ false → (ending : Ending) × (takeOf d c ≡ refused d c ending)
   pub through : firstOf (takingRows d c) ≡ 0 → takeOf d c ≡ takenOf d c
 
+-- What a call that reads a line answers: a number, how many bytes, and the buffer's later contents.
+abbrev pub readAs : ℕ → List ℕ → List ℕ → Read
+readAs number bytes buffer = record { number = number; count = length bytes; buffer = buffer }
+
+-- A hexadecimal line means the number of the first row that applies, and a call that reads it answers that number. "A refused line gives no bytes", and the
+-- lent buffer is as it came; any other line's bytes, two digits each, stand at the buffer's start.
+pub record ReadsLine (line buffer : List ℕ) : Type 0 where
+  pub meaning : lineMeaning line .number ≡ firstOf (hexRows line)
+  pub number : readOf line buffer .number ≡ firstOf (hexRows line)
+  pub no-bytes : eqb (firstOf (hexRows line)) 0 ≡ false → lineMeaning line .bytes ≡ []
+  pub unchanged : eqb (firstOf (hexRows line)) 0 ≡ false → readOf line buffer ≡ readAs (firstOf (hexRows line)) [] buffer
+  pub through : firstOf (hexRows line) ≡ 0 → readOf line buffer ≡ readAs 0 (bytesOf line) (sets buffer 0 (bytesOf line))
+
 pub record FirstDemand : Type 0 where
   pub limits : Limits
   pub opens : (plan : Plan) (cycle : ℕ) → Opens plan cycle
   pub takes : (d : Decoder) (c : Call) → Takes d c
+  pub reads : (line buffer : List ℕ) → ReadsLine line buffer

@@ -8,3 +8,6 @@ pub mod PerformCases
 pub mod LoopInvariant
 pub mod SlowSteps
 pub mod SoundnessKept
+pub mod RecordsFit
+pub mod FrameTurns
+pub mod BitCalls

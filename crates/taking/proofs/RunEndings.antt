@@ -13,7 +13,7 @@ use Rattle.controller.specs.declared.Record.{Record}
 use Rattle.controller.specs.Records.{headOf, isFrameHead}
 use Rattle.taking.specs.declared.Ending.{Ending}
 use Rattle.taking.specs.declared.Ending.the-variants.{Done, Frame, ListFull}
-use Rattle.taking.specs.Run.{Turned, Run, LastIsFrame, ended, oneBit, oneRecord, afterCycle, runOf}
+use Rattle.taking.specs.Run.{Turned, Run, NoFrames, LastIsFrame, ended, oneBit, oneRecord, afterCycle, runOf}
 use Rattle.taking.specs.Take.{endingNumber}
 
 -- What holds of a run of some bits into a room.
@@ -21,6 +21,7 @@ pub record Ended {W : Type 0} (bits : List ℕ) (room : ℕ) (r : Run W) : Type 
   pub done : r .ending ≡ Done → r .bits ≡ length bits
   pub full : r .ending ≡ ListFull → (r .bits < length bits) × (room - length (r .words) < 2)
   pub framed : r .ending ≡ Frame → LastIsFrame (r .words)
+  pub unframed : (r .ending ≡ Frame → ⊥) → NoFrames (r .words)
   pub fits : endingNumber (r .ending) ≡ 0
 
 -- the three endings are different ones
@@ -39,6 +40,7 @@ module _ {W : Type 0} (turn : W → ℕ → Turned W) where
     done = λ _. refl;
     full = done-full;
     framed = done-frame;
+    unframed = λ _. tt;
     fits = refl;
   }
 
@@ -47,6 +49,7 @@ module _ {W : Type 0} (turn : W → ℕ → Turned W) where
     done = λ e. done-full (sym e);
     full = λ _. (omega arith, omega arith);
     framed = λ e. frame-full (sym e);
+    unframed = λ _. tt;
     fits = refl;
   }
 
@@ -56,12 +59,14 @@ module _ {W : Type 0} (turn : W → ℕ → Turned W) where
     done = λ e. ap suc (f .done e);
     full = λ e. let h = f .full e in (omega arith, h .1);
     framed = f .framed;
+    unframed = f .unframed;
     fits = f .fits;
   }
 
-  -- one record ahead
-  recorded : (bits : List ℕ) (room : ℕ) (x : Record) (r : Run W) → 2 ≤ room → Ended bits (room - 2) r → Ended bits room (oneRecord x r)
-  recorded bits room x r h f = record {
+  -- one record ahead, which is no frame's
+  recorded : (bits : List ℕ) (room : ℕ) (x : Record) (r : Run W) → isFrameHead (headOf x) ≡ false → 2 ≤ room → Ended bits (room - 2) r
+      → Ended bits room (oneRecord x r)
+  recorded bits room x r other h f = record {
     done = f .done;
     full = λ e. let g = f .full e in (g .0, omega arith);
     framed = λ e.
@@ -72,7 +77,9 @@ module _ {W : Type 0} (turn : W → ℕ → Turned W) where
           value = l .value;
           parts = ap (λ (t : List ℕ). headOf x ∷ x .value ∷ t) (l .parts);
           frame = l .frame;
+          earlier = (other, l .earlier);
         };
+    unframed = λ n. (other, f .unframed n);
     fits = f .fits;
   }
 
@@ -81,14 +88,15 @@ module _ {W : Type 0} (turn : W → ℕ → Turned W) where
   stops bits room x w f = record {
     done = λ e. done-frame (sym e);
     full = frame-full;
-    framed = λ _. record { before = []; head = headOf x; value = x .value; parts = refl; frame = f };
+    framed = λ _. record { before = []; head = headOf x; value = x .value; parts = refl; frame = f; earlier = tt };
+    unframed = λ n. absurd (n refl);
     fits = refl;
   }
 
   module _ (bits : List ℕ) (room : ℕ) (enough : 2 ≤ room) (rest : W → ℕ → Run W) (each : (v : W) (left : ℕ) → Ended bits left (rest v left)) where
     framing : (w : W) (x : Record) (b : Bool) → isFrameHead (headOf x) ≡ b → Ended bits room (oneRecord x (cond b (ended w Frame) (rest w (room - 2))))
     framing w x true e = stops bits room x w e
-    framing w x false e = recorded bits room x (rest w (room - 2)) enough (each w (room - 2))
+    framing w x false e = recorded bits room x (rest w (room - 2)) e enough (each w (room - 2))
 
     cycled : (w : W) (c : Cycle) → Ended bits room (afterCycle rest w c room)
     cycled w Silent = each w room

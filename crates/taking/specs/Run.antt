@@ -1,6 +1,6 @@
 -- A run over bits, for any state: what a taking call does once it is not refused (document 01, "A taking call").
 -- Assumes nothing.
-use mathlib.Core.Bool.{true, cond}
+use mathlib.Core.Bool.{true, false, cond}
 use mathlib.Core.Path.{_≡_}
 use mathlib.Core.List.{List, [], _∷_, _++_}
 use Prim.Native.Nat.{ℕ, suc, _-_}
@@ -25,13 +25,20 @@ pub record Run (S : Type 0) : Type 0 where
   pub words : List ℕ
   pub ending : Ending
 
--- The last record of some words is a frame's.
+-- No record of some words is a frame's: none is "of kind 24, 25 or 26".
+abbrev pub NoFrames : List ℕ → Type 0
+NoFrames [] = Unit {0}
+NoFrames (head ∷ []) = ⊥
+NoFrames (head ∷ value ∷ words) = (isFrameHead head ≡ false) × NoFrames words
+
+-- The last record of some words is a frame's, and no earlier one is.
 pub record LastIsFrame (words : List ℕ) : Type 0 where
   pub before : List ℕ
   pub head : ℕ
   pub value : ℕ
   pub parts : words ≡ before ++ (head ∷ value ∷ [])
   pub frame : isFrameHead head ≡ true
+  pub earlier : NoFrames before
 
 module _ {S : Type 0} where
   abbrev pub ended : S → Ending → Run S

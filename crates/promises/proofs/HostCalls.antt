@@ -1,0 +1,169 @@
+-- The demands for lists of the library's calls, proved: such a list is a list of taking calls on the state.
+-- Assumes nothing.
+use mathlib.Core.Path.{_≡_, _∙_, refl, sym, ap, ap₂, subst}
+use mathlib.Core.Bool.{Bool, true, false, cond, and-false}
+use mathlib.Core.List.{List, [], _∷_, _++_}
+use Prim.Native.Nat.{ℕ, suc, _*_}
+use native.Mathlib.Omega.{arith}
+use lib.Dec.{eqb, leb}
+use lib.ListN.{length, getD, take, drop}
+use borrow.Author.Tests.{lt-leb, eqb-true, ne-eqb, eq-eqb}
+use Rattle.bits.proofs.Truth.{cases, clash}
+use Rattle.limits.specs.Limits.{listUnit, storeLength, trayLength}
+use Rattle.decoder.specs.declared.Decoder.{Decoder}
+use Rattle.decoder.specs.Sound.{soundOf}
+use Rattle.taking.specs.declared.Ending.{Ending}
+use Rattle.taking.specs.declared.Ending.the-variants.{Unsound, WrongBuffers}
+use Rattle.taking.specs.Turn.{System, systemOf, decoderOf}
+use Rattle.taking.specs.Take.{Call, CallResult, call, offered, refused, takeOf, endingNumber}
+use Rattle.taking.specs.Calls.{bitsTaken, wordsStanding, allBits, allWords, Part, callOf, carriedBits, carriedWords, carriedSystem, systemAfter, resultOf}
+use Rattle.taking.proofs.Refusals.{buffers, unsound, wrong-buffers}
+use Rattle.image.specs.Image.{imageOf, stateOf, Widths}
+use Rattle.image.proofs.RoundTrip.{image-fits, read-back}
+use Rattle.kernelstill.specs.Take.{TakeResult, resultLength, resultWords, refusedCall, answered, takeResultOf}
+use Rattle.promises.specs.HostCalls.{HostCall, left, told, bitsTold, wordsTold, imageBits, imageWords, HostDemands}
+use Rattle.promises.specs.HostCalls.{Carried, HostPart, hostCall, carriedOn, next, hostBits, hostWords, hostLeft, carriedOf, HostCuts, HostWrote}
+use Rattle.promises.proofs.Refusals.{first-demand}
+use Rattle.promises.proofs.Records.{second-demand}
+use Rattle.promises.proofs.Damage.{third-demand}
+use Rattle.promises.proofs.Hosts.{host-promise}
+use Rattle.promises.proofs.WidthsKept.{widths-kept}
+
+-- The taking call that a call on an image is. One whose result has no three words is one whose first free word is past the list's end: number 4 both.
+abbrev lentBy : Bool → Call → Call
+lentBy fit c = call (c .input) (c .first) (c .count) (c .store) (c .tray) (c .list) (cond fit (c .free) (suc (length (c .list))))
+
+abbrev stateCall : HostCall → Call
+stateCall h = lentBy (eqb (length (h .result)) resultLength) (h .lent)
+
+-- What a call on an image answers, beside what the call on its state answers.
+record Agrees (c c′ : Call) (r : TakeResult) (l : CallResult) : Type 0 where
+  image : r .image ≡ imageOf (l .taken .decoder)
+  store : r .store ≡ l .store
+  tray : r .tray ≡ l .tray
+  bits : told r 0 ≡ l .taken .report .bits
+  words : take (listUnit * told r 1) (drop (c .free) (r .list)) ≡ take (listUnit * l .taken .report .records) (drop (c′ .free) (l .list))
+
+module _ (d : Decoder) (result : List ℕ) (c : Call) where
+  -- both refused, and both through
+  agree-refused : (fit : Bool) (n : ℕ) (e : Ending) → eqb n 0 ≡ false
+      → Agrees c (lentBy fit c) (refusedCall n (imageOf d) result c) (refused d (lentBy fit c) e)
+  agree-refused fit n e some = record { image = refl; store = refl; tray = refl; bits = rw some; words = rw some }
+
+  agree-through : (l : CallResult) → eqb (endingNumber (l .taken .report .ending)) 0 ≡ true → Agrees c c (answered (imageOf d) result l) l
+  agree-through l fit = record { image = rw fit; store = refl; tray = refl; bits = rw fit; words = rw fit }
+
+  -- by the call on the state, where the result has three words
+  agree-by : (number : Bool) → eqb (endingNumber (takeOf d c .taken .report .ending)) 0 ≡ number → Agrees c c (answered (imageOf d) result (takeOf d c)) (takeOf d c)
+  agree-by true e = agree-through (takeOf d c) e
+  agree-by false e =
+      let takes = first-demand .takes d c in
+      let rejected = takes .rejected (ap (λ n. eqb n 0) (sym (takes .number)) ∙ e) in
+      let some : eqb (endingNumber (rejected .0)) 0 ≡ false =
+          ap (λ (l : CallResult). eqb (endingNumber (l .taken .report .ending)) 0) (sym (rejected .1)) ∙ e in
+      subst (λ (l : CallResult). Agrees c c (answered (imageOf d) result l) l) (sym (rejected .1))
+      (record { image = rw some; store = refl; tray = refl; bits = rw some; words = rw some })
+
+  -- and by the state's soundness, where it has not
+  refused-by : (sound : Bool) → soundOf d ≡ sound → Widths d → eqb (length result) resultLength ≡ false
+      → Agrees c (lentBy false c) (takeResultOf (imageOf d) result c) (takeOf d (lentBy false c))
+  unfolding takeResultOf
+  refused-by false s w e =
+      rw (image-fits d w, read-back d w, s, unsound d (lentBy false c) s) (agree-refused false 3 Unsound refl)
+  refused-by true s w e =
+      rw (image-fits d w, read-back d w, s, e, wrong-buffers d (lentBy false c) s past) (agree-refused false 4 WrongBuffers refl)
+    where
+      past : buffers (lentBy false c) ≡ false
+      past = rw (lt-leb (suc (length (c .list))) (length (c .list)) (omega arith), and-false, and-false)
+
+  agrees : (fit : Bool) → eqb (length result) resultLength ≡ fit → Widths d → Agrees c (lentBy fit c) (takeResultOf (imageOf d) result c) (takeOf d (lentBy fit c))
+  agrees true e w =
+      rw (host-promise .same-call d w result (eqb-true (length result) resultLength e) c)
+      (agree-by (eqb (endingNumber (takeOf d c .taken .report .ending)) 0) refl)
+  agrees false e w = refused-by (soundOf d) refl w e
+
+same : (d : Decoder) (h : HostCall) → Widths d → Agrees (h .lent) (stateCall h) (left (imageOf d) h) (takeOf d (stateCall h))
+same d h w = agrees d (h .result) (h .lent) (eqb (length (h .result)) resultLength) refl w
+
+-- Lists of calls, any buffers at each.
+abbrev stateCalls : List HostCall → List Call
+stateCalls [] = []
+stateCalls (h ∷ hs) = stateCall h ∷ stateCalls hs
+
+same-bits : (hs : List HostCall) (d : Decoder) → Widths d → imageBits (imageOf d) hs ≡ allBits d (stateCalls hs)
+unfolding imageBits allBits
+same-bits [] d w = refl
+same-bits (h ∷ hs) d w =
+    let a = same d h w in
+    let after : Decoder = takeOf d (stateCall h) .taken .decoder in
+    ap₂ _++_ (ap (λ n. take n (offered (h .lent))) (a .bits))
+    (ap (λ i. imageBits i hs) (a .image) ∙ same-bits hs after (widths-kept d (stateCall h) w))
+
+same-words : (hs : List HostCall) (d : Decoder) → Widths d → imageWords (imageOf d) hs ≡ allWords d (stateCalls hs)
+unfolding imageWords allWords
+same-words [] d w = refl
+same-words (h ∷ hs) d w =
+    let a = same d h w in
+    let after : Decoder = takeOf d (stateCall h) .taken .decoder in
+    ap₂ _++_ (a .words) (ap (λ i. imageWords i hs) (a .image) ∙ same-words hs after (widths-kept d (stateCall h) w))
+
+-- Lists of calls, store and tray carried over.
+abbrev statePart : HostPart → Part
+statePart p = record {
+  input = p .part .input;
+  first = p .part .first;
+  count = p .part .count;
+  list = p .part .list;
+  free = cond (eqb (length (p .result)) resultLength) (p .part .free) (suc (length (p .part .list)));
+}
+
+abbrev stateParts : List HostPart → List Part
+stateParts [] = []
+stateParts (p ∷ ps) = statePart p ∷ stateParts ps
+
+abbrev imaged : System → Carried
+imaged s = carriedOf (decoderOf s) (s .machine .store) (s .machine .tray)
+
+record SameCarried (s : System) (ps : List HostPart) : Type 0 where
+  bits : hostBits (imaged s) ps ≡ carriedBits s (stateParts ps)
+  words : hostWords (imaged s) ps ≡ carriedWords s (stateParts ps)
+  left-over : hostLeft (imaged s) ps ≡ imaged (carriedSystem s (stateParts ps))
+
+same-carried : (ps : List HostPart) (s : System) → Widths (decoderOf s) → SameCarried s ps
+unfolding hostBits hostWords hostLeft carriedBits carriedWords carriedSystem
+same-carried [] s w = record { bits = refl; words = refl; left-over = refl }
+same-carried (p ∷ ps) s w =
+    let a = same (decoderOf s) (hostCall (imaged s) p) w in
+    let after : System = systemAfter (resultOf s (statePart p)) in
+    let on : next (imaged s) p ≡ imaged after = λ i. record { image = a .image i; store = a .store i; tray = a .tray i } in
+    let rest = same-carried ps after (widths-kept (decoderOf s) (callOf s (statePart p)) w) in
+    record {
+      bits = ap₂ _++_ (ap (λ n. take n (offered (hostCall (imaged s) p .lent))) (a .bits)) (ap (λ k. hostBits k ps) on ∙ rest .bits);
+      words = ap₂ _++_ (a .words) (ap (λ k. hostWords k ps) on ∙ rest .words);
+      left-over = ap (λ k. hostLeft k ps) on ∙ rest .left-over;
+    }
+
+cuts : (d : Decoder) (store tray : List ℕ) → Widths d → HostCuts (carriedOf d store tray)
+cuts d store tray w ps qs e =
+    let s = systemOf d store tray in
+    let p = same-carried ps s w in
+    let q = same-carried qs s w in
+    let same = second-demand .cuts s (stateParts ps) (stateParts qs) (sym (p .bits) ∙ e ∙ q .bits) in
+    (p .words ∙ same .0 ∙ sym (q .words), p .left-over ∙ ap imaged (same .1) ∙ sym (q .left-over))
+
+pub host-demands : HostDemands
+host-demands = record {
+  cuts = cuts;
+  damage = λ d clean damaged items trailing k w r.
+      let wrote =
+          third-demand d (stateCalls clean) (stateCalls damaged) items trailing k (record {
+            stream = r .stream;
+            took-clean = sym (same-bits clean d w) ∙ r .took-clean;
+            took-damaged = sym (same-bits damaged d w) ∙ r .took-damaged;
+          }) in
+      record {
+        clean-words = same-words clean d w ∙ wrote .clean-words;
+        damaged-words = same-words damaged d w ∙ wrote .damaged-words;
+        replaced = wrote .replaced;
+      };
+}

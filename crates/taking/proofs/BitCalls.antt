@@ -1,0 +1,75 @@
+-- Any bits that the clock has room for can be taken: a call for each bit, with buffers of its own.
+-- Assumes nothing.
+use mathlib.Core.Path.{_≡_, _∙_, refl, ap, ap₂}
+use mathlib.Core.List.{List, [], _∷_, _++_}
+use Prim.Native.Nat.{ℕ, suc, _+_, _*_, _<_, _≤_}
+use native.Mathlib.Omega.{arith}
+use lib.Dec.{T, ltb, ltb→lt}
+use lib.ListN.{length, replicate}
+use borrow.Author.Tests.{le-leb}
+use Rattle.bits.specs.Bits.{bitOf}
+use Rattle.bits.proofs.Truth.{holds-true, choice, and-left, and-right}
+use Rattle.bits.proofs.BitRanges.{binary, binary-append, bits-binary}
+use Rattle.controller.specs.declared.Cycle.{Cycle}
+use Rattle.controller.specs.declared.Cycle.the-variants.{Silent, Recorded}
+use Rattle.controller.specs.Records.{headOf, isFrameHead}
+use Rattle.decoder.specs.declared.Decoder.{Decoder}
+use Rattle.limits.specs.Limits.{clockLimit, storeLength, trayLength}
+use Rattle.decoder.specs.Sound.{soundOf}
+use Rattle.taking.specs.Run.{Run, Turned, afterCycle, runOf, stateAfter}
+use Rattle.taking.specs.Turn.{System, decoderOf, turnOf}
+use Rattle.taking.specs.Take.{Call, CallResult, call, lent, takenOf, takeOf}
+use Rattle.taking.specs.Calls.{Part, callOf, resultOf, systemAfter, bitsTaken, allBits, carriedBits}
+use Rattle.taking.proofs.CallLists.{call-kept}
+use Rattle.taking.proofs.Refusals.{taken}
+use Rattle.taking.proofs.SoundnessKept.{take-sound}
+
+-- The bit is the highest of a byte; the list has room for one record.
+abbrev pub callFor : ℕ → Call
+callFor bit = call (bit * 128 ∷ []) 0 1 (replicate storeLength 0) (replicate trayLength 0) (0 ∷ 0 ∷ []) 0
+
+abbrev pub callsFor : List ℕ → List Call
+callsFor [] = []
+callsFor (bit ∷ bits) = callFor bit ∷ callsFor bits
+
+-- A run of one bit takes it.
+module _ {S : Type 0} (turn : S → ℕ → Turned S) where
+  after-none : (s : S) (c : Cycle) → afterCycle (runOf turn []) s c 2 .bits ≡ 0
+  after-none s Silent = refl
+  after-none s (Recorded e) = choice (λ (r : Run S). r .bits ≡ 0) (isFrameHead (headOf e)) (λ _. refl) (λ _. refl)
+
+  one-taken : (s : S) (bit : ℕ) → runOf turn (bit ∷ []) s 2 .bits ≡ 1
+  one-taken s bit = ap suc (after-none (turn s bit .state) (turn s bit .cycle))
+
+module _ (d : Decoder) (bit : ℕ) (sound : T (soundOf d)) (low : bit < 2) (room : d .next + 1 ≤ clockLimit) where
+  call-taken : takeOf d (callFor bit) .taken .report .bits ≡ 1
+  unfolding takenOf
+  call-taken =
+      ap (λ (l : CallResult). l .taken .report .bits)
+      (taken d (callFor bit) (holds-true (soundOf d) sound) refl refl (le-leb (d .next + 1) clockLimit room))
+      ∙ ap (λ n. 0 + n) (one-taken turnOf (lent d (callFor bit)) (bitOf (bit * 128 ∷ []) 0))
+
+  takes-bit : bitsTaken d (callFor bit) ≡ bit ∷ []
+  takes-bit = rw call-taken (ap (λ b. b ∷ []) (omega arith))
+
+  next-cycle : takeOf d (callFor bit) .taken .decoder .next ≡ d .next + 1
+  unfolding turnOf
+  next-cycle = ap (λ (s : System). s .machine .next) (call-kept d (callFor bit) .system ∙ ap (stateAfter turnOf (lent d (callFor bit))) takes-bit)
+
+pub calls-take : (bits : List ℕ) (d : Decoder) → T (binary bits) → T (soundOf d) → d .next + length bits ≤ clockLimit → allBits d (callsFor bits) ≡ bits
+unfolding allBits
+calls-take [] d b s h = refl
+calls-take (bit ∷ bits) d b s h =
+    let next : Decoder = takeOf d (callFor bit) .taken .decoder in
+    let low = ltb→lt bit 2 (and-left (ltb bit 2) (binary bits) b) in
+    let one = next-cycle d bit s low (omega arith) in
+    ap₂ _++_ (takes-bit d bit s low (omega arith)) (calls-take bits next (and-right (ltb bit 2) (binary bits) b) (take-sound d (callFor bit) s) (omega arith))
+
+-- The bits of a list of calls are bits.
+pub carried-binary : (s : System) (ps : List Part) → T (binary (carriedBits s ps))
+unfolding carriedBits
+carried-binary s [] = tt
+carried-binary s (p ∷ ps) =
+    let after : System = systemAfter (resultOf s p) in
+    binary-append (bitsTaken (decoderOf s) (callOf s p)) (carriedBits after ps)
+    (bits-binary (p .input) (resultOf s p .taken .report .bits) (p .count) (p .first)) (carried-binary after ps)
