@@ -5,3 +5,4 @@ pub mod Damage
 pub mod Hosts
 pub mod WidthsKept
 pub mod HostCalls
+pub mod Programs

@@ -4,3 +4,4 @@ pub mod Records
 pub mod Damage
 pub mod Hosts
 pub mod HostCalls
+pub mod Programs
