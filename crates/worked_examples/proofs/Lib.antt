@@ -1,3 +1,3 @@
-pub mod MarkedStreams
+pub mod WorkedExamples
 pub mod Counters
 pub mod Edges

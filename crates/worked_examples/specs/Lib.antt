@@ -1,4 +1,14 @@
+pub mod CommandBits
+pub mod Cells
+pub mod Example
 pub mod StreamTable
-pub mod MarkedStreams
+pub mod CommandTable
+pub mod RegisterTable
+pub mod FifoTable
+pub mod CounterTable
+pub mod FrameTable
+pub mod SoundTable
+pub mod CallTable
+pub mod WorkedExamples
 pub mod Counters
 pub mod Edges

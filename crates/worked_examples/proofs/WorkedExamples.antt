@@ -1,0 +1,29 @@
+-- The worked examples, computed.
+-- Assumes nothing.
+use mathlib.Core.Path.{refl}
+use Rattle.recogniser.specs.Step.{stepOf}
+use Rattle.frames.specs.Tray.{trayOf}
+use Rattle.registers.specs.Plan.{planFits}
+use Rattle.registers.specs.Sound.{everyFrom, pointersFit, missingZero}
+use Rattle.registers.specs.Fifos.{writeOf}
+use Rattle.controller.specs.Commands.{actOf}
+use Rattle.decoder.specs.Fit.{fitOf}
+use Rattle.decoder.specs.Sound.{soundOf}
+use Rattle.taking.specs.Turn.{turnOf}
+use Rattle.taking.specs.Take.{takenOf, takeOf}
+use Rattle.image.specs.Image.{imageOf, stateOf}
+use Rattle.worked_examples.specs.WorkedExamples.{WorkedExamples}
+
+pub worked-examples : WorkedExamples
+unfolding stepOf fitOf trayOf planFits everyFrom pointersFit missingZero writeOf actOf soundOf turnOf takenOf takeOf imageOf stateOf
+worked-examples =
+    record {
+      marked = refl;
+      commands-give = refl;
+      registers-give = refl;
+      fifos-give = refl;
+      counters-give = refl;
+      frames-give = refl;
+      sound-gives = refl;
+      calls-give = refl;
+    }
