@@ -1,14 +1,12 @@
 -- What a taking call is lent, its refusals and its endings (document 01, "A taking call": the refusal table, numbers 3 to 6).
 -- Assumes nothing.
-use mathlib.Core.Path.{_≡_}
-use mathlib.Core.List.{List, [], _∷_, map}
+use mathlib.Core.List.{List, [], _∷_}
 use Prim.Native.Nat.{ℕ}
 use lib.ListN.{replicate}
-use Rattle.decoder.specs.declared.Decoder.{Decoder}
 use Rattle.taking.specs.Take.{Call, call, takeOf}
 use Rattle.image.specs.Image.{stateOf}
 use Rattle.worked_examples.specs.Cells.{Cell, next, runMode, shift}
-use Rattle.worked_examples.specs.Example.{Buffers, opening, putAll, answerOf, done, full, refused}
+use Rattle.worked_examples.specs.Example.{opening, putAll, answerOf, done, full, refused}
 
 -- What a call is lent: the input, its first bit and count; the words of the store and the bytes of the tray; the list and its first free word.
 pub record Lent : Type 0 where
@@ -96,6 +94,3 @@ table =
     ∷ callRow running (lent lv1s 0 17 2048 8191 sevens 0) (refused 4) sevens
     ∷ callRow (next 0x1000000000000 ∷ []) (lent lv1s 0 17 2048 8192 sevens 0) (refused 5) sevens
     ∷ []
-
-abbrev pub GivesCalls : Type 0
-GivesCalls = map callShown table ≡ map callExpected table

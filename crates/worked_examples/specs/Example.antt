@@ -1,7 +1,6 @@
 -- A worked example: a state and buffers in numbers, bits on the line, and what a taking call then answers and leaves, in numbers.
 -- Assumes nothing.
-use mathlib.Core.Path.{_≡_}
-use mathlib.Core.List.{List, [], _∷_, map}
+use mathlib.Core.List.{List, [], _∷_}
 use Prim.Native.Nat.{ℕ}
 use lib.ListN.{length, getD, set, replicate}
 use Rattle.decoder.specs.declared.Decoder.{Decoder}
@@ -10,6 +9,7 @@ use Rattle.taking.specs.Take.{Call, call, takeOf, endingNumber}
 use Rattle.taking.specs.Calls.{wordsStanding}
 use Rattle.image.specs.Image.{imageOf, stateOf}
 use Rattle.kernelstill.specs.Take.{resultWords}
+use Rattle.worked_examples.specs.Table.{Table}
 use Rattle.worked_examples.specs.CommandBits.{packed}
 use Rattle.worked_examples.specs.Cells.{Place, image-at, store-at, tray-at, Cell}
 
@@ -104,6 +104,6 @@ shown r = shownFrom (putAll (r .before) opening) r
 abbrev pub expected : Row → Shown
 expected r = record { answer = r .answer; words = r .words; after = numbers (r .after) }
 
--- Every row of a table, together.
-abbrev pub Gives : List Row → Type 0
-Gives table = map shown table ≡ map expected table
+-- A table of such rows, and how many it has.
+abbrev pub Gives : ℕ → List Row → Type 0
+Gives = Table shown expected

@@ -1,6 +1,9 @@
 -- Frames: their lengths by CNT, their bits in the tray, and unsteady groups (document 01, "Slow commands", "What commands do" and "A record").
 -- Assumes nothing.
-use mathlib.Core.List.{List, [], _∷_, _++_}
+use mathlib.Core.Path.{_≡_}
+use mathlib.Core.List.{List, [], _∷_, _++_, map}
+use Rattle.frames.specs.Tray.{partOf}
+use Rattle.controller.specs.Records.{frameBitsOf}
 use Rattle.worked_examples.specs.CommandBits.{line, eightfold, lv1, wrRegister, wrFrontEnd, rdFrontEnd, wrReceiver}
 use Rattle.worked_examples.specs.Cells.{phase, command, count, register, byte}
 use Rattle.worked_examples.specs.Example.{Row, row, frame}
@@ -38,3 +41,12 @@ table =
     ∷ row (register 5 0xFFFF ∷ phase 4 ∷ command 4 ∷ count 65975 ∷ []) (line "0") (frame 1 1) (0x2401 ∷ 0x00381FFF ∷ []) (phase 0 ∷ count 0 ∷ [])
     ∷ row (register 5 0xFFFF ∷ phase 4 ∷ command 6 ∷ count 65527 ∷ []) (line "1") (frame 1 1) (0x2601 ∷ 0x0000FFF8 ∷ []) (byte 8190 1 ∷ [])
     ∷ []
+
+-- "The frame is handed back as the part of the tray that it fills"; "a count beyond the tray's bits gives the empty part": 0, 1, 8, 9, 24 and 25 bits of
+-- a tray of three bytes. And the count itself, by kind and value.
+pub record FrameParts : Type 0 where
+  pub parts : map (partOf (1 ∷ 2 ∷ 3 ∷ [])) (0 ∷ 1 ∷ 8 ∷ 9 ∷ 24 ∷ 25 ∷ [])
+      ≡ [] ∷ (1 ∷ []) ∷ (1 ∷ []) ∷ (1 ∷ 2 ∷ []) ∷ (1 ∷ 2 ∷ 3 ∷ []) ∷ [] ∷ []
+  pub front-end : frameBitsOf 0x24 0x00080003 ≡ 11
+  pub front-end-read : frameBitsOf 0x25 0x00381FFF ≡ 8247
+  pub receiver : frameBitsOf 0x26 0x0000FFF8 ≡ 65528

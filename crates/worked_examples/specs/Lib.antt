@@ -1,3 +1,4 @@
+pub mod Table
 pub mod CommandBits
 pub mod Cells
 pub mod Example
@@ -9,6 +10,9 @@ pub mod CounterTable
 pub mod FrameTable
 pub mod SoundTable
 pub mod CallTable
+pub mod OpeningTable
+pub mod HostTable
+pub mod TextTable
 pub mod WorkedExamples
 pub mod Counters
 pub mod Edges

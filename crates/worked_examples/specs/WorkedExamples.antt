@@ -1,8 +1,7 @@
--- The worked examples: the taking call's definition gives every row of every table, and the tables have this many rows.
+-- The worked examples: the definitions give every row of every table, and the tables have this many rows.
 -- Assumes nothing.
-use mathlib.Core.Path.{_≡_}
-use mathlib.Core.List.{[], _∷_}
-use lib.ListN.{length}
+use Rattle.worked_examples.specs.Table.{Table}
+use Rattle.worked_examples.specs.Example.{Gives}
 use Rattle.worked_examples.specs.StreamTable as streams
 use Rattle.worked_examples.specs.CommandTable as commands
 use Rattle.worked_examples.specs.RegisterTable as registers
@@ -11,19 +10,34 @@ use Rattle.worked_examples.specs.CounterTable as counters
 use Rattle.worked_examples.specs.FrameTable as frames
 use Rattle.worked_examples.specs.SoundTable as sound
 use Rattle.worked_examples.specs.CallTable as calls
-use Rattle.worked_examples.specs.Example.{Gives}
-use Rattle.worked_examples.specs.CallTable.{GivesCalls}
+use Rattle.worked_examples.specs.OpeningTable as openings
+use Rattle.worked_examples.specs.HostTable as hosts
+use Rattle.worked_examples.specs.TextTable as texts
 
 -- The marked streams, all rows together.
 abbrev pub MarkedStreams : Type 0
-MarkedStreams = Gives streams.table
+MarkedStreams = Gives 14 streams.table
 
-pub record WorkedExamples : Type 0 where
+-- The taking call.
+pub record TakingExamples : Type 0 where
   pub marked : MarkedStreams
-  pub commands-give : Gives commands.table
-  pub registers-give : Gives registers.table
-  pub fifos-give : Gives fifos.table
-  pub counters-give : Gives counters.table
-  pub frames-give : Gives frames.table
-  pub sound-gives : Gives sound.table
-  pub calls-give : GivesCalls
+  pub commands-give : Gives 18 commands.table
+  pub registers-give : Gives 14 registers.table
+  pub fifos-give : Gives 10 fifos.table
+  pub counters-give : Gives 8 counters.table
+  pub frames-give : Gives 15 frames.table
+  pub sound-gives : Gives 63 sound.table
+  pub calls-give : Table calls.callShown calls.callExpected 27 calls.table
+  pub parts-give : frames.FrameParts
+
+-- Openings, the library for hosts, and the lines printed and read.
+pub record OpeningExamples : Type 0 where
+  pub openings-give : Table openings.openingShown openings.openingExpected 17 openings.table
+
+pub record HostExamples : Type 0 where
+  pub hosts-give : Table hosts.hostShown hosts.hostExpected 13 hosts.table
+  pub image : hosts.HostImage
+
+pub record TextExamples : Type 0 where
+  pub printed : Table texts.textShown texts.textExpected 10 texts.table
+  pub read : Table texts.hexShown texts.hexExpected 18 texts.hexTable
