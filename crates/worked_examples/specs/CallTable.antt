@@ -56,6 +56,7 @@ lv1s = 0b11101111 ∷ 0b01000000 ∷ []
 abbrev running : List Cell
 running = runMode 1 ∷ []
 
+-- Each call is lent input, first bit and count; the lengths of store and tray; list and first free word.
 abbrev pub table : List CallRow
 table =
     -- "from its first free word on": 'done' with every bit taken, though the list is full then; 'list full' when bits remain

@@ -13,6 +13,7 @@ use Rattle.image.specs.Fields.{phaseNumber}
 use Rattle.image.specs.Image.{imageOf, stateOf}
 use Rattle.kernelstill.specs.Take.{takeResultOf}
 use Rattle.worked_examples.specs.CommandBits.{packed, lv1, enDataTake, wrFrontEnd}
+use Rattle.worked_examples.specs.Example.{opening}
 
 -- A state whose fields all differ, but for the flags; and its image.
 abbrev pub someState : Decoder
@@ -76,9 +77,8 @@ hostShown r =
 abbrev pub hostExpected : HostRow → ℕ × List ℕ
 hostExpected r = (r .number, r .after)
 
--- The default opening at cycle 0.
 abbrev start : List ℕ
-start = 1 ∷ 0x007F ∷ 0 ∷ 2 ∷ 5 ∷ replicate 63 0
+start = opening .image
 
 abbrev nines : List ℕ
 nines = 9 ∷ 9 ∷ 9 ∷ []

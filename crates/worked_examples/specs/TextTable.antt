@@ -5,10 +5,11 @@ use mathlib.Core.List.{List, [], _∷_, _++_}
 use Prim.Native.Char.{code}
 use Prim.Native.Nat.{ℕ}
 use Prim.Native.String.{String}
-use lib.ListN.{replicate}
+use lib.ListN.{take, replicate}
 use Rattle.output.specs.Ascii.{ascii}
 use Rattle.hexlines.specs.Line.{lineMeaning}
 use Rattle.layout.specs.ListingLines.{refusedLine}
+use Rattle.layout.specs.StateLines.{wordLine}
 use Rattle.image.specs.Image.{stateOf}
 use Rattle.listing.specs.Records.{recordsText}
 use Rattle.listing.specs.State.{stateText}
@@ -42,7 +43,7 @@ tray = 0x0F ∷ 0xA0 ∷ 0x3C ∷ replicate 8189 0
 abbrev someBuffers : Buffers
 someBuffers =
     putAll (register 0 0xF8BF ∷ register 2 0x8001 ∷ register 6 0xABCD ∷ l1id 0x1A ∷ base 0x28 ∷ runMode 1 ∷ wlv1 1 ∷ wslw 1
-    ∷ writePointer 0 1 ∷ readPointer 1 2 ∷ writePointer 15 127 ∷ readPointer 15 10 ∷ word 0 1 0x12345 ∷ word 1 0 1 ∷ word 15 127 0x7FFFFFF ∷ [])
+    ∷ writePointer 0 1 ∷ readPointer 1 2 ∷ writePointer 15 127 ∷ readPointer 15 10 ∷ word 0 1 0x12345 ∷ word 1 0 1 ∷ [])
     opening
 
 abbrev pub table : List TextRow
@@ -62,14 +63,16 @@ table =
     -- "'!', the number in two digits, a space, the line's number from 1 in eight"
     ∷ prints (refusedLine 7 1) ("!07 00000001" ∷ [])
     ∷ prints (refusedLine 8 0x89ABCDEF) ("!08 89ABCDEF" ∷ [])
-    -- the lines of the state (ours): registers as they read, counters, RunMode, the pointers of each FIFO, and the FIFO words that are not 0
-    ∷ prints (stateText (stateOf (someBuffers .image)) (someBuffers .store))
+    -- the lines of the state (ours): registers as they read, counters, RunMode, the pointers of each FIFO, and the FIFO words that are not 0,
+    -- here of two FIFOs
+    ∷ prints (stateText (stateOf (someBuffers .image)) (take 256 (someBuffers .store)))
     ("register 0 FDBF" ∷ "register 1 0000" ∷ "register 2 8001" ∷ "register 3 0000" ∷ "register 4 0000" ∷ "register 5 0000" ∷ "register 6 ABCD"
     ∷ "l1id 1A" ∷ "base 000000000028" ∷ "runmode 1"
     ∷ "pointers 0 01 00" ∷ "pointers 1 00 02" ∷ "pointers 2 00 00" ∷ "pointers 3 00 00" ∷ "pointers 4 00 00" ∷ "pointers 5 00 00"
     ∷ "pointers 6 00 00" ∷ "pointers 7 00 00" ∷ "pointers 8 00 00" ∷ "pointers 9 00 00" ∷ "pointers A 00 00" ∷ "pointers B 00 00"
     ∷ "pointers C 00 00" ∷ "pointers D 00 00" ∷ "pointers E 00 00" ∷ "pointers F 7F 0A"
-    ∷ "word 0 01 00012345" ∷ "word 1 00 00000001" ∷ "word F 7F 07FFFFFF" ∷ [])
+    ∷ "word 0 01 00012345" ∷ "word 1 00 00000001" ∷ [])
+    ∷ prints (wordLine 15 127 0x7FFFFFF) ("word F 7F 07FFFFFF" ∷ [])
     ∷ []
 
 -- A row: the characters of a hexadecimal line; its refusal number; its bytes.

@@ -39,5 +39,5 @@ pub record HostExamples : Type 0 where
   pub image : hosts.HostImage
 
 pub record TextExamples : Type 0 where
-  pub printed : Table texts.textShown texts.textExpected 10 texts.table
+  pub printed : Table texts.textShown texts.textExpected 11 texts.table
   pub read : Table texts.hexShown texts.hexExpected 18 texts.hexTable
