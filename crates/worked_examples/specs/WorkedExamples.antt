@@ -23,7 +23,7 @@ pub record TakingExamples : Type 0 where
   pub marked : MarkedStreams
   pub commands-give : Gives 18 commands.table
   pub registers-give : Gives 14 registers.table
-  pub fifos-give : Gives 10 fifos.table
+  pub fifos-give : Gives 11 fifos.table
   pub counters-give : Gives 8 counters.table
   pub frames-give : Gives 15 frames.table
   pub sound-gives : Gives 63 sound.table
