@@ -6,7 +6,7 @@ use lib.ListN.{replicate}
 use Rattle.taking.specs.Take.{Call, call, takeOf}
 use Rattle.image.specs.Image.{stateOf}
 use Rattle.worked_examples.specs.Cells.{Cell, next, runMode, shift}
-use Rattle.worked_examples.specs.Example.{opening, putAll, answerOf, done, full, refused}
+use Rattle.worked_examples.specs.Example.{opening, putAll, answerOf, done, frame, full, refused}
 
 -- What a call is lent: the input, its first bit and count; the words of the store and the bytes of the tray; the list and its first free word.
 pub record Lent : Type 0 where
@@ -65,6 +65,8 @@ table =
     ∷ callRow running (lent lv1s 0 10 2048 8192 sevens 2) (full 5 1) (7 ∷ 7 ∷ 0x040105 ∷ 0x0004 ∷ 7 ∷ [])
     ∷ callRow running (lent lv1s 0 1 2048 8192 sevens 4) (full 0 0) sevens
     ∷ callRow running (lent lv1s 0 1 2048 8192 sevens 3) (done 1 0) sevens
+    -- a frame's record that fills the list: WrFrontEnd with CNT 0, and a bit more
+    ∷ callRow [] (lent (0b10110101 ∷ 0b10100000 ∷ 0 ∷ []) 0 18 2048 8192 (7 ∷ 7 ∷ []) 0) (frame 17 1) (0x102401 ∷ 0 ∷ [])
     -- the range begins at its first bit, here the second LV1's
     ∷ callRow running (lent lv1s 5 5 2048 8192 sevens 0) (done 5 1) (0x040105 ∷ 0x0004 ∷ 7 ∷ 7 ∷ 7 ∷ [])
     -- "a count of 0 is 'done'", with no free word, and at the end of the input

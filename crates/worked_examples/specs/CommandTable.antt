@@ -2,7 +2,8 @@
 -- Assumes nothing.
 use mathlib.Core.List.{List, [], _∷_, _++_}
 use Rattle.worked_examples.specs.CommandBits.{line, field, lv1, bcr, ecr, cal, sync, slow, enDataTake, globalResetMcc, globalResetFe}
-use Rattle.worked_examples.specs.Cells.{phase, runMode, l1id, base, wlv1, wfst, wslw}
+use Rattle.worked_examples.specs.Cells.{phase, shift, command, address, count, held, first, unsteady}
+use Rattle.worked_examples.specs.Cells.{runMode, l1id, base, wlv1, wfst, wslw, register}
 use Rattle.worked_examples.specs.Example.{Row, row, done}
 
 abbrev pub table : List Row
@@ -48,6 +49,15 @@ table =
     -- "RunMode ends at the ninth header bit of any Slow": not at the eighth
     ∷ row (runMode 1 ∷ []) (line "10110 101") (done 8 0) [] (runMode 1 ∷ phase 1 ∷ [])
     ∷ row (runMode 1 ∷ []) (line "10110 1011") (done 9 0) [] (runMode 0 ∷ phase 2 ∷ [])
+    -- what the recogniser holds inside a command: the window; the bits of a body, Field 3, Field 4; the bits of Field 5, of which a read keeps none
+    ∷ row [] (line "0001011") (done 7 0) [] (phase 0 ∷ shift 0b01011 ∷ [])
+    ∷ row [] (line "10110 10") (done 7 0) [] (phase 1 ∷ count 2 ∷ shift 0b10 ∷ [])
+    ∷ row [] (line "10110 1011 101") (done 12 0) [] (phase 2 ∷ count 3 ∷ shift 0b101 ∷ [])
+    ∷ row [] (line "10110 1011 0110 01") (done 15 0) [] (phase 3 ∷ command 0b0110 ∷ count 2 ∷ shift 0b01 ∷ [])
+    ∷ row [] (line "10110 1011 0000 0101 1011") (done 21 0) [] (phase 4 ∷ command 0 ∷ address 0b0101 ∷ count 4 ∷ held 0b1011 ∷ [])
+    ∷ row [] (line "10110 1011 0001 0101 1011") (done 21 0) [] (phase 4 ∷ command 1 ∷ address 0b0101 ∷ count 4 ∷ held 0 ∷ [])
+    ∷ row [] (line "10110 1011 0011 1111 1011") (done 21 0) [] (phase 4 ∷ command 3 ∷ address 0b1111 ∷ count 4 ∷ held 0 ∷ [])
+    ∷ row (register 5 0x0008 ∷ []) (line "10110 1011 0100 0000 11110") (done 22 0) [] (phase 4 ∷ count 5 ∷ first 1 ∷ unsteady 1 ∷ [])
     -- "Other values of Field 3 are a bad Slow, recorded after Field 4": kind 2F, never acted on; the value is Field 3
     ∷ row (runMode 1 ∷ [])
     (slow "0111" 0 [] ++ (slow "1011" 0 [] ++ (slow "1100" 0 [] ++ (slow "1101" 0 [] ++ (slow "1110" 0 [] ++ slow "1111" 0b1111 [])))))

@@ -31,6 +31,8 @@ table =
     (0x202601 ∷ 16 ∷ [])
     (byte 0 0xA5 ∷ byte 1 0xF1 ∷ byte 2 0xFF ∷ [])
     ∷ row (register 5 0xE001 ∷ []) (wrReceiver (line "11111110")) (frame 25 1) (0x182601 ∷ 8 ∷ []) (byte 0 0xFE ∷ [])
+    -- a frame that goes on over a tray with ones in it: four bits of byte 0 are received, and four follow
+    ∷ row (register 5 0x0001 ∷ phase 4 ∷ command 6 ∷ count 4 ∷ byte 0 0xFF ∷ []) (line "0101") (frame 4 1) (0x032601 ∷ 8 ∷ []) (byte 0 0xF5 ∷ [])
     -- "A Field 5 of length 0 ends with Field 4"
     ∷ row (byte 0 0xFF ∷ []) (wrFrontEnd []) (frame 17 1) (0x102401 ∷ 0 ∷ []) (byte 0 0xFF ∷ [])
     ∷ row [] (rdFrontEnd []) (frame 17 1) (0x102501 ∷ 0 ∷ []) []

@@ -11,7 +11,10 @@ use Rattle.decoder.specs.declared.Decoder.{Decoder}
 use Rattle.taking.specs.Take.{call}
 use Rattle.image.specs.Fields.{phaseNumber}
 use Rattle.image.specs.Image.{imageOf, stateOf}
+use Rattle.output.specs.Ascii.{ascii}
+use Rattle.kernelstill.specs.Open.{openResult, openResultOf}
 use Rattle.kernelstill.specs.Take.{takeResultOf}
+use Rattle.kernelstill.specs.Lines.{lineResult, hexResultOf, recordResultOf}
 use Rattle.worked_examples.specs.CommandBits.{packed, lv1, enDataTake, wrFrontEnd}
 use Rattle.worked_examples.specs.Example.{opening}
 
@@ -103,6 +106,19 @@ table =
     ∷ hostRow start lv1 9 4 nines 5 nines
     ∷ hostRow (set start 5 0xFFFFFFFFFFFF) lv1 2 4 nines 6 nines
     ∷ []
+
+-- Buffers of other lengths, and a line in and out.
+pub record HostBuffers : Type 0 where
+  -- an image of 67 words: 3, or the opening's own number
+  pub open-length : openResultOf 0x007F 0 2 5 0 (replicate 67 9) ≡ openResult 3 (replicate 67 9)
+  pub open-number : openResultOf 0x007F 2 2 5 0 (replicate 67 9) ≡ openResult 1 (replicate 67 9)
+  -- a hexadecimal line wants 32 bytes of room
+  pub hex-room : hexResultOf (ascii "B5C0") (replicate 31 9) ≡ lineResult 4 (replicate 31 9)
+  pub hex-read : hexResultOf (ascii "B5C0") (replicate 32 9) ≡ lineResult 0 (0xB5 ∷ 0xC0 ∷ replicate 30 9)
+  pub hex-refused : hexResultOf (ascii "B5C") (replicate 32 9) ≡ lineResult 8 (replicate 32 9)
+  -- a record's line wants 28
+  pub line-room : recordResultOf 0x102801 0 (replicate 27 9) ≡ lineResult 4 (replicate 27 9)
+  pub line-written : recordResultOf 0x102801 0 (replicate 29 9) ≡ lineResult 0 (ascii "000000000010 28 01 00000000\n" ++ (9 ∷ []))
 
 pub record HostImage : Type 0 where
   pub image-is : imageOf someState ≡ someImage

@@ -9,11 +9,11 @@ use lib.ListN.{take, replicate}
 use Rattle.output.specs.Ascii.{ascii}
 use Rattle.hexlines.specs.Line.{lineMeaning}
 use Rattle.layout.specs.ListingLines.{refusedLine}
-use Rattle.layout.specs.StateLines.{wordLine}
+use Rattle.layout.specs.StateLines.{runmodeLine, wordLine}
 use Rattle.image.specs.Image.{stateOf}
 use Rattle.listing.specs.Records.{recordsText}
 use Rattle.listing.specs.State.{stateText}
-use Rattle.worked_examples.specs.Cells.{Cell, runMode, l1id, base, wlv1, wslw, register, writePointer, readPointer, word}
+use Rattle.worked_examples.specs.Cells.{mask, runMode, l1id, base, wlv1, wslw, register, writePointer, readPointer, word}
 use Rattle.worked_examples.specs.Example.{Buffers, opening, putAll}
 
 -- A row: what is printed, and its lines.
@@ -42,7 +42,7 @@ tray = 0x0F ∷ 0xA0 ∷ 0x3C ∷ replicate 8189 0
 -- A state with something to show in every line.
 abbrev someBuffers : Buffers
 someBuffers =
-    putAll (register 0 0xF8BF ∷ register 2 0x8001 ∷ register 6 0xABCD ∷ l1id 0x1A ∷ base 0x28 ∷ runMode 1 ∷ wlv1 1 ∷ wslw 1
+    putAll (mask 0x807F ∷ register 0 0xF8BF ∷ register 2 0x8001 ∷ register 6 0xABCD ∷ register 15 1 ∷ l1id 0x1A ∷ base 0x28 ∷ runMode 1 ∷ wlv1 1 ∷ wslw 1
     ∷ writePointer 0 1 ∷ readPointer 1 2 ∷ writePointer 15 127 ∷ readPointer 15 10 ∷ word 0 1 0x12345 ∷ word 1 0 1 ∷ [])
     opening
 
@@ -66,12 +66,13 @@ table =
     -- the lines of the state (ours): registers as they read, counters, RunMode, the pointers of each FIFO, and the FIFO words that are not 0,
     -- here of two FIFOs
     ∷ prints (stateText (stateOf (someBuffers .image)) (take 256 (someBuffers .store)))
-    ("register 0 FDBF" ∷ "register 1 0000" ∷ "register 2 8001" ∷ "register 3 0000" ∷ "register 4 0000" ∷ "register 5 0000" ∷ "register 6 ABCD"
+    ("register 0 FDBF" ∷ "register 1 0000" ∷ "register 2 8001" ∷ "register 3 0000" ∷ "register 4 0000" ∷ "register 5 0000" ∷ "register 6 ABCD" ∷ "register F 0001"
     ∷ "l1id 1A" ∷ "base 000000000028" ∷ "runmode 1"
     ∷ "pointers 0 01 00" ∷ "pointers 1 00 02" ∷ "pointers 2 00 00" ∷ "pointers 3 00 00" ∷ "pointers 4 00 00" ∷ "pointers 5 00 00"
     ∷ "pointers 6 00 00" ∷ "pointers 7 00 00" ∷ "pointers 8 00 00" ∷ "pointers 9 00 00" ∷ "pointers A 00 00" ∷ "pointers B 00 00"
     ∷ "pointers C 00 00" ∷ "pointers D 00 00" ∷ "pointers E 00 00" ∷ "pointers F 7F 0A"
     ∷ "word 0 01 00012345" ∷ "word 1 00 00000001" ∷ [])
+    ∷ prints (runmodeLine false) ("runmode 0" ∷ [])
     ∷ prints (wordLine 15 127 0x7FFFFFF) ("word F 7F 07FFFFFF" ∷ [])
     ∷ []
 

@@ -21,13 +21,13 @@ MarkedStreams = Gives 14 streams.table
 -- The taking call.
 pub record TakingExamples : Type 0 where
   pub marked : MarkedStreams
-  pub commands-give : Gives 18 commands.table
+  pub commands-give : Gives 26 commands.table
   pub registers-give : Gives 14 registers.table
   pub fifos-give : Gives 11 fifos.table
   pub counters-give : Gives 8 counters.table
-  pub frames-give : Gives 15 frames.table
+  pub frames-give : Gives 16 frames.table
   pub sound-gives : Gives 63 sound.table
-  pub calls-give : Table calls.callShown calls.callExpected 27 calls.table
+  pub calls-give : Table calls.callShown calls.callExpected 28 calls.table
   pub parts-give : frames.FrameParts
 
 -- Openings, the library for hosts, and the lines printed and read.
@@ -37,7 +37,8 @@ pub record OpeningExamples : Type 0 where
 pub record HostExamples : Type 0 where
   pub hosts-give : Table hosts.hostShown hosts.hostExpected 13 hosts.table
   pub image : hosts.HostImage
+  pub buffers : hosts.HostBuffers
 
 pub record TextExamples : Type 0 where
-  pub printed : Table texts.textShown texts.textExpected 11 texts.table
+  pub printed : Table texts.textShown texts.textExpected 12 texts.table
   pub read : Table texts.hexShown texts.hexExpected 18 texts.hexTable
