@@ -19,6 +19,7 @@ unfolding stepOf fitOf trayOf planFits everyFrom pointersFit missingZero writeOf
 taking-examples =
     record {
       marked = record { counted = refl; given = refl };
+      chip-gives = record { counted = refl; given = refl };
       commands-give = record { counted = refl; given = refl };
       registers-give = record { counted = refl; given = refl };
       fifos-give = record { counted = refl; given = refl };

@@ -3,6 +3,7 @@ pub mod CommandBits
 pub mod Cells
 pub mod Example
 pub mod StreamTable
+pub mod ChipTable
 pub mod CommandTable
 pub mod RegisterTable
 pub mod FifoTable

@@ -3,6 +3,7 @@
 use Rattle.worked_examples.specs.Table.{Table}
 use Rattle.worked_examples.specs.Example.{Gives}
 use Rattle.worked_examples.specs.StreamTable as streams
+use Rattle.worked_examples.specs.ChipTable as chip
 use Rattle.worked_examples.specs.CommandTable as commands
 use Rattle.worked_examples.specs.RegisterTable as registers
 use Rattle.worked_examples.specs.FifoTable as fifos
@@ -21,6 +22,7 @@ MarkedStreams = Gives 14 streams.table
 -- The taking call.
 pub record TakingExamples : Type 0 where
   pub marked : MarkedStreams
+  pub chip-gives : Gives 80 chip.table
   pub commands-give : Gives 26 commands.table
   pub registers-give : Gives 14 registers.table
   pub fifos-give : Gives 11 fifos.table
