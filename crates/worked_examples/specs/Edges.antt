@@ -1,4 +1,4 @@
--- The two edges (document 01, below the table of streams).
+-- The longest front-end frame (document 01, the first edge below the table of streams); the other edge is in `CallTable`.
 -- Assumes nothing.
 use mathlib.Core.Path.{_≡_}
 use Prim.Native.Nat.{ℕ, zero, suc, _+_}
@@ -7,15 +7,15 @@ use Rattle.recogniser.specs.declared.Phase.the-variants.{Field5}
 use Rattle.recogniser.specs.declared.FrameBit.{FrameBit}
 use Rattle.recogniser.specs.declared.FrameBit.the-variants.{None, At}
 use Rattle.recogniser.specs.declared.Recogniser.{Recogniser}
-use Rattle.recogniser.specs.Parts.{startOf, standing}
+use Rattle.recogniser.specs.Parts.{startOf}
 use Rattle.recogniser.specs.Fields.{lengthOf}
 use Rattle.recogniser.specs.Step.{stepOf}
 use Rattle.frames.specs.Tray.{partOf}
 use Rattle.controller.specs.Records.{frameBitsOf}
 
--- The recogniser in a WrFrontEnd's Field 5, with so many of its bits received.
-abbrev pub inField : ℕ → Recogniser
-inField count = standing (startOf Field5 0 4 0) 0 count
+-- The recogniser at the start of a WrFrontEnd's Field 5.
+abbrev pub inField5 : Recogniser
+inField5 = startOf Field5 0 4 0
 
 abbrev pub isFrameBit : FrameBit → ℕ
 isFrameBit None = 0
@@ -30,6 +30,6 @@ storedBits (suc n) cnt r = isFrameBit (stepOf r 1 cnt .event .frame) + storedBit
 -- its record tells, and their bytes. The call that takes the last cycle, and its record, are rows of `FrameTable`.
 pub record LongestFrame : Type 0 where
   pub cycles : lengthOf 4 0xFFFF ≡ 65976
-  pub stored : storedBits 65976 0xFFFF (inField 0) ≡ 8247
+  pub stored : storedBits 65976 0xFFFF inField5 ≡ 8247
   pub bits : frameBitsOf 0x24 0x00381FFF ≡ 8247
   pub bytes : length (partOf (replicate 8192 0) 8247) ≡ 1031

@@ -1,7 +1,6 @@
 -- Which states are sound, number 3 where they are not (document 01, "A taking call", the paragraph below the refusal table).
 -- Assumes nothing.
 use mathlib.Core.List.{List, [], _∷_}
-use Prim.Native.Nat.{ℕ}
 use Rattle.worked_examples.specs.Cells.{Cell, mask, csr, feen, cnt, next, phase, shift, command, address, count, held}
 use Rattle.worked_examples.specs.Cells.{runMode, base, register, writePointer, readPointer}
 use Rattle.worked_examples.specs.Example.{Row, row, done, refused}

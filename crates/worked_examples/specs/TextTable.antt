@@ -66,7 +66,8 @@ table =
     -- the lines of the state (ours): registers as they read, counters, RunMode, the pointers of each FIFO, and the FIFO words that are not 0,
     -- here of two FIFOs
     ∷ prints (stateText (stateOf (someBuffers .image)) (take 256 (someBuffers .store)))
-    ("register 0 FDBF" ∷ "register 1 0000" ∷ "register 2 8001" ∷ "register 3 0000" ∷ "register 4 0000" ∷ "register 5 0000" ∷ "register 6 ABCD" ∷ "register F 0001"
+    ("register 0 FDBF" ∷ "register 1 0000" ∷ "register 2 8001" ∷ "register 3 0000"
+    ∷ "register 4 0000" ∷ "register 5 0000" ∷ "register 6 ABCD" ∷ "register F 0001"
     ∷ "l1id 1A" ∷ "base 000000000028" ∷ "runmode 1"
     ∷ "pointers 0 01 00" ∷ "pointers 1 00 02" ∷ "pointers 2 00 00" ∷ "pointers 3 00 00" ∷ "pointers 4 00 00" ∷ "pointers 5 00 00"
     ∷ "pointers 6 00 00" ∷ "pointers 7 00 00" ∷ "pointers 8 00 00" ∷ "pointers 9 00 00" ∷ "pointers A 00 00" ∷ "pointers B 00 00"
