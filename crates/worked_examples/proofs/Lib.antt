@@ -1,3 +1,6 @@
-pub mod MarkedStreams
+pub mod Taking
+pub mod Openings
+pub mod Hosts
+pub mod Texts
 pub mod Counters
 pub mod Edges

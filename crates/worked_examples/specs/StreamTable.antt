@@ -1,47 +1,29 @@
--- The table of document 01, "Streams with their records", row by row.
+-- The table of document 01, "Streams with their records", row by row: "from cycle 0, RunMode, window 00000".
 -- Assumes nothing.
 use mathlib.Core.List.{List, [], _∷_}
-use Prim.Native.Nat.{ℕ, _+_, _*_}
-use Rattle.controller.specs.declared.Record.{Record}
-use Rattle.controller.specs.Records.{recordOf, kindLv1, kindFast, kindBadFast, kindSlow, kindBadSlow}
-use Rattle.taking.specs.declared.Ending.{Ending}
-use Rattle.taking.specs.declared.Ending.the-variants.{Done, Frame}
+use Rattle.worked_examples.specs.CommandBits.{line}
+use Rattle.worked_examples.specs.Cells.{Cell, runMode, register}
+use Rattle.worked_examples.specs.Example.{Row, row, done, frame}
 
--- "exact at t" and "flip at t": an LV1 acted on and sent, with the trigger number and, from base 0, the bunch number t.
-abbrev pub exact : ℕ → ℕ → Record
-exact l1id t = recordOf t kindLv1 0x05 (l1id * 256 + t)
+abbrev running : List Cell
+running = runMode 1 ∷ []
 
-abbrev pub flip : ℕ → ℕ → Record
-flip l1id t = recordOf t kindLv1 0x07 (l1id * 256 + t)
-
--- A row: the bits, CNT, the records, and the ending of a call that is offered the bits.
-pub record Row : Type 0 where
-  pub bits : List ℕ
-  pub cnt : ℕ
-  pub records : List Record
-  pub ending : Ending
-
-abbrev pub row : List ℕ → List Record → Row
-row bits records = record { bits = bits; cnt = 0; records = records; ending = Done }
-
-abbrev pub frameRow : List ℕ → List Record → Row
-frameRow bits records = record { bits = bits; cnt = 0; records = records; ending = Frame }
-
--- All rows have CNT 0; the last one names it.
+-- A record is "time × 65,536 + kind × 256 + flags, then a value". "Exact at t" is kind 01 with flags 05, "flip at t" with flags 07; the value of both is
+-- the trigger number × 256 and the bunch number, which is t.
 abbrev pub table : List Row
 table =
-    row (1 ∷ 1 ∷ 1 ∷ 0 ∷ 1 ∷ []) (exact 0 4 ∷ [])
-    ∷ row (1 ∷ 1 ∷ 1 ∷ 0 ∷ 0 ∷ []) (flip 0 4 ∷ [])
-    ∷ row (0 ∷ 0 ∷ 0 ∷ 1 ∷ 1 ∷ 1 ∷ 1 ∷ 0 ∷ 1 ∷ []) (exact 0 8 ∷ [])
-    ∷ row (1 ∷ 1 ∷ 1 ∷ 1 ∷ 0 ∷ []) []
-    ∷ row (1 ∷ 1 ∷ 1 ∷ 0 ∷ 1 ∷ 1 ∷ 1 ∷ 1 ∷ 0 ∷ 1 ∷ []) (exact 0 4 ∷ exact 1 9 ∷ [])
-    ∷ row (1 ∷ 1 ∷ 1 ∷ 0 ∷ 1 ∷ 1 ∷ 1 ∷ 0 ∷ 1 ∷ []) (exact 0 4 ∷ flip 1 8 ∷ [])
-    ∷ row (1 ∷ 0 ∷ 1 ∷ 1 ∷ 0 ∷ 0 ∷ 0 ∷ 0 ∷ 1 ∷ []) (recordOf 8 (kindFast 0b0001) 0x01 0 ∷ [])
-    ∷ row (1 ∷ 0 ∷ 1 ∷ 1 ∷ 0 ∷ 1 ∷ 0 ∷ 0 ∷ 1 ∷ []) (recordOf 8 kindBadFast 0x00 9 ∷ [])
-    ∷ row (1 ∷ 0 ∷ 1 ∷ 1 ∷ 1 ∷ 0 ∷ 1 ∷ 0 ∷ 0 ∷ []) (exact 0 6 ∷ [])
-    ∷ row (1 ∷ 1 ∷ 1 ∷ 1 ∷ 0 ∷ 1 ∷ 0 ∷ 0 ∷ 0 ∷ []) (exact 0 5 ∷ [])
-    ∷ row (0 ∷ 0 ∷ 1 ∷ 1 ∷ 0 ∷ 0 ∷ 1 ∷ 0 ∷ 0 ∷ []) (flip 0 6 ∷ [])
-    ∷ row (0 ∷ 0 ∷ 1 ∷ 0 ∷ 1 ∷ 0 ∷ 1 ∷ 1 ∷ 0 ∷ 1 ∷ 0 ∷ 1 ∷ 1 ∷ []) (flip 0 6 ∷ flip 1 11 ∷ [])
-    ∷ row (1 ∷ 0 ∷ 1 ∷ 1 ∷ 0 ∷ 1 ∷ 0 ∷ 1 ∷ 1 ∷ 1 ∷ 0 ∷ 1 ∷ 1 ∷ 0 ∷ 0 ∷ 0 ∷ 0 ∷ []) (recordOf 16 kindBadSlow 0x00 11 ∷ [])
-    ∷ frameRow (1 ∷ 0 ∷ 1 ∷ 1 ∷ 0 ∷ 1 ∷ 0 ∷ 1 ∷ 1 ∷ 0 ∷ 1 ∷ 0 ∷ 0 ∷ 0 ∷ 0 ∷ 0 ∷ 0 ∷ []) (recordOf 16 (kindSlow 4) 0x01 0 ∷ [])
+    row running (line "11101") (done 5 1) (0x040105 ∷ 0x0004 ∷ []) []
+    ∷ row running (line "11100") (done 5 1) (0x040107 ∷ 0x0004 ∷ []) []
+    ∷ row running (line "000111101") (done 9 1) (0x080105 ∷ 0x0008 ∷ []) []
+    ∷ row running (line "11110") (done 5 0) [] []
+    ∷ row running (line "1110111101") (done 10 2) (0x040105 ∷ 0x0004 ∷ 0x090105 ∷ 0x0109 ∷ []) []
+    ∷ row running (line "111011101") (done 9 2) (0x040105 ∷ 0x0004 ∷ 0x080107 ∷ 0x0108 ∷ []) []
+    ∷ row running (line "101100001") (done 9 1) (0x081101 ∷ 0 ∷ []) []
+    ∷ row running (line "101101001") (done 9 1) (0x081F00 ∷ 9 ∷ []) []
+    ∷ row running (line "101110100") (done 9 1) (0x060105 ∷ 0x0006 ∷ []) []
+    ∷ row running (line "111101000") (done 9 1) (0x050105 ∷ 0x0005 ∷ []) []
+    ∷ row running (line "001100100") (done 9 1) (0x060107 ∷ 0x0006 ∷ []) []
+    ∷ row running (line "0010101101011") (done 13 2) (0x060107 ∷ 0x0006 ∷ 0x0B0107 ∷ 0x010B ∷ []) []
+    ∷ row running (line "10110101110110000") (done 17 1) (0x102F00 ∷ 11 ∷ []) []
+    ∷ row (runMode 1 ∷ register 5 0 ∷ []) (line "10110101101000000") (frame 17 1) (0x102401 ∷ 0 ∷ []) []
     ∷ []

@@ -1,1 +1,1 @@
-// The marked streams and edges of document 01: a table, and the proof that the definitions give it. Nothing here runs.
+// Worked examples of document 01 and the chip paper: tables in numbers, and the proof that the definitions give them. Nothing here runs.

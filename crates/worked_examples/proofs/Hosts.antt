@@ -1,0 +1,43 @@
+-- The library for hosts in numbers, computed.
+-- Assumes nothing.
+use mathlib.Core.Path.{refl}
+use Rattle.recogniser.specs.Step.{stepOf}
+use Rattle.frames.specs.Tray.{trayOf}
+use Rattle.registers.specs.Plan.{planFits}
+use Rattle.registers.specs.Sound.{everyFrom, pointersFit, missingZero}
+use Rattle.controller.specs.Commands.{actOf}
+use Rattle.decoder.specs.Fit.{fitOf}
+use Rattle.decoder.specs.Opening.{openOf}
+use Rattle.decoder.specs.Sound.{soundOf}
+use Rattle.taking.specs.Turn.{turnOf}
+use Rattle.taking.specs.Take.{takenOf, takeOf}
+use Rattle.hexlines.specs.Line.{lineMeaning}
+use Rattle.layout.specs.Digits.{charactersOf}
+use Rattle.layout.specs.ListingLines.{numbersLine}
+use Rattle.image.specs.Image.{imageOf, stateOf, imageFits}
+use Rattle.kernelstill.specs.Open.{openResultOf}
+use Rattle.kernelstill.specs.Take.{takeResultOf}
+use Rattle.kernelstill.specs.Lines.{hexResultOf, recordResultOf}
+use Rattle.worked_examples.specs.HostTable.{HostImage, HostBuffers}
+use Rattle.worked_examples.specs.WorkedExamples.{HostExamples}
+
+host-image : HostImage
+unfolding imageOf stateOf
+host-image = record { image-is = refl; reads-as = refl; phases-are = refl }
+
+host-buffers : HostBuffers
+unfolding planFits openOf openResultOf lineMeaning hexResultOf charactersOf numbersLine recordResultOf
+host-buffers =
+    record {
+      open-length = refl;
+      open-number = refl;
+      hex-room = refl;
+      hex-read = refl;
+      hex-refused = refl;
+      line-room = refl;
+      line-written = refl;
+    }
+
+pub host-examples : HostExamples
+unfolding stepOf fitOf trayOf planFits everyFrom pointersFit missingZero actOf soundOf turnOf takenOf takeOf imageOf stateOf imageFits takeResultOf
+host-examples = record { hosts-give = record { counted = refl; given = refl }; image = host-image; buffers = host-buffers }

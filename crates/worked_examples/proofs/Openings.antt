@@ -1,0 +1,12 @@
+-- The openings' table, computed.
+-- Assumes nothing.
+use mathlib.Core.Path.{refl}
+use Rattle.registers.specs.Plan.{planFits}
+use Rattle.decoder.specs.Opening.{openOf}
+use Rattle.image.specs.Image.{imageOf}
+use Rattle.kernelstill.specs.Open.{openResultOf}
+use Rattle.worked_examples.specs.WorkedExamples.{OpeningExamples}
+
+pub opening-examples : OpeningExamples
+unfolding planFits openOf imageOf openResultOf
+opening-examples = record { openings-give = record { counted = refl; given = refl } }

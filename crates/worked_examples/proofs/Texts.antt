@@ -1,0 +1,14 @@
+-- The texts' tables, computed.
+-- Assumes nothing.
+use mathlib.Core.Path.{refl}
+use Rattle.hexlines.specs.Line.{lineMeaning}
+use Rattle.layout.specs.Digits.{charactersOf}
+use Rattle.layout.specs.ListingLines.{numbersLine, byteDigits}
+use Rattle.image.specs.Image.{stateOf}
+use Rattle.listing.specs.Records.{recordText, recordsText}
+use Rattle.listing.specs.State.{textsFrom, stateText}
+use Rattle.worked_examples.specs.WorkedExamples.{TextExamples}
+
+pub text-examples : TextExamples
+unfolding lineMeaning charactersOf numbersLine byteDigits stateOf recordText recordsText textsFrom stateText
+text-examples = record { printed = record { counted = refl; given = refl }; read = record { counted = refl; given = refl } }

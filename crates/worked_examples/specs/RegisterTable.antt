@@ -1,0 +1,58 @@
+-- Registers, the warnings in CSR, and the register plan (document 01, "What commands do", "The register plan" and "A record").
+-- Assumes nothing.
+use mathlib.Core.List.{List, [], _∷_, _++_}
+use Rattle.worked_examples.specs.CommandBits.{line, field, slow, wrRegister, rdRegister, globalResetMcc}
+use Rattle.worked_examples.specs.Cells.{mask, csr, feen, cnt, wlv1, wfst, wslw, register}
+use Rattle.worked_examples.specs.Example.{Row, row, done}
+
+-- The default plan is mask 007F, CSR 0, FEEN 2, CNT 5.
+abbrev pub table : List Row
+table =
+    -- WrRegister, kind 20, "address × 65,536 + the 16 bits that arrived"; RdRegister, kind 21, those that "were read"
+    row [] (wrRegister 1 0x1234 ++ rdRegister 1) (done 66 2)
+    (0x202001 ∷ 0x00011234 ∷ 0x412101 ∷ 0x00011234 ∷ [])
+    (register 1 0x1234 ∷ register 0 0 ∷ register 2 0 ∷ [])
+    ∷ row [] (wrRegister 6 0xFFFF ++ rdRegister 6) (done 66 2)
+    (0x202001 ∷ 0x0006FFFF ∷ 0x412101 ∷ 0x0006FFFF ∷ [])
+    (register 6 0xFFFF ∷ [])
+    -- the bits of Field 5 are no commands (1110 1110 1110 1110 has LV1 in it), and RdRegister keeps none of them
+    ∷ row (register 3 0x00FF ∷ []) (wrRegister 1 0xEEEE ++ slow "0001" 3 (field 16 0xEEEE)) (done 66 2)
+    (0x202001 ∷ 0x0001EEEE ∷ 0x412101 ∷ 0x000300FF ∷ [])
+    (register 1 0xEEEE ∷ register 3 0x00FF ∷ [])
+    -- "WrRegister to a missing address changes nothing; RdRegister of one gives 0": flags 08 alone, for 7 and 15
+    ∷ row [] (wrRegister 7 0x1234 ++ rdRegister 7) (done 66 2)
+    (0x202008 ∷ 0x00071234 ∷ 0x412108 ∷ 0x00070000 ∷ [])
+    (register 7 0 ∷ [])
+    ∷ row [] (wrRegister 15 0xFFFF ++ rdRegister 15) (done 66 2)
+    (0x202008 ∷ 0x000FFFFF ∷ 0x412108 ∷ 0x000F0000 ∷ [])
+    (register 15 0 ∷ [])
+    -- another plan, with bit n for address n: 0, 5, 10 and 15 exist and 1 does not
+    ∷ row (mask 0x8421 ∷ csr 15 ∷ feen 10 ∷ cnt 5 ∷ []) (wrRegister 0 0xFFFF ++ (wrRegister 1 0xFFFF ++ (wrRegister 15 0xFFFF ++ rdRegister 15)))
+    (done 132 4)
+    (0x202001 ∷ 0x0000FFFF ∷ 0x412008 ∷ 0x0001FFFF ∷ 0x622001 ∷ 0x000FFFFF ∷ 0x832101 ∷ 0x000FF8FF ∷ [])
+    (register 0 0xFFFF ∷ register 1 0 ∷ register 15 0xF8FF ∷ [])
+    -- CSR: "bits 8, 9, 10 .. are not writable"
+    ∷ row [] (wrRegister 0 0xFFFF ++ rdRegister 0) (done 66 2)
+    (0x202001 ∷ 0x0000FFFF ∷ 0x412101 ∷ 0x0000F8FF ∷ [])
+    (register 0 0xF8FF ∷ wlv1 0 ∷ wfst 0 ∷ wslw 0 ∷ [])
+    ∷ row (wlv1 1 ∷ []) (wrRegister 0 0x0000 ++ rdRegister 0) (done 66 2)
+    (0x202001 ∷ 0x00000000 ∷ 0x412101 ∷ 0x00000100 ∷ [])
+    (register 0 0 ∷ wlv1 1 ∷ [])
+    -- "WLV1 (LV1 with flip)" is bit 8, "WFST (bad Fast)" bit 9, "WSLW (bad Slow)" bit 10
+    ∷ row [] (line "11100" ++ rdRegister 0) (done 38 2)
+    (0x040102 ∷ 0 ∷ 0x252101 ∷ 0x00000100 ∷ [])
+    (wlv1 1 ∷ wfst 0 ∷ wslw 0 ∷ [])
+    ∷ row [] (line "10110 0000" ++ rdRegister 0) (done 42 2)
+    (0x081F00 ∷ 0 ∷ 0x292101 ∷ 0x00000200 ∷ [])
+    (wlv1 0 ∷ wfst 1 ∷ wslw 0 ∷ [])
+    ∷ row [] (slow "0111" 0 [] ++ rdRegister 0) (done 50 2)
+    (0x102F00 ∷ 7 ∷ 0x312101 ∷ 0x00000400 ∷ [])
+    (wlv1 0 ∷ wfst 0 ∷ wslw 1 ∷ [])
+    -- all three over a CSR of ones; and no warning over a CSR that stands with those bits set
+    ∷ row (register 0 0xF8FF ∷ wlv1 1 ∷ wfst 1 ∷ wslw 1 ∷ []) (rdRegister 0) (done 33 1) (0x202101 ∷ 0x0000FFFF ∷ []) []
+    ∷ row (register 0 0x0700 ∷ []) (rdRegister 0) (done 33 1) (0x202101 ∷ 0 ∷ []) []
+    -- "fall at GlobalResetMCC", which "sets registers .. to 0"
+    ∷ row (register 0 0xF8FF ∷ register 5 0x0018 ∷ wlv1 1 ∷ wfst 1 ∷ wslw 1 ∷ []) (globalResetMcc ++ rdRegister 0) (done 50 2)
+    (0x102901 ∷ 0 ∷ 0x312101 ∷ 0x00000000 ∷ [])
+    (register 0 0 ∷ register 5 0 ∷ wlv1 0 ∷ wfst 0 ∷ wslw 0 ∷ [])
+    ∷ []

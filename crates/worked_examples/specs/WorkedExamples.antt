@@ -1,0 +1,46 @@
+-- The worked examples: the definitions give every row of every table, and the tables have this many rows.
+-- Assumes nothing.
+use Rattle.worked_examples.specs.Table.{Table}
+use Rattle.worked_examples.specs.Example.{Gives}
+use Rattle.worked_examples.specs.StreamTable as streams
+use Rattle.worked_examples.specs.ChipTable as chip
+use Rattle.worked_examples.specs.CommandTable as commands
+use Rattle.worked_examples.specs.RegisterTable as registers
+use Rattle.worked_examples.specs.FifoTable as fifos
+use Rattle.worked_examples.specs.CounterTable as counters
+use Rattle.worked_examples.specs.FrameTable as frames
+use Rattle.worked_examples.specs.SoundTable as sound
+use Rattle.worked_examples.specs.CallTable as calls
+use Rattle.worked_examples.specs.OpeningTable as openings
+use Rattle.worked_examples.specs.HostTable as hosts
+use Rattle.worked_examples.specs.TextTable as texts
+
+-- The marked streams, all rows together.
+abbrev pub MarkedStreams : Type 0
+MarkedStreams = Gives 14 streams.table
+
+-- The taking call.
+pub record TakingExamples : Type 0 where
+  pub marked : MarkedStreams
+  pub chip-gives : Gives 80 chip.table
+  pub commands-give : Gives 26 commands.table
+  pub registers-give : Gives 14 registers.table
+  pub fifos-give : Gives 11 fifos.table
+  pub counters-give : Gives 8 counters.table
+  pub frames-give : Gives 16 frames.table
+  pub sound-gives : Gives 63 sound.table
+  pub calls-give : Table calls.callShown calls.callExpected 28 calls.table
+  pub parts-give : frames.FrameParts
+
+-- Openings, the library for hosts, and the lines printed and read.
+pub record OpeningExamples : Type 0 where
+  pub openings-give : Table openings.openingShown openings.openingExpected 17 openings.table
+
+pub record HostExamples : Type 0 where
+  pub hosts-give : Table hosts.hostShown hosts.hostExpected 13 hosts.table
+  pub image : hosts.HostImage
+  pub buffers : hosts.HostBuffers
+
+pub record TextExamples : Type 0 where
+  pub printed : Table texts.textShown texts.textExpected 12 texts.table
+  pub read : Table texts.hexShown texts.hexExpected 18 texts.hexTable
