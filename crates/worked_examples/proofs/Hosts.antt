@@ -11,13 +11,13 @@ use Rattle.decoder.specs.Opening.{openOf}
 use Rattle.decoder.specs.Sound.{soundOf}
 use Rattle.taking.specs.Turn.{turnOf}
 use Rattle.taking.specs.Take.{takenOf, takeOf}
-use Rattle.hexlines.specs.Line.{lineMeaning}
+use Rattle.hexlines.specs.Line.{lineMeaning, readOf, readInto}
 use Rattle.layout.specs.Digits.{charactersOf}
 use Rattle.layout.specs.ListingLines.{numbersLine}
 use Rattle.image.specs.Image.{imageOf, stateOf, imageFits}
 use Rattle.kernelstill.specs.Open.{openResultOf}
 use Rattle.kernelstill.specs.Take.{takeResultOf}
-use Rattle.kernelstill.specs.Lines.{hexResultOf, recordResultOf}
+use Rattle.kernelstill.specs.Lines.{recordResultOf}
 use Rattle.worked_examples.specs.HostTable.{HostImage, HostBuffers}
 use Rattle.worked_examples.specs.WorkedExamples.{HostExamples}
 
@@ -26,7 +26,7 @@ unfolding imageOf stateOf
 host-image = record { image-is = refl; reads-as = refl; phases-are = refl }
 
 host-buffers : HostBuffers
-unfolding planFits openOf openResultOf lineMeaning hexResultOf charactersOf numbersLine recordResultOf
+unfolding planFits openOf openResultOf lineMeaning readOf readInto charactersOf numbersLine recordResultOf
 host-buffers =
     record {
       open-length = refl;
