@@ -3,5 +3,4 @@ pub mod Frames
 pub mod Records
 pub mod Damage
 pub mod Hosts
-pub mod WidthsKept
 pub mod HostCalls

@@ -98,7 +98,8 @@ frame-taken command address frame [] bit count group unsteady m whole =
 frame-taken command address frame (next ∷ bits) bit count group unsteady m whole =
     let now : Recogniser = at command address count group unsteady in
     let e = goes-on command address frame count group unsteady m bit (lt-leb (lengthOf command (cntAt m)) (count + 1) (omega arith)) in
-    let rest = frame-taken command address frame bits next (count + 1) (groupOf group count bit) (unsteadyOf now bit) (moved command count bit m) (omega arith) in
+    let then : Machine = moved command count bit m in
+    let rest = frame-taken command address frame bits next (count + 1) (groupOf group count bit) (unsteadyOf now bit) then (omega arith) in
     record {
       time = rest .time;
       unsteady = rest .unsteady;
