@@ -76,7 +76,8 @@ module _ (P : List ℕ → Pointers → Counters → Bool → Type 0) where
     slow-keeps (Command command address value) k =
         let R : Acted → Type 0 = λ a. Holds (a .model) in
         command-cases (λ f. R (f .acted)) plan m command address value time store
-        (λ e. choice R (existsAt plan address) (λ there. k .write address (value % 2 ^ 16) (omega arith) there (or-left (eqb command 0) (eqb command 9) e)) (λ _. k .now))
+        (λ e. choice R (existsAt plan address)
+        (λ there. k .write address (value % 2 ^ 16) (omega arith) there (or-left (eqb command 0) (eqb command 9) e)) (λ _. k .now))
         (choice R (existsAt plan address) (λ _. k .now) (λ _. k .now))
         (k .push (feenOf plan m) (value % 2 ^ 27))
         (k .pop (address % 16))

@@ -19,7 +19,7 @@ use Rattle.registers.specs.Registers.{cntOf, warningBits, readOf}
 use Rattle.controller.specs.declared.Acted.{Acted}
 use Rattle.controller.specs.declared.Cycle.{Cycle}
 use Rattle.controller.specs.declared.Cycle.the-variants.{Silent, Recorded}
-use Rattle.controller.specs.Records.{flagActed, flagFlip, flagSent, flagUnsteady, wordsOf}
+use Rattle.controller.specs.Records.{flagActed, flagFlip, flagSent, wordsOf}
 use Rattle.controller.specs.Commands.{sendsOf, frameValueOf, slowOf, actOf}
 use Rattle.controller.specs.Widths.{ModelFits, SlowNarrow, Narrow, WordsFit}
 use Rattle.controller.proofs.EffectCases.{command-cases}

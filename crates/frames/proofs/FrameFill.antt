@@ -80,6 +80,7 @@ abbrev pub trayBy : Bool → ℕ → List ℕ → List ℕ → List ℕ
 trayBy one count tray [] = tray
 trayBy one count tray (bit ∷ bits) = trayBy one (count + 1) (trayOf tray (bitBy one count bit)) bits
 
+-- A tray that holds what has come of a Field 5.
 abbrev pub Held : Bool → List ℕ → List ℕ → Type 0
 Held one field tray = Holds (λ i. getD field (cyclesBy one * i) 0) (bitsIn one (length field)) tray
 
@@ -88,6 +89,7 @@ unfolding trayOf
 tray-length tray None = refl
 tray-length tray (At place bit) = stored-length tray place bit
 
+-- One cycle more: it stores its bit, or belongs to a bit that is stored.
 module _ (xs : List ℕ) (bit : ℕ) (low : bit < 2) (tray : List ℕ) where
   longer : length (xs ++ (bit ∷ [])) ≡ length xs + 1
   longer = length-append xs (bit ∷ [])
@@ -124,6 +126,7 @@ grows : (one : Bool) (n k : ℕ) → bitsIn one (n + 1) ≤ bitsIn one (n + suc 
 grows true n k = omega arith
 grows false n k = omega arith
 
+-- All cycles, one after the other.
 fills : (one : Bool) (bits xs : List ℕ) (n : ℕ) (tray : List ℕ) → length xs ≡ n → T (binary bits) → bitsIn one (n + length bits) ≤ 8 * length tray
     → Held one xs tray → Held one (xs ++ bits) (trayBy one n tray bits)
 fills one [] xs n tray e b room held = rw append-nil held

@@ -1,5 +1,4 @@
--- The tray keeps its length; a stored frame bit is read at its place, and no earlier bit and no bit of another byte changes. A later bit of its byte is 0
--- where the byte was zeroed, and else does not change.
+-- The tray keeps its length; a stored frame bit is read at its place; no bit ahead of it or of another byte changes, and a later one of its byte only to 0.
 -- Assumes nothing.
 use mathlib.Core.Bool.{Bool, true, false, cond}
 use mathlib.Core.List.{List}

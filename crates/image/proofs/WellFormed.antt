@@ -7,14 +7,15 @@ use Prim.Native.Nat.{ℕ, zero, suc, _+_, _<_, _%_}
 use native.Mathlib.Nat.{mod-lt}
 use native.Mathlib.Omega.{arith}
 use lib.Dec.{eqb}
-use lib.ListN.{length, getD, drop, length-drop}
+use lib.ListN.{length, getD, drop, replicate, length-drop}
 use lib.Seq.{drop-cons, getD-drop}
 use mir.Val.{boolByte}
 use borrow.Author.Tests.{eqb-true}
 use Rattle.bits.proofs.Truth.{both}
-use Rattle.image.specs.Fields.{whole, phaseNumber, phaseOf}
+use Rattle.image.specs.Fields.{Limit, whole, bits, phaseNumber, phaseOf}
 use Rattle.image.specs.Image.{imageLength, layout, wordLimits, imageOf, lowWords, stateOf, sameWords, imageFits, Keeps, Formed}
-use Rattle.image.proofs.LowWords.{low-keeps, low-at, low-words-same}
+use Rattle.image.specs.Image.{ArrayKeeps, Widths}
+use Rattle.image.proofs.LowWords.{low-keeps, low-at, low-words-same, length-even, even-at}
 use Rattle.image.proofs.RoundTrip.{fits-length, written-fits}
 
 -- Words that are the same are equal.
@@ -52,11 +53,13 @@ unfolding imageOf stateOf
 again image = simp (flag-word, phase-word)
 
 module _ (image : List ℕ) where
-  pub formed : imageFits image ≡ true → Formed image
+  pub read-again : imageFits image ≡ true → imageOf (stateOf image) ≡ image
   unfolding imageFits
+  read-again e = same-equal (imageOf (stateOf image)) image (both (eqb (length image) imageLength) _ e .1)
+
+  pub formed : imageFits image ≡ true → Formed image
   formed e =
-      let same : layout ∷ lowWords wordLimits 1 image ≡ image =
-      sym (again image) ∙ same-equal (imageOf (stateOf image)) image (both (eqb (length image) imageLength) _ e .1) in
+      let same : layout ∷ lowWords wordLimits 1 image ≡ image = sym (again image) ∙ read-again e in
       record {
         long = fits-length image e;
         layout-is = sym (ap (λ (l : List ℕ). getD l 0 0) same);
@@ -78,3 +81,29 @@ module _ (image : List ℕ) where
 
     pub formed-fits : imageFits image ≡ true
     formed-fits = written-fits (stateOf image) image (f .long) (sym rebuilt) refl
+
+-- What any words read as has the widths of a state.
+array-low : (l : Limit) (at : ℕ) (image : List ℕ) → ArrayKeeps l (lowWords (replicate 16 l) at image)
+array-low l at image = record { long = length-even l 16 at image; keeps = λ n h. rw (even-at l 16 at image n h) (low-keeps l (getD image (at + n) 0)) }
+
+pub read-widths : (image : List ℕ) → Widths (stateOf image)
+unfolding stateOf
+read-widths image = record {
+  numbers = (
+    omega arith,
+    (
+      omega arith,
+      (
+        omega arith,
+        (
+          omega arith,
+          (
+            tt,
+            (omega arith, (omega arith, (omega arith, (omega arith, (omega arith, (omega arith, (tt, tt))))))),
+          ),
+        ),
+      ),
+    ),
+  );
+  arrays = (array-low (bits 16) 20 image, (array-low (bits 8) 36 image, (array-low (bits 8) 52 image, tt)));
+}

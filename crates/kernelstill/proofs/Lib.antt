@@ -1,3 +1,4 @@
 pub mod OpenCases
 pub mod TakeCases
 pub mod LineCases
+pub mod WidthsKept

@@ -2,14 +2,13 @@
 -- Assumes nothing.
 use mathlib.Core.Path.{_≡_, _∙_, refl, sym, ap, subst}
 use mathlib.Core.Bool.{Bool, true, false, cond}
-use mathlib.Core.List.{List, [], _∷_, _++_}
-use Prim.Native.Nat.{ℕ, zero, suc, _+_, _*_, _/_, _%_, _^_, _<_, _≤_}
+use mathlib.Core.List.{List, [], _∷_}
+use Prim.Native.Nat.{ℕ, _+_, _*_, _/_, _^_, _<_, _≤_}
 use native.Mathlib.Omega.{arith}
 use lib.Dec.{eqb, leb, T}
-use lib.ListN.{length, getD}
+use lib.ListN.{length}
 use borrow.Author.Tests.{eqb-true, eqb-false, leb-true, lt-leb, le-leb, ne-eqb}
 use Rattle.limits.specs.Limits.{trayLength}
-use Rattle.bits.specs.Bits.{bitOf}
 use Rattle.bits.proofs.Truth.{both, cond-most}
 use Rattle.bits.proofs.BitRanges.{binary}
 use Rattle.recogniser.specs.declared.Phase.the-variants.{Field5}
@@ -22,7 +21,7 @@ use Rattle.controller.specs.Records.{headOf, kindOf, kindSlow, flagUnsteady, fr
 use Rattle.controller.specs.Commands.{frameValueOf}
 use Rattle.taking.specs.Run.{stateAfter, wordsAfter}
 use Rattle.taking.specs.Turn.{System, cntAt, turnOf}
-use Rattle.taking.specs.Calls.{Part, carriedBits, carriedSystem}
+use Rattle.taking.specs.Calls.{Part, carriedSystem}
 use Rattle.taking.proofs.CallLists.{carried-words, carried-system}
 use Rattle.taking.proofs.BitCalls.{carried-binary}
 use Rattle.taking.proofs.FrameTurns.{FrameTaken, frameRecord, frame-taken}

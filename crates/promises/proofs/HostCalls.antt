@@ -5,29 +5,31 @@ use mathlib.Core.Bool.{Bool, true, false, cond, and-false}
 use mathlib.Core.List.{List, [], _∷_, _++_}
 use Prim.Native.Nat.{ℕ, suc, _*_}
 use native.Mathlib.Omega.{arith}
-use lib.Dec.{eqb, leb}
-use lib.ListN.{length, getD, take, drop}
-use borrow.Author.Tests.{lt-leb, eqb-true, ne-eqb, eq-eqb}
-use Rattle.bits.proofs.Truth.{cases, clash}
-use Rattle.limits.specs.Limits.{listUnit, storeLength, trayLength}
+use lib.Dec.{eqb}
+use lib.ListN.{length, take, drop}
+use borrow.Author.Tests.{lt-leb, eqb-true}
+use Rattle.limits.specs.Limits.{listUnit}
 use Rattle.decoder.specs.declared.Decoder.{Decoder}
 use Rattle.decoder.specs.Sound.{soundOf}
 use Rattle.taking.specs.declared.Ending.{Ending}
 use Rattle.taking.specs.declared.Ending.the-variants.{Unsound, WrongBuffers}
 use Rattle.taking.specs.Turn.{System, systemOf, decoderOf}
 use Rattle.taking.specs.Take.{Call, CallResult, call, offered, refused, takeOf, endingNumber}
-use Rattle.taking.specs.Calls.{bitsTaken, wordsStanding, allBits, allWords, Part, callOf, carriedBits, carriedWords, carriedSystem, systemAfter, resultOf}
+use Rattle.taking.specs.Calls.{allBits, allWords, Part, callOf, carriedBits, carriedWords, carriedSystem, systemAfter, resultOf}
 use Rattle.taking.proofs.Refusals.{buffers, unsound, wrong-buffers}
-use Rattle.image.specs.Image.{imageOf, stateOf, Widths}
+use Rattle.image.specs.Image.{imageOf, stateOf, imageFits, Widths}
 use Rattle.image.proofs.RoundTrip.{image-fits, read-back}
-use Rattle.kernelstill.specs.Take.{TakeResult, resultLength, resultWords, refusedCall, answered, takeResultOf}
-use Rattle.promises.specs.HostCalls.{HostCall, left, told, bitsTold, wordsTold, imageBits, imageWords, HostDemands}
-use Rattle.promises.specs.HostCalls.{Carried, HostPart, hostCall, carriedOn, next, hostBits, hostWords, hostLeft, carriedOf, HostCuts, HostWrote}
+use Rattle.image.proofs.WellFormed.{read-again, read-widths}
+use Rattle.kernelstill.specs.Take.{TakeResult, resultLength, refusedCall, answered, takeResultOf}
+use Rattle.kernelstill.proofs.WidthsKept.{widths-kept}
+use Rattle.damage.specs.CleanStreams.{Item, streamBits, inverted}
+use Rattle.promises.specs.Damage.{Stream}
+use Rattle.promises.specs.HostCalls.{HostCall, left, told, imageBits, imageWords, HostDemands}
+use Rattle.promises.specs.HostCalls.{Carried, HostPart, hostCall, carriedOn, next, hostBits, hostWords, hostLeft, HostCuts, HostRuns, HostWrote}
 use Rattle.promises.proofs.Refusals.{first-demand}
 use Rattle.promises.proofs.Records.{second-demand}
 use Rattle.promises.proofs.Damage.{third-demand}
 use Rattle.promises.proofs.Hosts.{host-promise}
-use Rattle.promises.proofs.WidthsKept.{widths-kept}
 
 -- The taking call that a call on an image is. One whose result has no three words is one whose first free word is past the list's end: number 4 both.
 abbrev lentBy : Bool → Call → Call
@@ -54,13 +56,14 @@ module _ (d : Decoder) (result : List ℕ) (c : Call) where
   agree-through l fit = record { image = rw fit; store = refl; tray = refl; bits = rw fit; words = rw fit }
 
   -- by the call on the state, where the result has three words
-  agree-by : (number : Bool) → eqb (endingNumber (takeOf d c .taken .report .ending)) 0 ≡ number → Agrees c c (answered (imageOf d) result (takeOf d c)) (takeOf d c)
+  agree-by : (number : Bool) → eqb (endingNumber (takeOf d c .taken .report .ending)) 0 ≡ number
+      → Agrees c c (answered (imageOf d) result (takeOf d c)) (takeOf d c)
   agree-by true e = agree-through (takeOf d c) e
   agree-by false e =
       let takes = first-demand .takes d c in
       let rejected = takes .rejected (ap (λ n. eqb n 0) (sym (takes .number)) ∙ e) in
       let some : eqb (endingNumber (rejected .0)) 0 ≡ false =
-          ap (λ (l : CallResult). eqb (endingNumber (l .taken .report .ending)) 0) (sym (rejected .1)) ∙ e in
+      ap (λ (l : CallResult). eqb (endingNumber (l .taken .report .ending)) 0) (sym (rejected .1)) ∙ e in
       subst (λ (l : CallResult). Agrees c c (answered (imageOf d) result l) l) (sym (rejected .1))
       (record { image = rw some; store = refl; tray = refl; bits = rw some; words = rw some })
 
@@ -76,7 +79,8 @@ module _ (d : Decoder) (result : List ℕ) (c : Call) where
       past : buffers (lentBy false c) ≡ false
       past = rw (lt-leb (suc (length (c .list))) (length (c .list)) (omega arith), and-false, and-false)
 
-  agrees : (fit : Bool) → eqb (length result) resultLength ≡ fit → Widths d → Agrees c (lentBy fit c) (takeResultOf (imageOf d) result c) (takeOf d (lentBy fit c))
+  agrees : (fit : Bool) → eqb (length result) resultLength ≡ fit → Widths d
+      → Agrees c (lentBy fit c) (takeResultOf (imageOf d) result c) (takeOf d (lentBy fit c))
   agrees true e w =
       rw (host-promise .same-call d w result (eqb-true (length result) resultLength e) c)
       (agree-by (eqb (endingNumber (takeOf d c .taken .report .ending)) 0) refl)
@@ -122,7 +126,7 @@ stateParts [] = []
 stateParts (p ∷ ps) = statePart p ∷ stateParts ps
 
 abbrev imaged : System → Carried
-imaged s = carriedOf (decoderOf s) (s .machine .store) (s .machine .tray)
+imaged s = record { image = imageOf (decoderOf s); store = s .machine .store; tray = s .machine .tray }
 
 record SameCarried (s : System) (ps : List HostPart) : Type 0 where
   bits : hostBits (imaged s) ps ≡ carriedBits s (stateParts ps)
@@ -143,27 +147,76 @@ same-carried (p ∷ ps) s w =
       left-over = ap (λ k. hostLeft k ps) on ∙ rest .left-over;
     }
 
-cuts : (d : Decoder) (store tray : List ℕ) → Widths d → HostCuts (carriedOf d store tray)
-cuts d store tray w ps qs e =
-    let s = systemOf d store tray in
+-- A call on malformed words takes nothing and changes nothing.
+malformed : (image : List ℕ) (h : HostCall) → imageFits image ≡ false → left image h ≡ refusedCall 3 image (h .result) (h .lent)
+unfolding takeResultOf
+malformed image h e = rw e
+
+no-bits : (image : List ℕ) → imageFits image ≡ false → (hs : List HostCall) → imageBits image hs ≡ []
+unfolding imageBits
+no-bits image e [] = refl
+no-bits image e (h ∷ hs) =
+    ap (λ (r : TakeResult). take (told r 0) (offered (h .lent)) ++ imageBits (r .image) hs) (malformed image h e) ∙ no-bits image e hs
+
+record Nothing (k : Carried) (ps : List HostPart) : Type 0 where
+  words : hostWords k ps ≡ []
+  left-over : hostLeft k ps ≡ k
+
+nothing : (k : Carried) → imageFits (k .image) ≡ false → (ps : List HostPart) → Nothing k ps
+unfolding hostWords hostLeft
+nothing k e [] = record { words = refl; left-over = refl }
+nothing k e (p ∷ ps) =
+    let rest = nothing k e ps in
+    let m = malformed (k .image) (hostCall k p) e in
+    record {
+      words = ap (λ (r : TakeResult). take (listUnit * told r 1) (drop (p .part .free) (r .list)) ++ hostWords (carriedOn r) ps) m ∙ rest .words;
+      left-over = ap (λ (r : TakeResult). hostLeft (carriedOn r) ps) m ∙ rest .left-over;
+    }
+
+-- The cuts, of a state's image, and of any words.
+state-cuts : (s : System) → Widths (decoderOf s) → HostCuts (imaged s)
+state-cuts s w ps qs e =
     let p = same-carried ps s w in
     let q = same-carried qs s w in
     let same = second-demand .cuts s (stateParts ps) (stateParts qs) (sym (p .bits) ∙ e ∙ q .bits) in
     (p .words ∙ same .0 ∙ sym (q .words), p .left-over ∙ ap imaged (same .1) ∙ sym (q .left-over))
 
+cuts-by : (k : Carried) (fit : Bool) → imageFits (k .image) ≡ fit → HostCuts k
+cuts-by k true e =
+    subst (λ i. HostCuts (record { image = i; store = k .store; tray = k .tray })) (read-again (k .image) e)
+    (state-cuts (systemOf (stateOf (k .image)) (k .store) (k .tray)) (read-widths (k .image)))
+cuts-by k false e = λ ps qs _.
+    let p = nothing k e ps in
+    let q = nothing k e qs in
+    (p .words ∙ sym (q .words), p .left-over ∙ sym (q .left-over))
+
+-- The damage statement, of a state's image, and of any words.
+state-damage : (d : Decoder) → Widths d → (clean damaged : List HostCall) (items : List Item) (trailing k : ℕ) → Stream d items trailing k
+    → imageBits (imageOf d) clean ≡ streamBits items trailing → imageBits (imageOf d) damaged ≡ inverted k (streamBits items trailing)
+    → HostWrote d (imageOf d) clean damaged items k
+state-damage d w clean damaged items trailing k s c e =
+    let wrote =
+    third-demand d (stateCalls clean) (stateCalls damaged) items trailing k
+    (record { stream = s; took-clean = sym (same-bits clean d w) ∙ c; took-damaged = sym (same-bits damaged d w) ∙ e }) in
+    record {
+      clean-words = same-words clean d w ∙ wrote .clean-words;
+      damaged-words = same-words damaged d w ∙ wrote .damaged-words;
+      replaced = wrote .replaced;
+    }
+
+module _ (image : List ℕ) (clean damaged : List HostCall) (items : List Item) (trailing k : ℕ) (r : HostRuns image clean damaged items trailing k) where
+  damage-by : (fit : Bool) → imageFits image ≡ fit → HostWrote (stateOf image) image clean damaged items k
+  damage-by true e =
+      let is = read-again image e in
+      subst (λ i. HostWrote (stateOf image) i clean damaged items k) is
+      (state-damage (stateOf image) (read-widths image) clean damaged items trailing k (r .stream)
+      (ap (λ i. imageBits i clean) is ∙ r .took-clean) (ap (λ i. imageBits i damaged) is ∙ r .took-damaged))
+  damage-by false e =
+      let none : 0 ≡ length (streamBits items trailing) = ap length (sym (no-bits image e clean) ∙ r .took-clean) in
+      absurd (omega (arith, none, r .stream .inside))
+
 pub host-demands : HostDemands
 host-demands = record {
-  cuts = cuts;
-  damage = λ d clean damaged items trailing k w r.
-      let wrote =
-          third-demand d (stateCalls clean) (stateCalls damaged) items trailing k (record {
-            stream = r .stream;
-            took-clean = sym (same-bits clean d w) ∙ r .took-clean;
-            took-damaged = sym (same-bits damaged d w) ∙ r .took-damaged;
-          }) in
-      record {
-        clean-words = same-words clean d w ∙ wrote .clean-words;
-        damaged-words = same-words damaged d w ∙ wrote .damaged-words;
-        replaced = wrote .replaced;
-      };
+  cuts = λ k. cuts-by k (imageFits (k .image)) refl;
+  damage = λ image clean damaged items trailing k r. damage-by image clean damaged items trailing k r (imageFits image) refl;
 }

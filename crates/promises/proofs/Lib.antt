@@ -3,6 +3,5 @@ pub mod Frames
 pub mod Records
 pub mod Damage
 pub mod Hosts
-pub mod WidthsKept
 pub mod HostCalls
 pub mod Programs

@@ -47,4 +47,12 @@ cuts s ps qs e = (
 )
 
 pub second-demand : SecondDemand
-second-demand = record { exact = exact; ends = ends; cuts = cuts; frames = frames; opens-sound = start-sound; stays-sound = take-sound; fits = λ d cs. words-fit cs d }
+second-demand = record {
+  exact = exact;
+  ends = ends;
+  cuts = cuts;
+  frames = frames;
+  opens-sound = start-sound;
+  stays-sound = take-sound;
+  fits = λ d cs. words-fit cs d;
+}

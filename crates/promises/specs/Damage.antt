@@ -45,8 +45,8 @@ ThirdDemand =
     (d : Decoder) (clean damaged : List Call) (items : List Item) (trailing k : ℕ)
     → Runs d clean damaged items trailing k → Wrote d clean damaged items k
 
--- No premise is empty: wherever the clock has room for the stream, there are two such lists of calls.
-pub record Taken (d : Decoder) (items : List Item) (trailing k : ℕ) : Type 0 where
+-- The premises can be met: wherever the clock has room for the stream, there are two such lists of calls.
+pub record Met (d : Decoder) (items : List Item) (trailing k : ℕ) : Type 0 where
   pub clean : List Call
   pub damaged : List Call
   pub runs : Runs d clean damaged items trailing k
@@ -54,4 +54,4 @@ pub record Taken (d : Decoder) (items : List Item) (trailing k : ℕ) : Type 0 w
 abbrev pub ThirdDemandMet : Type 0
 ThirdDemandMet =
     (d : Decoder) (items : List Item) (trailing k : ℕ)
-    → Stream d items trailing k → d .next + length (streamBits items trailing) ≤ clockLimit → Taken d items trailing k
+    → Stream d items trailing k → d .next + length (streamBits items trailing) ≤ clockLimit → Met d items trailing k

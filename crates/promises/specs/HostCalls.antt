@@ -11,7 +11,7 @@ use Rattle.controller.specs.Records.{recordWords}
 use Rattle.decoder.specs.declared.Decoder.{Decoder}
 use Rattle.taking.specs.Take.{Call, call, offered}
 use Rattle.taking.specs.Calls.{Part}
-use Rattle.image.specs.Image.{imageOf, Widths}
+use Rattle.image.specs.Image.{stateOf}
 use Rattle.kernelstill.specs.Take.{TakeResult, takeResultOf}
 use Rattle.damage.specs.CleanStreams.{Item, streamBits, inverted}
 use Rattle.damage.specs.Records.{countersOf, sends, cleanRecords, damagedRecords}
@@ -80,27 +80,24 @@ unfoldable pub hostLeft : Carried → List HostPart → Carried
 hostLeft k [] = k
 hostLeft k (p ∷ ps) = hostLeft (next k p) ps
 
--- The image of a state with a store and a tray.
-abbrev pub carriedOf : Decoder → List ℕ → List ℕ → Carried
-carriedOf d store tray = record { image = imageOf d; store = store; tray = tray }
-
--- The second demand's cuts: where the bits taken join to the same stream, so do the records; image, store and tray at the end are the same.
+-- The second demand's cuts, whatever words the image has: where the bits taken join to the same stream, so do the records; image, store and tray at the
+-- end are the same.
 abbrev pub HostCuts : Carried → Type 0
 HostCuts k =
     (ps qs : List HostPart) → hostBits k ps ≡ hostBits k qs → (hostWords k ps ≡ hostWords k qs) × (hostLeft k ps ≡ hostLeft k qs)
 
--- The third demand: two lists of calls on the image of a state, of which one has taken a clean stream and the other the same bits with one inverted.
-pub record HostRuns (d : Decoder) (clean damaged : List HostCall) (items : List Item) (trailing k : ℕ) : Type 0 where
-  pub stream : Stream d items trailing k
-  pub took-clean : imageBits (imageOf d) clean ≡ streamBits items trailing
-  pub took-damaged : imageBits (imageOf d) damaged ≡ inverted k (streamBits items trailing)
+-- The third demand: two lists of calls on an image, of which one has taken a clean stream and the other the same bits with one inverted.
+pub record HostRuns (image : List ℕ) (clean damaged : List HostCall) (items : List Item) (trailing k : ℕ) : Type 0 where
+  pub stream : Stream (stateOf image) items trailing k
+  pub took-clean : imageBits image clean ≡ streamBits items trailing
+  pub took-damaged : imageBits image damaged ≡ inverted k (streamBits items trailing)
 
-pub record HostWrote (d : Decoder) (clean damaged : List HostCall) (items : List Item) (k : ℕ) : Type 0 where
-  pub clean-words : imageWords (imageOf d) clean ≡ recordWords (cleanRecords (sends d) (countersOf d) (d .next) items)
-  pub damaged-words : imageWords (imageOf d) damaged ≡ recordWords (damagedRecords (sends d) (countersOf d) (d .next) items k)
+pub record HostWrote (d : Decoder) (image : List ℕ) (clean damaged : List HostCall) (items : List Item) (k : ℕ) : Type 0 where
+  pub clean-words : imageWords image clean ≡ recordWords (cleanRecords (sends d) (countersOf d) (d .next) items)
+  pub damaged-words : imageWords image damaged ≡ recordWords (damagedRecords (sends d) (countersOf d) (d .next) items k)
   pub replaced : Replaced (sends d) (countersOf d) (d .next) items k (damagedRecords (sends d) (countersOf d) (d .next) items k)
 
 pub record HostDemands : Type 0 where
-  pub cuts : (d : Decoder) (store tray : List ℕ) → Widths d → HostCuts (carriedOf d store tray)
-  pub damage : (d : Decoder) (clean damaged : List HostCall) (items : List Item) (trailing k : ℕ) → Widths d
-      → HostRuns d clean damaged items trailing k → HostWrote d clean damaged items k
+  pub cuts : (k : Carried) → HostCuts k
+  pub damage : (image : List ℕ) (clean damaged : List HostCall) (items : List Item) (trailing k : ℕ)
+      → HostRuns image clean damaged items trailing k → HostWrote (stateOf image) image clean damaged items k

@@ -25,6 +25,7 @@ use Rattle.controller.specs.Commands.{slowRecord, frameValueOf, actOf}
 use Rattle.taking.specs.Run.{Turned, stateAfter, wordsAfter}
 use Rattle.taking.specs.Turn.{System, Machine, cntAt, turnOf}
 
+-- The record of a frame.
 abbrev pub frameRecord : ℕ → ℕ → Bool → ℕ → Record
 frameRecord time command unsteady cnt = slowRecord time command (flagActed true + flagUnsteady unsteady) (frameValueOf command cnt)
 
@@ -61,6 +62,7 @@ module _ (command address : ℕ) (frame : isFrame command ≡ true) (count : ℕ
   abbrev now : Recogniser
   now = at command address count group unsteady
 
+  -- a cycle that is not the last, and the last
   goes-on : endsOf now (cntAt m) ≡ false
       → turnOf (system now m) bit
       ≡ turned (system (at command address (count + 1) (groupOf group count bit) (unsteadyOf now bit)) (moved command count bit m)) Silent
@@ -98,7 +100,8 @@ frame-taken command address frame [] bit count group unsteady m whole =
 frame-taken command address frame (next ∷ bits) bit count group unsteady m whole =
     let now : Recogniser = at command address count group unsteady in
     let e = goes-on command address frame count group unsteady m bit (lt-leb (lengthOf command (cntAt m)) (count + 1) (omega arith)) in
-    let rest = frame-taken command address frame bits next (count + 1) (groupOf group count bit) (unsteadyOf now bit) (moved command count bit m) (omega arith) in
+    let then : Machine = moved command count bit m in
+    let rest = frame-taken command address frame bits next (count + 1) (groupOf group count bit) (unsteadyOf now bit) then (omega arith) in
     record {
       time = rest .time;
       unsteady = rest .unsteady;

@@ -196,8 +196,22 @@ widths-of d plan w s k e =
     let p = w .numbers in
     let r = k .recogniser in
     record {
-      numbers = (rw e (p .0), (rw e (p .1 .0), (rw e (p .1 .1 .0), (rw e (p .1 .1 .1 .0), (tt,
-          (r .shift, (r .command, (r .address, (r .count, (r .held, (k .model .l1id, (tt, tt))))))))))));
+      numbers = (
+        rw e (p .0),
+        (
+          rw e (p .1 .0),
+          (
+            rw e (p .1 .1 .0),
+            (
+              rw e (p .1 .1 .1 .0),
+              (
+                tt,
+                (r .shift, (r .command, (r .address, (r .count, (r .held, (k .model .l1id, (tt, tt))))))),
+              ),
+            ),
+          ),
+        ),
+      );
       arrays = (
         record { long = k .arrays .long; keeps = λ n _. k .model .each-register n },
         (k .arrays .writes, (k .arrays .reads, tt)),
