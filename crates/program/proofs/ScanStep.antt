@@ -46,7 +46,9 @@ scannedState g scanned =
 module _ {input : List ℕ} {g : Snapshot} {scanned : Scanned} (made : ScanMade input g scanned) where
   pub scanned-ready : StepReady (scannedState g scanned)
   scanned-ready = record {
-    well-formed = input-well-formed (made .ready .well-formed) (scanned .line) (scanned .next) (g .state .length) (g .state .eof) (g .state .over) (g .state .number);
+    well-formed =
+        let s = g .state in
+        input-well-formed (made .ready .well-formed) (scanned .line) (scanned .next) (s .length) (s .eof) (s .over) (s .number);
     not-over = made .ready .not-over;
     room = made .ready .room;
   }

@@ -13,6 +13,13 @@ Inv-loop fd input₀ turns₀ input turns = length input ≡ length input₀
 abbrev μ-loop : tie.MeasureT-loop
 μ-loop fd input₀ turns₀ input turns = turns
 
+-- The places that the proofs look back to: the read by the test of its answer, and the loop's head by the read.
+abbrev read : tie.Then1 Inv-loop μ-loop → tie.After-input Inv-loop μ-loop
+read c = c .before .before .before
+
+abbrev head : tie.After-input Inv-loop μ-loop → tie.At-loop Inv-loop μ-loop
+head c = c .before .before .before .before
+
 loop-holds : tie.Need-loop-holds Inv-loop μ-loop
 loop-holds c = search needs
 
@@ -32,7 +39,9 @@ same-length : tie.Need-same-length Inv-loop μ-loop
 same-length c = search needs
 
 returns : tie.Need-returns Inv-loop μ-loop
-returns c = omega (arith, c .count .ensures .0 .0, c .before .before .before .before .before .input .given, c .before .before .before .before .before .before .before .before .before .loop .inv)
+returns c =
+    let i = read (c .before .before) in
+    omega (arith, c .count .ensures .0 .0, i .input .given, head i .loop .inv)
 
 loop-less : tie.Need-loop-less Inv-loop μ-loop
 loop-less c = search needs

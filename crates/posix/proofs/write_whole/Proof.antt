@@ -18,7 +18,10 @@ abbrev μ-loop : tie.MeasureT-loop
 
 -- a turn is left
 some : (c : tie.In-loop Inv-loop μ-loop) → 0 < c .before .loop .turns
-some c = let l = c .before in ltb-true 0 _ (both (ltb (l .loop .done) (length (l .before .before .args .text .now))) (ltb 0 (l .loop .turns)) (c .loop-test .taken) .1)
+some c =
+    let l = c .before in
+    let left = ltb (l .loop .done) (length (l .before .before .args .text .now)) in
+    ltb-true 0 _ (both left (ltb 0 (l .loop .turns)) (c .loop-test .taken) .1)
 
 loop-holds : tie.Need-loop-holds Inv-loop μ-loop
 loop-holds c = search needs
