@@ -12,7 +12,7 @@ fn usage(name: &[u8]) -> u8
     posix::write_whole(STDERR_FILENO, b"usage: ");
     posix::write_whole(STDERR_FILENO, name);
     posix::write_whole(STDERR_FILENO, b" [FILE]\n");
-    posix::WRONG_WORDS
+    runs::WRONG_WORDS
 }
 
 // One more piece of a text on standard output, if those before it are written.
@@ -28,12 +28,14 @@ fn printed(name: &[u8], whole: bool) -> u8
     ensures { λ r. ⌜ IsStatus r ⌝ }
 {
     if !whole {
-        return posix::fail_output(name);
+        posix::fail_output(name);
+        return runs::FAILED;
     }
     if !posix::close_output() {
-        return posix::fail_output(name);
+        posix::fail_output(name);
+        return runs::FAILED;
     }
-    posix::WHOLE
+    runs::WHOLE
 }
 
 fn help(name: &[u8], prints: &[u8]) -> u8
@@ -85,7 +87,7 @@ fn run_word(name: &[u8], describes: &[u8], word: &[u8], prints: PrintOptions) ->
     let fd = os::open_read(word);
     if fd < 0 {
         posix::fail(name, word);
-        return posix::FAILED;
+        return runs::FAILED;
     }
     runs::list_input(name, word, fd, prints)
 }
@@ -108,7 +110,7 @@ fn run(name: &[u8], describes: &[u8], prints: PrintOptions) -> u8
     let n = os::arg(1, &mut word);
     if os::errno() != 0 {
         posix::fail(name, b"argument");
-        return posix::FAILED;
+        return runs::FAILED;
     }
     run_word(name, describes, &word[..n], prints)
 }

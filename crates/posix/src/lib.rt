@@ -1,18 +1,8 @@
 // Reads and writes that go on after an interruption, and messages on standard error. A contract cannot say what the system reads or writes.
-ghost use mathlib.Core.Path.{_≡_};
 ghost use Prim.Native.Nat.{_≤_};
 ghost use lib.ListN.{length};
 use libc::STDERR_FILENO;
 use libc::STDOUT_FILENO;
-
-// The exit status: the whole input, a line was refused, wrong words, the system failed.
-pub const WHOLE: u8 = 0;
-
-pub const REFUSED: u8 = 1;
-
-pub const WRONG_WORDS: u8 = 2;
-
-pub const FAILED: u8 = 3;
 
 // A proved loop has to end, and nothing says that an input or the interruptions of a call do: no run uses this number up.
 pub const TURNS: u64 = u64::MAX;
@@ -68,13 +58,10 @@ pub fn fail(name: &[u8], what: &[u8]) {
 }
 
 // A write to standard output failed. A pipe is closed by its reader, who wants no message.
-pub fn fail_output(name: &[u8]) -> u8
-    ensures { λ r. ⌜ r ≡ 3 ⌝ }
-{
+pub fn fail_output(name: &[u8]) {
     if os::errno() != libc::EPIPE {
         fail(name, b"standard output");
     }
-    FAILED
 }
 
 // A message on what was refused of the input.

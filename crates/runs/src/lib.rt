@@ -12,6 +12,15 @@ use libc::STDOUT_FILENO;
 use program::PrintOptions;
 use program::RunState;
 
+// The exit status: the whole input, a line was refused, wrong words, the system failed.
+pub const WHOLE: u8 = 0;
+
+pub const REFUSED: u8 = 1;
+
+pub const WRONG_WORDS: u8 = 2;
+
+pub const FAILED: u8 = 3;
+
 // A run after a read, or as it was if the read failed.
 struct Refilled {
     state: RunState,
@@ -75,19 +84,21 @@ fn finish(
     ensures { λ r. ⌜ Finished (state .number) r ⌝ }
 {
     if !write_state(state, prints, store, output) {
-        return posix::fail_output(name);
+        posix::fail_output(name);
+        return FAILED;
     }
     if !posix::close_output() {
-        return posix::fail_output(name);
+        posix::fail_output(name);
+        return FAILED;
     }
     if state.number == 0 {
-        return posix::WHOLE;
+        return WHOLE;
     }
     let line = state.line;
     let notes = line.notes;
     let n = messages::put_sentence(output, 0, state.number, state.lines, notes);
     posix::tell(name, source, &output[..n]);
-    posix::REFUSED
+    REFUSED
 }
 
 // A run over an input that is open: what a read brought is listed and written before the next read.
@@ -111,19 +122,20 @@ fn list(
         let refilled = refill(state, fd, &mut input);
         if refilled.failed {
             posix::fail(name, source);
-            return posix::FAILED;
+            return FAILED;
         }
         state = refilled.state;
         let length = state.length;
         state = state.list_block(&input[..length], store, tray, &mut output, prints.frames);
         let filled = state.filled;
         if !posix::write_whole(STDOUT_FILENO, &output[..filled]) {
-            return posix::fail_output(name);
+            posix::fail_output(name);
+            return FAILED;
         }
         state.filled = 0;
     }
     if !state.over {
-        return posix::FAILED;
+        return FAILED;
     }
     finish(name, source, state, prints, store, &mut output)
 }

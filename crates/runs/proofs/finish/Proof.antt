@@ -1,7 +1,7 @@
 -- `runs::finish` meets its contract: the status is that of the refusal's number, unless a write failed.
 -- Assumes nothing.
 use mathlib.Core.Logic.{inl, inr}
-use mathlib.Core.Path.{sym}
+use mathlib.Core.Path.{refl, sym}
 use native.Mathlib.Omega.{arith}
 use lib.Seq.{length-take-le}
 use borrow.Author.Needs.{needs}
@@ -32,7 +32,7 @@ same-length : tie.Need-same-length
 same-length c = search needs
 
 returns : tie.Need-returns
-returns c = inl (c .fail-output .ensures)
+returns c = inl refl
 
 close-output-requires : tie.Need-close-output-requires
 close-output-requires c κs = search needs
@@ -44,7 +44,7 @@ same-length-2 : tie.Need-same-length-2
 same-length-2 c = search needs
 
 returns-2 : tie.Need-returns-2
-returns-2 c = inl (c .fail-output2 .ensures)
+returns-2 c = inl refl
 
 same-length-3 : tie.Need-same-length-3
 same-length-3 c = search needs
