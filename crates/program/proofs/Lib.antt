@@ -7,3 +7,4 @@ pub mod LineEnd
 pub mod ScanStep
 pub mod Steps
 pub mod Standing
+pub mod StateLines

@@ -9,6 +9,7 @@ use Rattle.bits.specs.Bits.{bitsOf}
 use Rattle.controller.specs.declared.Cycle.{Cycle}
 use Rattle.controller.specs.declared.Cycle.the-variants.{Silent, Recorded}
 use Rattle.controller.specs.Records.{headOf}
+use Rattle.decoder.specs.declared.Decoder.{Decoder}
 use Rattle.taking.specs.Run.{stateAfter}
 use Rattle.taking.specs.Turn.{System, turnOf}
 use Rattle.taking.specs.Take.{clockFits}
@@ -17,6 +18,8 @@ use Rattle.hexlines.specs.Notes.{noNotes}
 use Rattle.hexlines.specs.Lines.{LineRead}
 use Rattle.layout.specs.ListingLines.{refusedLine}
 use Rattle.listing.specs.Records.{recordText}
+use Rattle.listing.specs.State.{stateText}
+use Rattle.program.specs.declared.PrintOptions.{PrintOptions}
 
 -- The records cycle by cycle, whatever the taking calls are.
 abbrev pub cycleText : Bool → System → Cycle → List ℕ
@@ -76,3 +79,7 @@ listingOf frames s n (line ∷ lines) =
     cond (eqb number 0)
     (bitsThen frames s m noNotes (bitsOf bytes 0 (8 * length bytes)) (λ t. listingOf frames t m lines))
     (outcome (refusedLine number m) (refusal number m (line .notes)) s)
+
+-- The controller as the commands left it, if the program prints it.
+unfoldable pub stateLines : PrintOptions → Decoder → List ℕ → List ℕ
+stateLines prints d store = cond (prints .state) (stateText d store) []

@@ -1,6 +1,6 @@
 -- A whole program: from all the characters of its input to all that it prints (document 01, "Streams with their records": the station program).
 -- Assumes nothing.
-use mathlib.Core.Bool.{Bool, true, cond}
+use mathlib.Core.Bool.{Bool, true}
 use mathlib.Core.List.{List, [], _++_}
 use mathlib.Core.Path.{_≡_}
 use Prim.Native.Nat.{ℕ}
@@ -9,10 +9,9 @@ use Rattle.registers.specs.Plan.{defaultPlan}
 use Rattle.decoder.specs.Opening.{openOf}
 use Rattle.taking.specs.Turn.{System, systemOf, decoderOf}
 use Rattle.hexlines.specs.Lines.{linesOf, linesRead}
-use Rattle.listing.specs.State.{stateText}
 use Rattle.program.specs.declared.PrintOptions.{PrintOptions}
 use Rattle.program.specs.declared.RunState.{RunState}
-use Rattle.program.specs.Listing.{Outcome, outcome, printFirst, listingOf}
+use Rattle.program.specs.Listing.{Outcome, outcome, printFirst, listingOf, stateLines}
 use Rattle.program.specs.RunState.{Snapshot, stillToPrint}
 
 -- The program "opens at cycle 0 with the default plan", with a store and a tray.
@@ -23,15 +22,11 @@ opened store tray = systemOf (openOf defaultPlan 0 .decoder) store tray
 abbrev pub listed : Bool → List ℕ → List ℕ → List ℕ → Outcome
 listed frames store tray characters = listingOf frames (opened store tray) 0 (linesRead (linesOf characters))
 
--- The controller as the commands left it, if the program prints it.
-abbrev pub stateLines : PrintOptions → System → List ℕ
-stateLines prints s = cond (prints .state) (stateText (decoderOf s) (s .machine .store)) []
-
 -- All that a program prints, the refusal that ended it, and what it leaves.
 unfoldable pub programOf : PrintOptions → List ℕ → List ℕ → List ℕ → Outcome
 programOf prints store tray characters =
     let o = listed (prints .frames) store tray characters in
-    outcome (o .text ++ stateLines prints (o .system)) (o .refusal) (o .system)
+    outcome (o .text ++ stateLines prints (decoderOf (o .system)) (o .system .machine .store)) (o .refusal) (o .system)
 
 -- The characters that a read brought and that are not scanned yet.
 abbrev pub unscanned : RunState → List ℕ → List ℕ

@@ -3,6 +3,9 @@ ghost use mathlib.Core.Path.{_≡_};
 ghost use mathlib.Core.Bool.{true, false};
 ghost use Prim.Native.Nat.{_+_, _<_, _≤_};
 ghost use lib.ListN.{length};
+ghost use Rattle.limits.specs.Limits.{storeLength};
+ghost use Rattle.output.specs.Block.{blockLength, block, putAll};
+ghost use Rattle.program.specs.Listing.{stateLines};
 ghost use Rattle.program.specs.RunState.{start, snapshot, workLeft, canStep, WellFormed, StepReady, AfterTake, EndsLine, ScansLine, AfterSteps};
 ghost use Rattle.program.specs.RunState.{clockNumber, wantsInput, receivedOf, receivedBlock};
 use decoder::Decoder;
@@ -214,5 +217,17 @@ impl RunState {
         next.over = line.is_empty();
         next.number = 0;
         next
+    }
+
+    // The lines of the state at the end of a run, if the program prints them; the answer is how many bytes they take.
+    pub fn put_state_lines(self, prints: PrintOptions, store: &[u32], out: &mut [u8]) -> usize
+        requires { ⌜ (length (now store) ≡ storeLength) × (length (now out) ≡ blockLength) ⌝ }
+        ensures { λ r. ⌜ block (now (out .exit)) r ≡ putAll (now (out .entry)) 0 (stateLines prints (self .decoder) (now (store .entry))) ⌝ }
+    {
+        if !prints.state {
+            return 0;
+        }
+        let decoder = self.decoder;
+        listing::put_state(out, decoder, store)
     }
 }

@@ -59,18 +59,6 @@ fn refill(state: RunState, fd: i32, input: &mut [u8]) -> Refilled
     }
 }
 
-// The lines of the state at the end of a run, if the program prints them; whether they are written.
-fn write_state(state: RunState, prints: PrintOptions, store: &[u32], output: &mut [u8]) -> bool
-    requires { ⌜ (length (now store) ≡ storeLength) × (length (now output) ≡ blockLength) ⌝ }
-{
-    if !prints.state {
-        return true;
-    }
-    let decoder = state.decoder;
-    let n = listing::put_state(output, decoder, store);
-    posix::write_whole(STDOUT_FILENO, &output[..n])
-}
-
 // The end of a run: the lines of the state, the message of a refusal, the status.
 fn finish(
     name: &[u8],
@@ -83,7 +71,8 @@ fn finish(
     requires { ⌜ (length (now store) ≡ storeLength) × (length (now output) ≡ blockLength) ⌝ }
     ensures { λ r. ⌜ Finished (state .number) r ⌝ }
 {
-    if !write_state(state, prints, store, output) {
+    let lines = state.put_state_lines(prints, store, output);
+    if !posix::write_whole(STDOUT_FILENO, &output[..lines]) {
         posix::fail_output(name);
         return FAILED;
     }
@@ -96,8 +85,8 @@ fn finish(
     }
     let line = state.line;
     let notes = line.notes;
-    let n = messages::put_sentence(output, 0, state.number, state.lines, notes);
-    posix::tell(name, source, &output[..n]);
+    let sentence = messages::put_sentence(output, 0, state.number, state.lines, notes);
+    posix::tell(name, source, &output[..sentence]);
     REFUSED
 }
 

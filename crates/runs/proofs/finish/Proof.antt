@@ -7,23 +7,47 @@ use lib.Seq.{length-take-le}
 use borrow.Author.Needs.{needs}
 use borrow.Author.Tests.{eq-eqb, ne-eqb}
 use Rattle.output.proofs.Pieces.{put-end-within}
+use Rattle.program.specs.Listing.{stateLines}
+use Rattle.program.proofs.StateLines.{state-lines-fit}
 use Rattle.messages.specs.Sentences.{sentenceOf}
 use Rattle.messages.proofs.Lengths.{sentence-short}
 use Rattle.runs.proofs.finish.Statement.{statement}
 use Rattle.runs.proofs.finish.Tie as tie
 
--- The places that the proofs look back to from the message: that a line is refused, and the block of output.
+-- The places that the proofs look back to, each by one after it: the start, the lines of the state, that a line is refused.
+abbrev start : tie.After-put-state-lines → tie.Start
+start c = c .before .before .before .before .before .before
+
 abbrev refused : tie.After-notes → tie.Else3
 refused c = c .before .before
 
-abbrev stateWritten : tie.After-notes → tie.After-output
-stateWritten c = refused c .before .before .before .before .before .before
+abbrev written : tie.Else3 → tie.After-write-whole
+written c = c .before .before .before .before .before
 
-abbrev start : tie.After-notes → tie.Start
-start c = stateWritten c .before .before .before .before .before .before .before
+abbrev linesPut : tie.After-write-whole → tie.After-output
+linesPut c = c .before .before .before
 
-write-state-requires : tie.Need-write-state-requires
-write-state-requires c κs = search needs
+-- the block of output at the message, and the run
+abbrev atMessage : tie.After-notes → tie.After-output
+atMessage c = linesPut (written (refused c))
+
+put-state-lines-requires : tie.Need-put-state-lines-requires
+put-state-lines-requires c κs = search needs
+
+slice-reshare-prefix-write-whole : tie.Need-slice-reshare-prefix-write-whole
+slice-reshare-prefix-write-whole c =
+    let put = c .before .before in
+    let b = start put in
+    let a = b .args in
+    let short = state-lines-fit (a .prints) (a .state .decoder) (a .store .now) (b .pre .0) in
+    put-end-within (a .output .now) (stateLines (a .prints) (a .state .decoder) (a .store .now)) _ 0 _ (put .put-state-lines .ensures)
+    (omega (arith, b .pre .1))
+
+slice-aggregate-write-whole : tie.Need-slice-aggregate-write-whole
+slice-aggregate-write-whole c = sym (length-take-le _ _ (slice-reshare-prefix-write-whole (c .before)))
+
+write-whole-requires : tie.Need-write-whole-requires
+write-whole-requires c κs = search needs
 
 fail-output-requires : tie.Need-fail-output-requires
 fail-output-requires c κs = search needs
@@ -54,17 +78,19 @@ returns-3 c = inr (simp (eq-eqb _ _ (c .if3 .taken)))
 
 put-sentence-requires : tie.Need-put-sentence-requires
 put-sentence-requires c κs =
-    let n = c .before in
-    let s = start n .args .state in
-    omega (arith, sentence-short (s .number) (s .lines) (s .line .notes), stateWritten n .output .given, start n .pre .1)
+    let o = atMessage (c .before) in
+    let b = start (o .before) in
+    let s = b .args .state in
+    omega (arith, sentence-short (s .number) (s .lines) (s .line .notes), o .output .given, b .pre .1)
 
 slice-reshare-prefix-tell : tie.Need-slice-reshare-prefix-tell
 slice-reshare-prefix-tell c =
     let put = c .before .before in
-    let n = put .before .before in
-    let s = start n .args .state in
+    let o = atMessage (put .before .before) in
+    let b = start (o .before) in
+    let s = b .args .state in
     put-end-within _ (sentenceOf (s .number) (s .lines) (s .line .notes)) _ 0 _ (put .put-sentence .ensures)
-    (omega (arith, sentence-short (s .number) (s .lines) (s .line .notes), stateWritten n .output .given, start n .pre .1))
+    (omega (arith, sentence-short (s .number) (s .lines) (s .line .notes), o .output .given, b .pre .1))
 
 slice-aggregate-tell : tie.Need-slice-aggregate-tell
 slice-aggregate-tell c = sym (length-take-le _ _ (slice-reshare-prefix-tell (c .before)))
@@ -82,7 +108,10 @@ pub finish-spec : {M : Type 1} → statement M
 finish-spec =
     tie.close
     (tie.spec
-    write-state-requires
+    put-state-lines-requires
+    slice-reshare-prefix-write-whole
+    slice-aggregate-write-whole
+    write-whole-requires
     fail-output-requires
     same-length
     returns
