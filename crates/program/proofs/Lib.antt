@@ -8,3 +8,4 @@ pub mod ScanStep
 pub mod Steps
 pub mod Standing
 pub mod StateLines
+pub mod Turns

@@ -20,6 +20,7 @@ use Rattle.program.specs.Listing.{Outcome, outcome, printFirst, listingO
 use Rattle.program.specs.RunState.{start, Snapshot, snapshot, systemAt, endOf, stillToPrint, WellFormed, AfterSteps}
 use Rattle.program.specs.RunState.{withInput, wantsInput}
 use Rattle.program.specs.Program.{listed, unscanned, Standing}
+use Rattle.program.specs.Turns.{afterWrite, textPut}
 use Rattle.program.proofs.WellFormed.{input-well-formed}
 use Rattle.program.proofs.ScanStep.{no-bits-left}
 
@@ -30,10 +31,8 @@ start-well-formed store tray out long wide =
     record { sound = start-sound defaultPlan 0; store = long; tray = wide; range = omega arith; filled = omega arith }
 
 pub start-stands : (frames : Bool) (store tray out input : List ℕ) → length store ≡ storeLength → length tray ≡ trayLength
-    → Standing frames store tray (snapshot start store tray out) input
+    → Standing frames store tray [] [] (snapshot start store tray out) input
 start-stands frames store tray out input long wide = record {
-  characters = [];
-  written = [];
   same = λ more e.
       sym (no-bits-left frames (snapshot start store tray out) (start-well-formed store tray out long wide) refl refl more ∙ rw (lines more));
 }
@@ -45,8 +44,8 @@ one-byte : (block : List ℕ) (v : ℕ) → 0 < length block → take 1 (set blo
 one-byte [] v h = absurd (omega arith)
 one-byte (x ∷ block) v h = refl
 
-module _ {frames : Bool} {store₀ tray₀ : List ℕ} {s : RunState} {store tray out input : List ℕ}
-    (stands : Standing frames store₀ tray₀ (snapshot s store tray out) input) (due : wantsInput s ≡ true) where
+module _ {frames : Bool} {store₀ tray₀ characters written : List ℕ} {s : RunState} {store tray out input : List ℕ}
+    (stands : Standing frames store₀ tray₀ characters written (snapshot s store tray out) input) (due : wantsInput s ≡ true) where
   abbrev g : Snapshot
   g = snapshot s store tray out
 
@@ -63,18 +62,17 @@ module _ {frames : Bool} {store₀ tray₀ : List ℕ} {s : RunState} {store tra
 
   -- so that what is still to be printed is that of the characters to come
   to-come : (more : List ℕ) → (s .eof ≡ true → more ≡ [])
-      → listed frames store₀ tray₀ (stands .characters ++ more) ≡ printFirst (stands .written) (stillToPrint frames g more)
-  to-come more e = stands .same more e ∙ ap (λ (cs : List ℕ). printFirst (stands .written) (stillToPrint frames g (cs ++ more))) all-scanned
+      → listed frames store₀ tray₀ (characters ++ more) ≡ printFirst written (stillToPrint frames g more)
+  to-come more e = stands .same more e ∙ ap (λ (cs : List ℕ). printFirst written (stillToPrint frames g (cs ++ more))) all-scanned
 
   -- it brought characters
   pub characters-stand : (got : ℕ) (block : List ℕ) → s .eof ≡ false
-      → Standing frames store₀ tray₀ (snapshot (withInput s (s .line) 0 got (s .eof) (s .over) (s .number)) store tray out) block
+      → Standing frames store₀ tray₀ (characters ++ take got block) written
+      (snapshot (withInput s (s .line) 0 got (s .eof) (s .over) (s .number)) store tray out) block
   unfolding stillToPrint
   characters-stand got block e = record {
-    characters = stands .characters ++ take got block;
-    written = stands .written;
     same = λ more f.
-        ap (listed frames store₀ tray₀) (append-assoc (stands .characters) (take got block) more) ∙ to-come (take got block ++ more) (λ t. clash t e);
+        ap (listed frames store₀ tray₀) (append-assoc characters (take got block) more) ∙ to-come (take got block ++ more) (λ t. clash t e);
   }
 
   -- it brought none
@@ -89,55 +87,38 @@ module _ {frames : Bool} {store₀ tray₀ : List ℕ} {s : RunState} {store tra
         no-bits-left frames g w under-way none-left []
         ∙ rw e (sym (no-bits-left frames (ended false) (input-well-formed w (s .line) 0 1 true false 0) refl none-left (lineFeed ∷ [])))
 
-    pub end-stands : (block : List ℕ) → 0 < length block → Standing frames store₀ tray₀ (ended (noCharacters (s .line))) (set block 0 lineFeed)
+    pub end-stands : (block : List ℕ) → 0 < length block
+        → Standing frames store₀ tray₀ characters written (ended (noCharacters (s .line))) (set block 0 lineFeed)
     end-stands block some = record {
-      characters = stands .characters;
-      written = stands .written;
       same = λ more f.
           rw (f refl, one-byte block lineFeed some)
-          (to-come [] (λ t. refl) ∙ ap (printFirst (stands .written)) (end-as-line-feed (noCharacters (s .line)) refl));
+          (to-come [] (λ t. refl) ∙ ap (printFirst written) (end-as-line-feed (noCharacters (s .line)) refl));
     }
 
 -- ---- after the steps of a block, from an empty block of output
 
-pub steps-stand : {frames : Bool} {store₀ tray₀ : List ℕ} {g h : Snapshot} {input : List ℕ} → Standing frames store₀ tray₀ g input → g .state .filled ≡ 0
-    → AfterSteps frames (take (g .state .length) input) g h → Standing frames store₀ tray₀ h input
-steps-stand {frames} {store₀} {tray₀} {g} {h} {input} stands empty steps = record {
-  characters = stands .characters;
-  written = stands .written ++ take (h .state .filled) (h .out);
+pub steps-stand : {frames : Bool} {store₀ tray₀ characters written : List ℕ} {g h : Snapshot} {input : List ℕ}
+    → Standing frames store₀ tray₀ characters written g input → g .state .filled ≡ 0 → AfterSteps frames (take (g .state .length) input) g h
+    → Standing frames store₀ tray₀ characters (written ++ textPut h) h input
+steps-stand {written = written} stands empty steps = record {
   same = λ more e.
       stands .same more (λ t. e (steps .same-eof ∙ t))
-      ∙ ap (printFirst (stands .written)) (sym (steps .same-listing more ∙ rw empty))
+      ∙ ap (printFirst written) (sym (steps .same-listing more ∙ rw empty))
       ∙ rw (steps .same-length, append-assoc);
 }
 
 -- ---- after a write, with the block of output empty again
 
-abbrev pub emptied : RunState → RunState
-emptied s = record {
-  decoder = s .decoder;
-  line = s .line;
-  lines = s .lines;
-  bytes = s .bytes;
-  first = s .first;
-  count = s .count;
-  next = s .next;
-  length = s .length;
-  filled = 0;
-  eof = s .eof;
-  over = s .over;
-  number = s .number;
-}
-
-pub write-stands : {frames : Bool} {store₀ tray₀ : List ℕ} {s : RunState} {store tray out input : List ℕ}
-    → Standing frames store₀ tray₀ (snapshot s store tray out) input → Standing frames store₀ tray₀ (snapshot (emptied s) store tray out) input
+pub write-stands : {frames : Bool} {store₀ tray₀ characters written : List ℕ} {g : Snapshot} {input : List ℕ}
+    → Standing frames store₀ tray₀ characters written g input → Standing frames store₀ tray₀ characters written (afterWrite g) input
 unfolding stillToPrint
-write-stands stands = record { characters = stands .characters; written = stands .written; same = stands .same }
+write-stands stands = record { same = stands .same }
 
 -- ---- when it is over
 
-pub over-stands : {frames : Bool} {store₀ tray₀ : List ℕ} {g : Snapshot} {input : List ℕ} (stands : Standing frames store₀ tray₀ g input)
-    → g .state .over ≡ true → listed frames store₀ tray₀ (stands .characters) ≡ outcome (stands .written) (endOf (g .state)) (systemAt g)
+pub over-stands : {frames : Bool} {store₀ tray₀ characters written : List ℕ} {g : Snapshot} {input : List ℕ}
+    → Standing frames store₀ tray₀ characters written g input → g .state .over ≡ true
+    → listed frames store₀ tray₀ characters ≡ outcome written (endOf (g .state)) (systemAt g)
 unfolding stillToPrint
-over-stands {frames} {store₀} {tray₀} stands over =
-    sym (ap (listed frames store₀ tray₀) (append-nil (stands .characters))) ∙ stands .same [] (λ t. refl) ∙ rw (over, append-nil)
+over-stands {frames} {store₀} {tray₀} {characters} stands over =
+    sym (ap (listed frames store₀ tray₀) (append-nil characters)) ∙ stands .same [] (λ t. refl) ∙ rw (over, append-nil)

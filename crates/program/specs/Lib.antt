@@ -1,3 +1,4 @@
 pub mod Listing
 pub mod RunState
 pub mod Program
+pub mod Turns

@@ -32,10 +32,8 @@ programOf prints store tray characters =
 abbrev pub unscanned : RunState → List ℕ → List ℕ
 unscanned s input = drop (s .next) (take (s .length) input)
 
--- A run under way stands for the characters that were read and the text that was written: whatever more is read (nothing after the input's end), the
--- listing of it all is that text, and then what is still to be printed.
-pub record Standing (frames : Bool) (store tray : List ℕ) (g : Snapshot) (input : List ℕ) : Type 0 where
-  pub characters : List ℕ
-  pub written : List ℕ
+-- A run under way stands for characters that were read and a text that was written: whatever more is read (nothing after the input's end), the listing
+-- of it all is that text, and then what is still to be printed.
+pub record Standing (frames : Bool) (store tray characters written : List ℕ) (g : Snapshot) (input : List ℕ) : Type 0 where
   pub same : (more : List ℕ) → (g .state .eof ≡ true → more ≡ [])
       → listed frames store tray (characters ++ more) ≡ printFirst written (stillToPrint frames g (unscanned (g .state) input ++ more))

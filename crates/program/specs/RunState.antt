@@ -17,6 +17,7 @@ use Rattle.output.specs.Block.{blockLength}
 use Rattle.hexlines.specs.declared.LineSoFar.{LineSoFar}
 use Rattle.hexlines.specs.Line.{lineBytes}
 use Rattle.hexlines.specs.Lines.{LineRead, emptyLine, noCharacters, readSoFar, readFrom}
+use Rattle.messages.specs.Sentences.{sentenceOf}
 use Rattle.program.specs.declared.RunState.{RunState}
 use Rattle.program.specs.Listing.{Refusal, refusal, noRefusal, Outcome, outcome, printFirst, bitsThen, listingOf}
 
@@ -65,6 +66,10 @@ systemAt g = systemOf (g .state .decoder) (g .store) (g .tray)
 -- What ended a run that is over.
 abbrev pub endOf : RunState → Refusal
 endOf s = cond (eqb (s .number) 0) noRefusal (refusal (s .number) (s .lines) (s .line .notes))
+
+-- What the message tells of it: the sentence of the number, the line's number and its notes.
+abbrev pub messageOf : RunState → List ℕ
+messageOf s = sentenceOf (s .number) (s .lines) (s .line .notes)
 
 -- All that is still to be printed, given the characters of the input that are not scanned yet: for the bits left of the last line, and for the lines of
 -- those characters.

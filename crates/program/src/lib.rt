@@ -7,7 +7,7 @@ ghost use Rattle.limits.specs.Limits.{storeLength};
 ghost use Rattle.output.specs.Block.{blockLength, block, putAll};
 ghost use Rattle.program.specs.Listing.{stateLines};
 ghost use Rattle.program.specs.RunState.{start, snapshot, workLeft, canStep, WellFormed, StepReady, AfterTake, EndsLine, ScansLine, AfterSteps};
-ghost use Rattle.program.specs.RunState.{clockNumber, wantsInput, receivedOf, receivedBlock};
+ghost use Rattle.program.specs.RunState.{messageOf, clockNumber, wantsInput, receivedOf, receivedBlock};
 use decoder::Decoder;
 use hexlines::LineSoFar;
 use registers::Plan;
@@ -229,5 +229,15 @@ impl RunState {
         }
         let decoder = self.decoder;
         listing::put_state(out, decoder, store)
+    }
+
+    // The message of the refusal that ended a run; the answer is how many bytes it takes.
+    pub fn put_message(self, out: &mut [u8]) -> usize
+        requires { ⌜ length (now out) ≡ blockLength ⌝ }
+        ensures { λ r. ⌜ block (now (out .exit)) r ≡ putAll (now (out .entry)) 0 (messageOf self) ⌝ }
+    {
+        let line = self.line;
+        let notes = line.notes;
+        messages::put_sentence(out, 0, self.number, self.lines, notes)
     }
 }

@@ -1,4 +1,4 @@
--- The programs' promise, computed.
+-- The programs' promise, proved: the turns by the law of turns in a row, document 01's listing by computation.
 -- Assumes nothing.
 use mathlib.Core.Path.{refl}
 use Rattle.recogniser.specs.Step.{stepOf}
@@ -13,10 +13,16 @@ use Rattle.hexlines.specs.Lines.{linesFrom, linesRead}
 use Rattle.layout.specs.Digits.{charactersOf}
 use Rattle.layout.specs.ListingLines.{numbersLine}
 use Rattle.listing.specs.Records.{recordText}
-use Rattle.program.specs.Listing.{bitsText, listingOf}
+use Rattle.program.specs.Listing.{bitsText, listingOf, stateLines}
 use Rattle.program.specs.Program.{programOf}
+use Rattle.program.proofs.Turns.{turns-print}
 use Rattle.promises.specs.Programs.{ProgramPromise}
 
 pub program-promise : ProgramPromise
-unfolding stepOf trayOf planFits actOf openOf turnOf lineMeaning withNotes linesFrom linesRead charactersOf numbersLine recordText bitsText listingOf programOf
-program-promise = record { listing = refl; to-the-end = refl; refused = refl }
+unfolding stepOf trayOf planFits actOf openOf turnOf lineMeaning withNotes linesFrom linesRead charactersOf numbersLine recordText bitsText listingOf stateLines programOf
+program-promise = record {
+  as-read = λ prints store tray out input turns long wide o i. turns-print prints store tray out input long wide i o turns;
+  listing = refl;
+  to-the-end = refl;
+  refused = refl;
+}

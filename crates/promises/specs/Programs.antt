@@ -4,11 +4,13 @@ use mathlib.Core.Bool.{true, false}
 use mathlib.Core.List.{List, _++_}
 use mathlib.Core.Path.{_≡_}
 use Prim.Native.Nat.{ℕ}
-use lib.ListN.{replicate}
+use lib.ListN.{length, replicate}
 use Rattle.output.specs.Ascii.{ascii}
 use Rattle.program.specs.declared.PrintOptions.{PrintOptions}
-use Rattle.program.specs.Listing.{Outcome, noRefusal}
+use Rattle.program.specs.Listing.{Outcome, outcome, noRefusal, stateLines}
+use Rattle.program.specs.RunState.{start, snapshot, systemAt, endOf}
 use Rattle.program.specs.Program.{programOf}
+use Rattle.program.specs.Turns.{Turn, TurnsMade, allRead, allWritten, lastOf}
 
 -- The station program prints the frames and no state. "Its 2,048 FIFO words start at zero".
 abbrev pub station : PrintOptions
@@ -17,7 +19,20 @@ station = record { frames = true; state = false }
 abbrev pub stationOn : List ℕ → Outcome
 stationOn characters = programOf station (replicate 2048 0) (replicate 8192 0) characters
 
+-- A run by the contracts of the functions between a read and a write: turns in a row, each of which receives what a read brought and lists it, from the
+-- start up to a run that is over. What they write, and then the lines of the state, is the program's text for all the characters that they read, and what
+-- ended the run is what ends the program; wherever the reads end.
+abbrev pub RunsAsRead : PrintOptions → List ℕ → List ℕ → List ℕ → List ℕ → List Turn → Type 0
+RunsAsRead prints store tray out input turns =
+    let g = snapshot start store tray out in
+    let h = lastOf g turns in
+    TurnsMade (prints .frames) g input turns → h .state .over ≡ true
+    → programOf prints store tray (allRead g turns)
+    ≡ outcome (allWritten turns ++ stateLines prints (h .state .decoder) (h .store)) (endOf (h .state)) (systemAt h)
+
 pub record ProgramPromise : Type 0 where
+  pub as-read : (prints : PrintOptions) (store tray out input : List ℕ) (turns : List Turn) → length store ≡ 2048 → length tray ≡ 8192
+      → length out ≡ 65536 → length input ≡ 65536 → RunsAsRead prints store tray out input turns
   -- "Input lines B5C074 and E0B080 print, whole:"
   pub listing : stationOn (ascii "B5C074\nE0B080\n") .text
       ≡ ascii "000000000010 28 01 00000000\n"

@@ -1,1 +1,1 @@
-pub mod BetweenReads
+pub mod UnderWay

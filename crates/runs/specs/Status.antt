@@ -4,9 +4,22 @@ use mathlib.Core.Bool.{cond}
 use Prim.Native.Nat.{ℕ, _≤_}
 use lib.Dec.{eqb}
 
--- By the number of the refusal that ended the run: 0 for the whole input, 1 for a refusal. 2 is for wrong words, 3 for a failure of the system.
+-- The whole input was read; a line was refused; wrong words; the system failed.
+abbrev pub whole : ℕ
+whole = 0
+
+abbrev pub refused : ℕ
+refused = 1
+
+abbrev pub wrongWords : ℕ
+wrongWords = 2
+
+abbrev pub failed : ℕ
+failed = 3
+
+-- By the number of the refusal that ended the run, 0 for none.
 abbrev pub statusOf : ℕ → ℕ
-statusOf number = cond (eqb number 0) 0 1
+statusOf number = cond (eqb number 0) whole refused
 
 abbrev pub IsStatus : ℕ → Type 0
-IsStatus status = status ≤ 3
+IsStatus status = status ≤ failed

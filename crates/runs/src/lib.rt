@@ -1,12 +1,11 @@
 // A program's run over an input: the loop that reads, has the characters turned into text by the crate `program`, and writes.
 ghost use mathlib.Core.Path.{_≡_};
-ghost use mathlib.Core.Bool.{false};
 ghost use Prim.Native.Nat.{_<_};
 ghost use lib.ListN.{length};
 ghost use Rattle.output.specs.Block.{blockLength};
 ghost use Rattle.limits.specs.Limits.{storeLength, trayLength};
 ghost use Rattle.runs.specs.Status.{IsStatus};
-ghost use Rattle.runs.specs.Runs.{AfterRefill, Finished, Ran, Told};
+ghost use Rattle.runs.specs.Runs.{AfterRefill, Finished, Ran};
 use decoder::Decoder;
 use libc::STDOUT_FILENO;
 use program::PrintOptions;
@@ -30,7 +29,7 @@ struct Refilled {
 // The next read, where it is due. After the input's end there is none.
 fn refill(state: RunState, fd: i32, input: &mut [u8]) -> Refilled
     requires { ⌜ 0 < length (now input) ⌝ }
-    ensures { λ r. ⌜ (r .failed ≡ false → AfterRefill state (now (input .entry)) (r .state) (now (input .exit))) ⌝ }
+    ensures { λ r. ⌜ AfterRefill state (now (input .entry)) (r .state) (now (input .exit)) (r .failed) ⌝ }
 {
     if !state.wants_input() {
         return Refilled {
@@ -83,10 +82,8 @@ fn finish(
     if state.number == 0 {
         return WHOLE;
     }
-    let line = state.line;
-    let notes = line.notes;
-    let sentence = messages::put_sentence(output, 0, state.number, state.lines, notes);
-    posix::tell(name, source, &output[..sentence]);
+    let message = state.put_message(output);
+    posix::tell(name, source, &output[..message]);
     REFUSED
 }
 
@@ -131,7 +128,6 @@ fn list(
 
 // "Its 2,048 FIFO words start at zero".
 pub fn list_input(name: &[u8], source: &[u8], fd: i32, prints: PrintOptions) -> u8
-    ensures { λ r. ⌜ Told prints r ⌝ }
     ensures { λ r. ⌜ IsStatus r ⌝ }
 {
     let mut store = [0u32; Decoder::STORE_LENGTH];

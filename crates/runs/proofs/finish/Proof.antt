@@ -1,15 +1,15 @@
 -- `runs::finish` meets its contract: the status is that of the refusal's number, unless a write failed.
 -- Assumes nothing.
 use mathlib.Core.Logic.{inl, inr}
-use mathlib.Core.Path.{refl, sym}
+use mathlib.Core.Path.{refl, sym, _∙_}
 use native.Mathlib.Omega.{arith}
 use lib.Seq.{length-take-le}
 use borrow.Author.Needs.{needs}
 use borrow.Author.Tests.{eq-eqb, ne-eqb}
 use Rattle.output.proofs.Pieces.{put-end-within}
 use Rattle.program.specs.Listing.{stateLines}
+use Rattle.program.specs.RunState.{messageOf}
 use Rattle.program.proofs.StateLines.{state-lines-fit}
-use Rattle.messages.specs.Sentences.{sentenceOf}
 use Rattle.messages.proofs.Lengths.{sentence-short}
 use Rattle.runs.proofs.finish.Statement.{statement}
 use Rattle.runs.proofs.finish.Tie as tie
@@ -18,9 +18,6 @@ use Rattle.runs.proofs.finish.Tie as tie
 abbrev start : tie.After-put-state-lines → tie.Start
 start c = c .before .before .before .before .before .before
 
-abbrev refused : tie.After-notes → tie.Else3
-refused c = c .before .before
-
 abbrev written : tie.Else3 → tie.After-write-whole
 written c = c .before .before .before .before .before
 
@@ -28,8 +25,8 @@ abbrev linesPut : tie.After-write-whole → tie.After-output
 linesPut c = c .before .before .before
 
 -- the block of output at the message, and the run
-abbrev atMessage : tie.After-notes → tie.After-output
-atMessage c = linesPut (written (refused c))
+abbrev atMessage : tie.Else3 → tie.After-output
+atMessage c = linesPut (written c)
 
 put-state-lines-requires : tie.Need-put-state-lines-requires
 put-state-lines-requires c κs = search needs
@@ -76,12 +73,8 @@ same-length-3 c = search needs
 returns-3 : tie.Need-returns-3
 returns-3 c = inr (simp (eq-eqb _ _ (c .if3 .taken)))
 
-put-sentence-requires : tie.Need-put-sentence-requires
-put-sentence-requires c κs =
-    let o = atMessage (c .before) in
-    let b = start (o .before) in
-    let s = b .args .state in
-    omega (arith, sentence-short (s .number) (s .lines) (s .line .notes), o .output .given, b .pre .1)
+put-message-requires : tie.Need-put-message-requires
+put-message-requires c κs = let o = atMessage (c .before) in o .output .given ∙ start (o .before) .pre .1
 
 slice-reshare-prefix-tell : tie.Need-slice-reshare-prefix-tell
 slice-reshare-prefix-tell c =
@@ -89,7 +82,7 @@ slice-reshare-prefix-tell c =
     let o = atMessage (put .before .before) in
     let b = start (o .before) in
     let s = b .args .state in
-    put-end-within _ (sentenceOf (s .number) (s .lines) (s .line .notes)) _ 0 _ (put .put-sentence .ensures)
+    put-end-within _ (messageOf s) _ 0 _ (put .put-message .ensures)
     (omega (arith, sentence-short (s .number) (s .lines) (s .line .notes), o .output .given, b .pre .1))
 
 slice-aggregate-tell : tie.Need-slice-aggregate-tell
@@ -102,7 +95,7 @@ same-length-4 : tie.Need-same-length-4
 same-length-4 c = search needs
 
 returns-4 : tie.Need-returns-4
-returns-4 c = inr (simp (ne-eqb _ _ (refused (c .before .before .before .before .before .before) .if3 .left)))
+returns-4 c = inr (simp (ne-eqb _ _ (c .before .before .before .before .before .before .if3 .left)))
 
 pub finish-spec : {M : Type 1} → statement M
 finish-spec =
@@ -121,7 +114,7 @@ finish-spec =
     returns-2
     same-length-3
     returns-3
-    put-sentence-requires
+    put-message-requires
     slice-reshare-prefix-tell
     slice-aggregate-tell
     tell-requires

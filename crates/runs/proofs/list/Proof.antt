@@ -11,13 +11,13 @@ use lib.Seq.{length-take-le}
 use borrow.Author.Needs.{needs}
 use borrow.Author.Tests.{ltb-true, not-true, not-false}
 use Rattle.bits.proofs.Truth.{both}
-use Rattle.runs.proofs.BetweenReads.{BetweenReads, begins, refilled, block-written, ran}
+use Rattle.runs.proofs.UnderWay.{UnderWay, started, after-read, after-write, ran}
 use Rattle.runs.proofs.list.Statement.{statement}
 use Rattle.runs.proofs.list.Tie as tie
 
 abbrev Inv-loop : tie.InvT-loop
 Inv-loop name source fd prints store₀ tray₀ input₀ output₀ state₀ turns₀ store tray input output state turns =
-    BetweenReads (prints .frames) store₀ tray₀ state store tray input output
+    UnderWay (prints .frames) store₀ tray₀ state store tray input output
 
 abbrev μ-loop : tie.MeasureT-loop
 μ-loop name source fd prints store₀ tray₀ input₀ output₀ state₀ turns₀ store tray input output state turns = turns
@@ -51,16 +51,16 @@ start-requires c κs = search needs
 loop-holds : tie.Need-loop-holds Inv-loop μ-loop
 loop-holds c =
     let b = c .before .before .before .before .before .before .before in
-    begins _ _ _ _ _ (b .pre .0) (b .pre .1) (sym (c .before .before .large-buffer .ensures)) (sym (c .before .large-buffer2 .ensures)) _ (c .start .ensures)
+    started _ _ _ _ _ (b .pre .0) (b .pre .1) (sym (c .before .before .large-buffer .ensures)) (sym (c .before .large-buffer2 .ensures)) _ (c .start .ensures)
 
 sub-turns : tie.Need-sub-turns Inv-loop μ-loop
 sub-turns c = some c
 
 slice-aggregate-refill : tie.Need-slice-aggregate-refill Inv-loop μ-loop
-slice-aggregate-refill c = sym (head (c .before) .loop .inv .input-length)
+slice-aggregate-refill c = sym (head (c .before) .loop .inv .kept .input-length)
 
 refill-requires : tie.Need-refill-requires Inv-loop μ-loop
-refill-requires c κs = omega (arith, head (c .before) .loop .inv .input-length)
+refill-requires c κs = omega (arith, head (c .before) .loop .inv .kept .input-length)
 
 fail-requires : tie.Need-fail-requires Inv-loop μ-loop
 fail-requires c κs = search needs
@@ -70,20 +70,20 @@ start l = l .before .before .before .before .before .before .before .before
 
 -- the run after the read
 ready : (c : tie.Else2 Inv-loop μ-loop) → let l = head (inLoop (read c)) in let a = start l .args in let r = read c .refill in
-    BetweenReads (a .prints .frames) (a .store .now) (a .tray .now) (r .result .state) (l .loop .store) (l .loop .tray) (r .last .1 .1 .0) (l .loop .output)
-ready c = let r = read c in refilled (head (inLoop r) .loop .inv) (under-way (inLoop r)) (r .refill .ensures (c .if2 .left))
+    UnderWay (a .prints .frames) (a .store .now) (a .tray .now) (r .result .state) (l .loop .store) (l .loop .tray) (r .last .1 .1 .0) (l .loop .output)
+ready c = let r = read c in after-read (head (inLoop r) .loop .inv) (under-way (inLoop r)) (r .refill .ensures .came (c .if2 .left))
 
 same-length : tie.Need-same-length Inv-loop μ-loop
-same-length c = let l = head (inLoop (c .before .before .before)) in l .loop .inv .well-formed .store ∙ sym (start l .pre .0)
+same-length c = let l = head (inLoop (c .before .before .before)) in l .loop .inv .kept .well-formed .store ∙ sym (start l .pre .0)
 
 same-length-2 : tie.Need-same-length-2 Inv-loop μ-loop
-same-length-2 c = let l = head (inLoop (c .before .before .before)) in l .loop .inv .well-formed .tray ∙ sym (start l .pre .1)
+same-length-2 c = let l = head (inLoop (c .before .before .before)) in l .loop .inv .kept .well-formed .tray ∙ sym (start l .pre .1)
 
 returns : tie.Need-returns Inv-loop μ-loop
 returns c = inl refl
 
 array-share-prefix-input : tie.Need-array-share-prefix-input Inv-loop μ-loop
-array-share-prefix-input c = let b = ready (c .before) in omega (arith, b .places .length, b .input-length)
+array-share-prefix-input c = let b = ready (c .before) .kept in omega (arith, b .places .length, b .input-length)
 
 slice-aggregate-list-block : tie.Need-slice-aggregate-list-block Inv-loop μ-loop
 slice-aggregate-list-block c = sym (length-take-le _ _ (array-share-prefix-input (c .before)))
@@ -96,10 +96,10 @@ abbrev branch : tie.After-output Inv-loop μ-loop → tie.Else2 Inv-loop μ-loop
 branch c = lent c .before .before
 
 slice-aggregate-list-block-2 : tie.Need-slice-aggregate-list-block-2 Inv-loop μ-loop
-slice-aggregate-list-block-2 c = sym (ready (branch c) .output-length)
+slice-aggregate-list-block-2 c = sym (ready (branch c) .kept .output-length)
 
 list-block-requires : tie.Need-list-block-requires Inv-loop μ-loop
-list-block-requires c κs = let b = ready (branch c) in (b .well-formed, rw (← slice-aggregate-list-block (lent c)) (b .places .next))
+list-block-requires c κs = let b = ready (branch c) .kept in (b .well-formed, rw (← slice-aggregate-list-block (lent c)) (b .places .next))
 
 -- The listing by the loan of what it put.
 abbrev listing : tie.After-output2 Inv-loop μ-loop → tie.After-list-block Inv-loop μ-loop
@@ -141,13 +141,13 @@ loop-again : tie.Need-loop-again Inv-loop μ-loop
 loop-again c =
     let o = c .before .before .before in
     let l = listing o in
-    block-written (ready (branch (l .before))) (l .list-block .ensures .0) (o .output2 .given)
+    after-write (ready (branch (l .before))) (l .list-block .ensures .0) (o .output2 .given)
 
 same-length-5 : tie.Need-same-length-5 Inv-loop μ-loop
-same-length-5 c = let l = c .before .before .before .before in l .loop .inv .well-formed .store ∙ sym (start l .pre .0)
+same-length-5 c = let l = c .before .before .before .before in l .loop .inv .kept .well-formed .store ∙ sym (start l .pre .0)
 
 same-length-6 : tie.Need-same-length-6 Inv-loop μ-loop
-same-length-6 c = let l = c .before .before .before .before in l .loop .inv .well-formed .tray ∙ sym (start l .pre .1)
+same-length-6 c = let l = c .before .before .before .before in l .loop .inv .kept .well-formed .tray ∙ sym (start l .pre .1)
 
 returns-3 : tie.Need-returns-3 Inv-loop μ-loop
 returns-3 c = inl refl
@@ -157,16 +157,16 @@ abbrev last : tie.After-output4 Inv-loop μ-loop → tie.At-loop Inv-loop μ-loo
 last c = c .before .before .before .before .before .before
 
 slice-aggregate-finish : tie.Need-slice-aggregate-finish Inv-loop μ-loop
-slice-aggregate-finish c = sym (last c .loop .inv .output-length)
+slice-aggregate-finish c = sym (last c .loop .inv .kept .output-length)
 
 finish-requires : tie.Need-finish-requires Inv-loop μ-loop
-finish-requires c κs = let i = last c .loop .inv in (i .well-formed .store, i .output-length)
+finish-requires c κs = let i = last c .loop .inv .kept in (i .well-formed .store, i .output-length)
 
 same-length-7 : tie.Need-same-length-7 Inv-loop μ-loop
-same-length-7 c = let l = last (c .before .before) in l .loop .inv .well-formed .store ∙ sym (start l .pre .0)
+same-length-7 c = let l = last (c .before .before) in l .loop .inv .kept .well-formed .store ∙ sym (start l .pre .0)
 
 same-length-8 : tie.Need-same-length-8 Inv-loop μ-loop
-same-length-8 c = let l = last (c .before .before) in l .loop .inv .well-formed .tray ∙ sym (start l .pre .1)
+same-length-8 c = let l = last (c .before .before) in l .loop .inv .kept .well-formed .tray ∙ sym (start l .pre .1)
 
 returns-4 : tie.Need-returns-4 Inv-loop μ-loop
 returns-4 c =
