@@ -2,13 +2,11 @@
 -- Assumes nothing.
 use mathlib.Core.Path.{refl}
 use Rattle.recogniser.specs.Step.{stepOf}
-use Rattle.frames.specs.Tray.{trayOf}
 use Rattle.registers.specs.Plan.{planFits}
 use Rattle.controller.specs.Commands.{actOf}
 use Rattle.decoder.specs.Opening.{openOf}
 use Rattle.taking.specs.Turn.{turnOf}
 use Rattle.hexlines.specs.Line.{lineMeaning}
-use Rattle.hexlines.specs.Notes.{withNotes}
 use Rattle.hexlines.specs.Lines.{linesFrom, linesRead}
 use Rattle.layout.specs.Digits.{charactersOf}
 use Rattle.layout.specs.ListingLines.{numbersLine}
@@ -19,7 +17,7 @@ use Rattle.program.proofs.Turns.{turns-print}
 use Rattle.promises.specs.Programs.{ProgramPromise}
 
 pub program-promise : ProgramPromise
-unfolding stepOf trayOf planFits actOf openOf turnOf lineMeaning withNotes linesFrom linesRead charactersOf numbersLine recordText bitsText listingOf stateLines programOf
+unfolding stepOf planFits actOf openOf turnOf lineMeaning linesFrom linesRead charactersOf numbersLine recordText bitsText listingOf stateLines programOf
 program-promise = record {
   as-read = λ prints store tray out input turns long wide o i. turns-print prints store tray out input long wide i o turns;
   listing = refl;
