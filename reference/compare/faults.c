@@ -8,10 +8,13 @@
  *
  *   FAULTS_READ_MOST        bytes that a read gives at most
  *   FAULTS_WRITE_MOST       bytes that a write takes at most
- *   FAULTS_INTERRUPT        1: every other read and write is interrupted (EINTR)
+ *   FAULTS_INTERRUPT        calls in a row that are interrupted (EINTR) ahead of
+ *                           each read, and of each write, that is not
  *   FAULTS_READ_FAILS_AT    bytes after which reads fail (EIO)
  *   FAULTS_WRITE_FAILS_AT   bytes after which writes fail (ENOSPC)
- *   FAULTS_CLOSE_FAILS      1: closing standard output fails (EIO)
+ *   FAULTS_WRITE_STOPS_AT   bytes after which writes take nothing and answer 0
+ *   FAULTS_CLOSE_ERROR      the error (errno) of closing standard output, which
+ *                           is closed all the same
  *
  * Writes to standard error are left alone.
  */
@@ -49,8 +52,8 @@ static size_t number(const char *variable, size_t other) {
 static ssize_t allowed(struct calls *calls, size_t size) {
     size_t most = number(calls->most, SSIZE_MAX);
     size_t left = number(calls->fails_at, SSIZE_MAX) - calls->moved;
-    calls->count++;
-    if (calls->count % 2 == 1 && number("FAULTS_INTERRUPT", 0) != 0) {
+    size_t interrupted = number("FAULTS_INTERRUPT", 0);
+    if (calls->count++ % (interrupted + 1) < interrupted) {
         errno = EINTR;
         return -1;
     }
@@ -77,15 +80,16 @@ ssize_t read(int descriptor, void *block, size_t size) {
 ssize_t write(int descriptor, const void *bytes, size_t size) {
     if (!acts() || descriptor == STDERR_FILENO)
         return syscall(SYS_write, descriptor, bytes, size);
-    ssize_t most = allowed(&writes, size);
+    size_t room = number("FAULTS_WRITE_STOPS_AT", SSIZE_MAX) - writes.moved;
+    ssize_t most = allowed(&writes, size < room ? size : room);
     return most < 0 ? -1 : moved(&writes, syscall(SYS_write, descriptor, bytes, most));
 }
 
 int close(int descriptor) {
     int answer = (int)syscall(SYS_close, descriptor);
-    if (acts() && descriptor == STDOUT_FILENO && number("FAULTS_CLOSE_FAILS", 0) != 0) {
-        errno = EIO;
-        return -1;
-    }
-    return answer;
+    int error = (int)number("FAULTS_CLOSE_ERROR", 0);
+    if (answer != 0 || error == 0 || descriptor != STDOUT_FILENO || !acts())
+        return answer;
+    errno = error;
+    return -1;
 }

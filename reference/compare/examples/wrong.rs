@@ -7,7 +7,7 @@
 use reader::{Program, System};
 use std::ffi::OsStr;
 use std::fs::File;
-use std::io::{self, Read, Write};
+use std::io::{self, ErrorKind, Read, Write};
 use std::os::fd::AsFd;
 use std::os::unix::ffi::{OsStrExt, OsStringExt};
 use std::path::Path;
@@ -22,7 +22,12 @@ struct Wrong {
     /// The beginning of a line that has not ended.
     begun: Vec<u8>,
     said: bool,
+    /// Interruptions of a call in a row.
+    interruptions: usize,
 }
+
+/// Interruptions after which a call is not tried again.
+const PATIENCE: usize = 2;
 
 impl Wrong {
     fn is(&self, way: &str) -> bool {
@@ -34,6 +39,26 @@ impl Wrong {
             self.input = Box::new(File::open(OsStr::from_bytes(name))?);
         }
         Ok(())
+    }
+
+    /// What a call answered, but no more than so many interruptions in a row.
+    fn give_up(&mut self, answer: io::Result<usize>) -> io::Result<usize> {
+        self.interruptions = match was_interrupted(&answer) {
+            true => self.interruptions + 1,
+            false => 0,
+        };
+        match self.interruptions > PATIENCE {
+            true => Err(io::Error::other("interrupted too often")),
+            false => answer,
+        }
+    }
+
+    /// Writes to standard output, or where it is wrong to.
+    fn put(&mut self, bytes: &[u8]) -> io::Result<usize> {
+        match self.is("lists-on-standard-error") {
+            true => io::stderr().write(bytes),
+            false => self.output.write(bytes),
+        }
     }
 
     /// Whole lines only. The beginning of one is dropped when more comes.
@@ -55,6 +80,10 @@ impl Wrong {
     }
 }
 
+fn was_interrupted(answer: &io::Result<usize>) -> bool {
+    matches!(answer, Err(error) if error.kind() == ErrorKind::Interrupted)
+}
+
 impl System for Wrong {
     fn open(&mut self, name: &[u8]) -> io::Result<()> {
         self.file = Some(name.to_vec());
@@ -69,11 +98,14 @@ impl System for Wrong {
             true => self.read_forgetting(block),
             false => self.input.read(block),
         };
+        let interrupted = was_interrupted(&read);
         match &read {
             Err(_) if self.is("hangs-after-a-failed-read") => loop {
                 std::thread::sleep(Duration::from_secs(1));
             },
             Err(_) if self.is("takes-a-failed-read-for-the-end") => Ok(0),
+            _ if interrupted && self.is("takes-an-interrupted-read-for-the-end") => Ok(0),
+            _ if self.is("gives-up-reading") => self.give_up(read),
             Err(error) if self.is("fails-when-interrupted") => {
                 Err(io::Error::other(error.to_string()))
             }
@@ -88,11 +120,15 @@ impl System for Wrong {
         if self.is("writes-twice") {
             self.output.write_all(bytes)?;
         }
-        let written = self.output.write(bytes)?;
-        Ok(match self.is("drops-the-rest-of-a-write") {
-            true => bytes.len(),
-            false => written,
-        })
+        let mut written = self.put(bytes);
+        while self.is("insists") && matches!(written, Ok(0)) {
+            written = self.put(bytes);
+        }
+        match written {
+            Ok(_) if self.is("drops-the-rest-of-a-write") => Ok(bytes.len()),
+            _ if self.is("gives-up-writing") => self.give_up(written),
+            _ => written,
+        }
     }
 
     fn close_output(&mut self) -> io::Result<()> {
@@ -128,6 +164,7 @@ fn main() -> ExitCode {
         output: File::from(output),
         begun: Vec::new(),
         said: false,
+        interruptions: 0,
     };
     let status = program.map(|program| program.start(&words, &mut system));
     match status {

@@ -1,9 +1,12 @@
 //! The golden files: writing them, and seeing every change of them.
 
 use cases::{golden, Case};
-use compare::golden::{check, check_files, files, stored, strays, write};
+use compare::golden::{check, files, stored, strays, write};
+use compare::printed::printed;
 use compare::programs::fault::Fault;
 use compare::programs::scratch::Scratch;
+use compare::tally::Check;
+use reader::Program;
 use std::fs;
 use std::path::{Path, PathBuf};
 
@@ -17,7 +20,11 @@ fn folder(name: &str) -> PathBuf {
 
 /// Names of the failed checks with their faults.
 fn failed(folder: &Path, cases: &[Case]) -> Vec<(String, Fault)> {
-    let checks = check(folder, cases).into_iter();
+    faults(check(folder, cases))
+}
+
+fn faults(checks: Vec<Check>) -> Vec<(String, Fault)> {
+    let checks = checks.into_iter();
     checks
         .filter_map(|check| Some((check.name, check.fault?)))
         .collect()
@@ -86,13 +93,14 @@ fn what_is_said_is_a_file() {
     assert_eq!(files(&named("paper/listing")[0]).len(), 4);
 }
 
-/// The stored runs show a frame, a refusal, a state and more than a block.
+/// The stored runs show a frame, a refusal, more than a block, a file to its
+/// end, and the state at the end of the input.
 #[test]
 fn stored_runs() {
     let folder = folder("stored");
-    write(&folder, stored::files()).unwrap();
-    let checks = check_files(&folder, stored::files());
-    assert!(checks.len() == 6 && checks.iter().all(|check| check.fault.is_none()));
+    stored::write_all(&folder).unwrap();
+    let checks = stored::check(&folder);
+    assert!(checks.len() == 7 && faults(checks) == []);
     let read = |name: &str| fs::read_to_string(folder.join(name)).unwrap();
     let (input, output) = (read("station/stdin"), read("station/stdout"));
     assert!((65_537..75_000).contains(&input.len()) && output.len() < 20_000);
@@ -101,15 +109,38 @@ fn stored_runs() {
     assert!(output.contains("\n>C3A5F1\n"));
     let last = output.lines().last().unwrap();
     assert!(last.starts_with("!07 ") && output.matches("\n>").count() >= 7);
-    assert!(!read("reading/stdout").contains(['!', '>']));
+
+    assert_eq!(read("reading/args"), "capture.hex\n");
+    let (file, listing) = (read("reading/data/capture.hex"), read("reading/stdout"));
+    assert!(!listing.contains(['!', '>']));
+    // The last line, which no line feed ends, has records.
+    let (whole, last) = file.rsplit_once('\n').unwrap();
+    let without = printed(Program::Reading, whole.as_bytes());
+    assert!(!last.is_empty() && listing.len() == without.len() + 4 * 28);
+
     let state = read("model/stdout");
-    assert!(state.contains("\n!08 ") && state.contains("\nword "));
-    fs::write(folder.join("model/stdout"), "").unwrap();
-    let checks = check_files(&folder, stored::files());
-    assert_eq!(
-        checks.iter().filter(|check| check.fault.is_some()).count(),
-        1
-    );
+    assert!(!state.contains('!') && state.contains("\nword ") && state.contains("\nl1id 06\n"));
+}
+
+#[test]
+fn every_change_of_a_stored_run_shows() {
+    let folder = folder("stored-changed");
+    stored::write_all(&folder).unwrap();
+    for name in ["model/stdout", "reading/args", "reading/data/capture.hex"] {
+        let contents = fs::read(folder.join(name)).unwrap();
+        fs::write(folder.join(name), "").unwrap();
+        let faults = faults(stored::check(&folder));
+        assert!(matches!(&faults[..], [(_, Fault::Differs(_))]), "{name}");
+        fs::write(folder.join(name), contents).unwrap();
+    }
+    // What another run has left behind.
+    for name in ["reading/stdin", "reading/data/other", "model/args"] {
+        fs::write(folder.join(name), "").unwrap();
+        let faults = faults(stored::check(&folder));
+        assert!(matches!(&faults[..], [(_, Fault::Stray)]), "{name}");
+        stored::write_all(&folder).unwrap();
+        assert!(!folder.join(name).exists(), "{name}");
+    }
 }
 
 #[test]

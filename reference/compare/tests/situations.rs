@@ -67,6 +67,47 @@ fn every_end_and_every_message_is_among_them() {
     assert!(!said.contains("Broken pipe"));
 }
 
+/// An interrupted closing is none that has failed.
+#[test]
+fn an_interrupted_closing_says_nothing() {
+    let all = situations(Means::ALL);
+    let found = |name: &str| all.iter().find(|s| s.name == name).expect(name);
+    for (what, status) in [("good", 0), ("--help", 0), ("refused", 1)] {
+        let interrupted = found(&format!("closing is interrupted, {what}"));
+        let failed = found(&format!("closing fails, {what}"));
+        for program in Program::ALL {
+            let expected = interrupted.expected(program);
+            assert_eq!(expected.end, End::Status(status));
+            assert_eq!(expected.said.is_empty(), status == 0);
+            assert_eq!(failed.expected(program).end, End::Status(3));
+        }
+    }
+}
+
+/// The system has no text for a write that takes nothing.
+#[test]
+fn a_write_of_nothing_ends_the_run() {
+    let mut ended = 0;
+    for situation in situations(Means::ALL) {
+        let Some(at) = situation.faults.write_stops_at else {
+            continue;
+        };
+        for program in Program::ALL {
+            let expected = situation.expected(program);
+            let (begins, status) = match at {
+                5_000 => (String::new(), 0),
+                _ => (format!("{}: standard output: ", program.name()), 3),
+            };
+            assert_eq!(expected.end, End::Status(status), "{}", situation.name);
+            assert_eq!(expected.said, begins.as_bytes(), "{}", situation.name);
+            assert_eq!(expected.own_reason, status == 3);
+            assert!(status == 0 || expected.printed.len() == at);
+            ended += usize::from(status == 3);
+        }
+    }
+    assert!(ended >= 24, "{ended}");
+}
+
 /// `model` prints no state where a read has failed.
 #[test]
 fn no_state_after_a_failed_read() {

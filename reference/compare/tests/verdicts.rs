@@ -59,6 +59,7 @@ fn fault(expected: End, printed: &str, said: &str, end: Option<End>) -> Option<F
     let expected = Expected {
         printed: b"a\n".to_vec(),
         said: b"b\n".to_vec(),
+        own_reason: false,
         end: expected,
     };
     let run = Run {
@@ -100,6 +101,41 @@ fn judgements() {
     }
 }
 
+/// One line that begins so; the rest is the program's own.
+#[test]
+fn a_reason_of_its_own() {
+    let end = End::Status(3);
+    let expected = Expected {
+        printed: b"a\n".to_vec(),
+        said: b"x: standard output: ".to_vec(),
+        own_reason: true,
+        end,
+    };
+    let fault = |said: &str| {
+        let run = Run {
+            printed: b"a\n".to_vec(),
+            said: said.as_bytes().to_vec(),
+            end: Some(end),
+        };
+        judge(&expected, &run)
+    };
+    for right in ["Success", "nothing is taken", ":"] {
+        assert_eq!(fault(&format!("x: standard output: {right}\n")), None);
+    }
+    for wrong in [
+        "",
+        "x: standard output: ",
+        "x: standard output: \n",
+        "x: standard output: Success",
+        "x: standard output: Success\n\n",
+        "x: standard output: Success\nx: standard output: Success\n",
+        "y: standard output: Success\n",
+        "x: standard input: Success\n",
+    ] {
+        assert!(matches!(fault(wrong), Some(Fault::Says(_))), "{wrong:?}");
+    }
+}
+
 #[test]
 fn faults_in_words() {
     let says = fault(End::Status(1), "a\n", "", Some(End::Status(1))).unwrap();
@@ -115,6 +151,7 @@ fn without_a_status_it_is_0() {
     let expected = |end| Expected {
         printed: Vec::new(),
         said: Vec::new(),
+        own_reason: false,
         end,
     };
     for (end, without) in [

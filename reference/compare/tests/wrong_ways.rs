@@ -100,6 +100,11 @@ fn the_right_program_passes() {
         "a read fails at 10 of 14",
         "a read fails at 0 of 14, named",
         "interrupted, good",
+        "interrupted 5 times, good",
+        "interrupted 5 times, large, whole blocks",
+        "writes take nothing at 28, good",
+        "writes take nothing at 30, interrupted",
+        "closing is interrupted, good",
         "standard error with standard output, refused",
     ] {
         assert_eq!(right.starts(name), [None, None, None], "{name}");
@@ -212,11 +217,60 @@ fn one_that_fails_when_interrupted() {
     assert!(differ(&wrong.reads("paper/listing", "interrupted calls")));
 }
 
+/// Of its reads or of its writes; a third interruption shows it.
+#[test]
+fn one_that_gives_up_after_two_interruptions() {
+    for way in ["gives-up-reading", "gives-up-writing"] {
+        let wrong = Wrong::new(way, true);
+        assert_eq!(wrong.starts("interrupted, good"), [None, None, None]);
+        for name in [
+            "interrupted 5 times, good",
+            "interrupted 5 times, good, whole blocks",
+            "interrupted 5 times, large, whole blocks",
+        ] {
+            assert!(differ(&wrong.starts(name)), "{way}, {name}");
+        }
+    }
+    let wrong = Wrong::new("gives-up-writing", true);
+    assert!(differ(&wrong.starts("interrupted 5 times, --help")));
+}
+
+#[test]
+fn one_that_takes_an_interrupted_read_for_the_end() {
+    let wrong = Wrong::new("takes-an-interrupted-read-for-the-end", true);
+    assert!(differ(&wrong.starts("interrupted, good")));
+    assert!(differ(&wrong.starts("interrupted 5 times, named")));
+    assert!(differ(&wrong.reads("paper/listing", "interrupted calls")));
+    // A read that fails is still one that has failed.
+    let failed = wrong.starts("a read fails at 10 of 14");
+    assert_eq!(failed, [None, None, None]);
+}
+
+#[test]
+fn one_that_lists_on_standard_error() {
+    let wrong = Wrong::new("lists-on-standard-error", true);
+    assert!(differ(&wrong.starts("- for standard input")));
+    assert!(differ(&wrong.starts("--help")));
+    assert!(differ(&wrong.reads("paper/listing", "as a file")));
+    // Where both are the same it does not show.
+    let joined = wrong.starts("standard error with standard output, good");
+    assert_eq!(joined, [None, None, None]);
+}
+
+#[test]
+fn one_that_writes_again_what_is_not_taken() {
+    let mut wrong = Wrong::new("insists", true);
+    wrong.programs.run_limit = Duration::from_secs(1);
+    let faults = wrong.starts("writes take nothing at 28, good");
+    assert_eq!(faults, vec![Some(Fault::Hangs(None)); 3]);
+}
+
 #[test]
 fn one_that_drops_the_rest_of_a_short_write() {
     let wrong = Wrong::new("drops-the-rest-of-a-write", true);
     assert!(differ(&wrong.starts("interrupted, good")));
     assert!(differ(&wrong.reads("paper/listing", "interrupted calls")));
+    assert!(say(&wrong.starts("writes take nothing at 0, good")));
 }
 
 /// Rust's own start ignores SIGPIPE, and the stand-in closes without a look.

@@ -263,15 +263,28 @@ fn a_closing_that_fails() {
     }
 }
 
+/// A write that takes nothing would take nothing for ever.
+#[test]
+fn a_write_of_nothing() {
+    let mut system = Scripted::input(&[b"B5C074\n", b"E0B080\n"]);
+    system.writes = [Ok(3), Ok(0)].into();
+    let (status, line) = system.start(Program::Station, &[]);
+    assert_eq!(status, Status::SystemFailed);
+    assert!(line.starts_with("station: standard output: ") && line.ends_with('\n'));
+    assert_eq!(system.printed(), &FIRST[..3]);
+    assert_eq!(system.reads.len(), 1);
+}
+
 /// Interrupted calls are made again, and short writes continued.
 #[test]
 fn interrupted_and_short_calls() {
     let mut system = Scripted::default();
     for character in b"B5C074\nE0B08\n" {
-        system.reads.extend([Err(EINTR), Ok(vec![*character])]);
+        system.reads.extend([Err(EINTR), Err(EINTR), Err(EINTR)]);
+        system.reads.push_back(Ok(vec![*character]));
     }
-    system.writes = (0..400)
-        .map(|n| if n % 2 == 0 { Err(EINTR) } else { Ok(1) })
+    system.writes = (0..600)
+        .map(|n| if n % 4 < 3 { Err(EINTR) } else { Ok(1) })
         .collect();
     let line = "station: standard input: line 2: the count of digits is 5, which is odd\n";
     let ended = system.start(Program::Station, &[]);

@@ -1,6 +1,6 @@
 //! A short run at the bench, with every kind of record and every flag: the
-//! example for the person who uses the reader. The same with a refused line,
-//! and a longer one.
+//! example for the person who uses the reader. The same with a last line that
+//! has no line feed, with a refused line, and a longer one.
 
 use crate::{code, Case, Stream};
 
@@ -13,9 +13,12 @@ const BLOCK: usize = 65_536;
 
 pub fn cases() -> Vec<Case> {
     let stream = capture();
+    // Four records more.
+    let no_feed = [&stream.lines()[..], b"B5C074E0B080"].concat();
     let odd = [&stream.lines()[..], b"E0B08\nE0B080\n"].concat();
     vec![
         Case::stream("capture/capture", &stream).golden_if(true),
+        Case::new("capture/no-last-line-feed", no_feed),
         Case::new("refusals/after-a-capture", odd),
         Case::new("refusals/after-a-block", two_blocks(stream)),
     ]

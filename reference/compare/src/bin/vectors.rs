@@ -3,7 +3,8 @@
 //!
 //! With `--golden` only the cases that have golden files, and files of cases
 //! that are no more are removed. With `--stored` the runs that are stored
-//! beside the programs, where FOLDER is that of the crates.
+//! beside the programs, where FOLDER is that of the crates; what belonged to
+//! other runs is removed.
 
 #![forbid(unsafe_code)]
 
@@ -20,7 +21,7 @@ fn main() -> ExitCode {
     let written = match arguments[..] {
         [folder] if !folder.starts_with("--") => write_all(Path::new(folder), fixed()),
         [folder, "--golden"] => write_golden(Path::new(folder)),
-        [folder, "--stored"] => write(Path::new(folder), stored::files()).map(|()| 3),
+        [folder, "--stored"] => stored::write_all(Path::new(folder)).map(|()| 3),
         [folder, "--generated", count] => match count.parse() {
             Ok(count) => write_all(Path::new(folder), [fixed(), generated(count)].concat()),
             Err(_) => return usage(),

@@ -4,7 +4,7 @@
 mod check;
 pub mod stored;
 
-pub use check::{check, check_files};
+pub use check::check;
 
 use crate::programs::expected::Expected;
 use cases::Case;

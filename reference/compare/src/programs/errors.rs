@@ -1,6 +1,7 @@
 //! The system's numbers of its errors.
 
 pub const ENOENT: i32 = 2;
+pub const EINTR: i32 = 4;
 pub const EIO: i32 = 5;
 pub const EBADF: i32 = 9;
 pub const ENOTDIR: i32 = 20;

@@ -35,7 +35,8 @@ pub fn judge(expected: &Expected, run: &Run) -> Option<Fault> {
     let Some(got) = run.end else {
         return Some(Fault::Hangs(printed));
     };
-    let said = || difference(&expected.said, &run.said).map(Fault::Says);
+    let to_be_said = expected.to_be_said(&run.said);
+    let said = || difference(&to_be_said, &run.said).map(Fault::Says);
     let expected = expected.end;
     let ended = || (expected != got).then_some(Fault::Ends { expected, got });
     printed.map(Fault::Differs).or_else(said).or_else(ended)

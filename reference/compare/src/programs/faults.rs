@@ -17,20 +17,22 @@ const LIBRARY: &str = "./faults.so";
 pub struct Faults {
     pub read_most: Option<usize>,
     pub write_most: Option<usize>,
-    pub interrupt: bool,
+    pub interrupt: Option<usize>,
     pub read_fails_at: Option<usize>,
     pub write_fails_at: Option<usize>,
-    pub close_fails: bool,
+    pub write_stops_at: Option<usize>,
+    pub close_error: Option<i32>,
 }
 
 impl Faults {
     pub const NONE: Faults = Faults {
         read_most: None,
         write_most: None,
-        interrupt: false,
+        interrupt: None,
         read_fails_at: None,
         write_fails_at: None,
-        close_fails: false,
+        write_stops_at: None,
+        close_error: None,
     };
 
     /// Every other call is interrupted, the others move few bytes; of long
@@ -39,25 +41,28 @@ impl Faults {
         Faults {
             read_most: Some((input / 300).max(3)),
             write_most: Some((output / 300).max(7)),
-            interrupt: true,
+            interrupt: Some(1),
             ..Faults::NONE
         }
     }
 
     /// Has a command meet them in a program of this name.
     pub fn put_into(self, command: &mut Command, program: &str) {
-        let flag = |set: bool| set.then_some(1);
-        for (variable, number) in [
+        let counts = [
             ("FAULTS_READ_MOST", self.read_most),
             ("FAULTS_WRITE_MOST", self.write_most),
-            ("FAULTS_INTERRUPT", flag(self.interrupt)),
+            ("FAULTS_INTERRUPT", self.interrupt),
             ("FAULTS_READ_FAILS_AT", self.read_fails_at),
             ("FAULTS_WRITE_FAILS_AT", self.write_fails_at),
-            ("FAULTS_CLOSE_FAILS", flag(self.close_fails)),
-        ] {
-            if let Some(number) = number {
-                command.env(variable, number.to_string());
+            ("FAULTS_WRITE_STOPS_AT", self.write_stops_at),
+        ];
+        for (variable, count) in counts {
+            if let Some(count) = count {
+                command.env(variable, count.to_string());
             }
+        }
+        if let Some(error) = self.close_error {
+            command.env("FAULTS_CLOSE_ERROR", error.to_string());
         }
         if self != Faults::NONE {
             command.env("LD_PRELOAD", LIBRARY).env("FAULTS_IN", program);

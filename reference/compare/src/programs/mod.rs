@@ -48,8 +48,7 @@ pub fn compare(programs: &Path, has_status: bool, repository: &Path) -> io::Resu
     }
     let golden_files = repository.join("tests/golden");
     tally.add(golden::check(&golden_files, &cases::golden()));
-    let stored = golden::stored::files();
-    tally.add(golden::check_files(&repository.join("crates"), stored));
+    tally.add(golden::stored::check(&repository.join("crates")));
     for checks in pool::each(&live::cases(), |live| live::check(&under_test, live)) {
         tally.add(checks);
     }

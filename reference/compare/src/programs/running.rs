@@ -61,7 +61,7 @@ impl Running {
         Ok(Running {
             child,
             output: Collected::begin(output, expected.printed.len()),
-            error: Collected::begin(error, expected.said.len()),
+            error: Collected::begin(error, expected.most_said()),
         })
     }
 

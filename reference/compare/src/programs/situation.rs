@@ -148,7 +148,8 @@ impl Situation {
             Output::Limited(blocks) => Some((blocks * LIMIT_BLOCK, EFBIG)),
             Output::Leaves { after, .. } => Some((after, EPIPE)),
         };
-        system.close_error = self.faults.close_fails.then_some(EIO);
+        system.stops_at = self.faults.write_stops_at;
+        system.close_error = self.faults.close_error;
         system.joined = self.error == ErrorOutput::Joined;
         system.signals = matches!(self.output, Output::Leaves { ignored: false, .. });
         system

@@ -1,14 +1,19 @@
-//! Calls that fail in the middle of a run, are interrupted or move few bytes.
+//! Calls that fail in the middle of a run, are interrupted, move few bytes or
+//! none.
 
 use super::{large, GOOD, REFUSED, SILENT};
+use crate::programs::errors::{EINTR, EIO};
 use crate::programs::faults::Faults;
 use crate::programs::situation::Situation;
 
 pub fn situations() -> Vec<Situation> {
     let mut all = reads();
     all.extend(writes());
-    all.extend(closings());
-    all.extend(interrupted());
+    all.extend(writes_of_nothing());
+    all.extend(closings("fails", EIO));
+    all.extend(closings("is interrupted", EINTR));
+    all.extend(interrupted(1, "interrupted"));
+    all.extend(interrupted(5, "interrupted 5 times"));
     all
 }
 
@@ -60,13 +65,40 @@ fn writes() -> Vec<Situation> {
     all
 }
 
-fn closings() -> Vec<Situation> {
+/// The bytes after which writes take none and answer 0, which is no error.
+fn writes_of_nothing() -> Vec<Situation> {
+    let new = |what: &str, contents: &[u8], at, interrupt| {
+        let name = format!("writes take nothing at {at}, {what}");
+        let faults = Faults {
+            write_stops_at: Some(at),
+            interrupt,
+            ..Faults::NONE
+        };
+        Situation::new(name, contents).faults(faults)
+    };
+    vec![
+        new("good", GOOD, 0, None),
+        new("good", GOOD, 28, None),
+        new("good", GOOD, 100, None),
+        // More than is written.
+        new("good", GOOD, 5_000, None),
+        new("interrupted", GOOD, 30, Some(1)),
+        new("refused", REFUSED, 5, None),
+        new("refused", REFUSED, 56, None),
+        new("large", &large(), 65_536, None),
+        new("--help", GOOD, 10, None).word("--help"),
+        new("--version", GOOD, 0, None).word("--version"),
+    ]
+}
+
+/// Closing standard output.
+fn closings(how: &str, error: i32) -> Vec<Situation> {
     let faults = Faults {
-        close_fails: true,
+        close_error: Some(error),
         ..Faults::NONE
     };
     let new = |what: &str, contents: &[u8]| {
-        Situation::new(format!("closing fails, {what}"), contents).faults(faults)
+        Situation::new(format!("closing {how}, {what}"), contents).faults(faults)
     };
     vec![
         new("good", GOOD),
@@ -79,19 +111,25 @@ fn closings() -> Vec<Situation> {
     ]
 }
 
-fn interrupted() -> Vec<Situation> {
+/// So many interruptions ahead of each call.
+fn interrupted(times: usize, name: &str) -> Vec<Situation> {
+    let whole = Faults {
+        interrupt: Some(times),
+        ..Faults::NONE
+    };
+    let by_bytes = Faults {
+        read_most: Some(1),
+        write_most: Some(1),
+        ..whole
+    };
     let new = |what: &str, contents: &[u8]| {
-        let faults = Faults {
-            read_most: Some(1),
-            write_most: Some(1),
-            interrupt: true,
-            ..Faults::NONE
-        };
-        Situation::new(format!("interrupted, {what}"), contents).faults(faults)
+        Situation::new(format!("{name}, {what}"), contents).faults(by_bytes)
     };
     let long = [&[b'A'; 9_000][..], b"\r\n"].concat();
     vec![
         new("good", GOOD),
+        new("good, whole blocks", GOOD).faults(whole),
+        new("large, whole blocks", &large()).faults(whole),
         new("named", REFUSED).named(),
         new("a long line", &long).named(),
         new("--help", GOOD).word("--help"),
