@@ -1,5 +1,6 @@
 pub mod Digits
 pub mod Meaning
+pub mod Notes
 pub mod PartlyRead
 pub mod Blocks
 pub mod Example

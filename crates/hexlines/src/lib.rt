@@ -1,11 +1,11 @@
 // The hexadecimal lines of an input, which may be of any length and may come in blocks. No public call asks anything of its caller.
 ghost use mathlib.Core.Path.{_≡_};
-ghost use mathlib.Core.Bool.{true};
+ghost use mathlib.Core.Bool.{true, cond};
 ghost use Prim.Native.Nat.{_+_, _≤_, _<_};
+ghost use lib.Dec.{eqb};
 ghost use lib.ListN.{length, drop};
 ghost use Rattle.hexlines.specs.Digits.{isDigit, digitOf};
 ghost use Rattle.hexlines.specs.Line.{lineBytes, hexNumber, readAs, readOf, readInto};
-ghost use Rattle.hexlines.specs.Notes.{withNote};
 ghost use Rattle.hexlines.specs.Lines.{emptyLine, withCharacters, answerOf, noCharacters, upToLineFeed, scanOf};
 
 // What a hexadecimal line means: n bytes, or rejected with number 7 or 8; and with number 4 where a call that reads it is lent too few bytes.
@@ -95,25 +95,17 @@ fn line_end(block: &[u8], at: usize) -> usize
     end
 }
 
-impl LineNotes {
-    // One more character.
-    fn with_character(self, character: u8) -> LineNotes
-        ensures { λ r. ⌜ r ≡ withNote self character ⌝ }
-    {
-        let length = std::num::wrapping_add_u64(self.length, 1);
-        if is_digit(character) | (self.place != 0) {
-            return LineNotes {
-                length: length,
-                place: self.place,
-                character: self.character,
-            };
-        }
-        LineNotes {
-            length: length,
-            place: length,
-            character: character,
-        }
-    }
+// The place, and the character, of a line's first character that is no digit, at one that is none: place 0 says that there was none before.
+fn first_place(place: u64, here: u64) -> u64
+    ensures { λ r. ⌜ r ≡ cond (eqb place 0) here place ⌝ }
+{
+    if place == 0 { here } else { place }
+}
+
+fn first_character(place: u64, first: u8, character: u8) -> u8
+    ensures { λ r. ⌜ r ≡ cond (eqb place 0) character first ⌝ }
+{
+    if place == 0 { character } else { first }
 }
 
 impl LineSoFar {
@@ -134,19 +126,23 @@ impl LineSoFar {
         }
     }
 
-    // More characters, one after the other. A byte takes its two digits from the low end.
+    // More characters, one after the other. A byte takes its two digits from the low end. The notes are kept in locals, for speed.
     fn with_characters(self, characters: &[u8]) -> LineSoFar
         ensures { λ r. ⌜ r ≡ withCharacters self (now (characters .entry)) ⌝ }
     {
+        let notes = self.notes;
+        let mut length = notes.length;
+        let mut place = notes.place;
+        let mut first = notes.character;
         let mut line = self;
         let mut i: usize = 0;
         while i < characters.len() {
             let character = characters[i];
             i += 1;
-            let notes = line.notes;
-            let noted = notes.with_character(character);
-            line.notes = noted;
+            length = std::num::wrapping_add_u64(length, 1);
             if !is_digit(character) {
+                first = first_character(place, first, character);
+                place = first_place(place, length);
                 line.wrong = true;
                 continue;
             }
@@ -159,6 +155,12 @@ impl LineSoFar {
             line.bytes[n / 2] = held % 16 * 16 + digit(character);
             line.digits = n + 1;
         }
+        let noted = LineNotes {
+            length: length,
+            place: place,
+            character: first,
+        };
+        line.notes = noted;
         line
     }
 

@@ -1,31 +1,42 @@
 -- `LineSoFar::with_characters` meets its contract, by the three cases of a character: a wrong character, one digit too many, one digit more.
 -- Assumes nothing.
 use mathlib.Core.Bool.{true, false}
-use mathlib.Core.Path.{_≡_, sym, _∙_}
+use mathlib.Core.Path.{_≡_, sym, ap, _∙_}
 use Prim.Native.Nat.{ℕ, _+_, _-_}
 use lib.ListN.{length, getD}
 use borrow.Author.Needs.{needs}
-use borrow.Author.Tests.{not-true, not-false, lt-ltb, le-ltb}
+use borrow.Author.Tests.{not-true, not-false}
 use Rattle.hexlines.specs.declared.LineSoFar.{LineSoFar}
 use Rattle.hexlines.specs.Digits.{isDigit}
-use Rattle.hexlines.specs.Notes.{withNote}
 use Rattle.hexlines.specs.Lines.{withCharacter}
+use Rattle.hexlines.proofs.Notes.{noted, wrong-character, too-many, one-more}
 use Rattle.hexlines.proofs.PartlyRead.{PartlyRead, none-read, next-read, all-read}
 use Rattle.hexlines.proofs.LineSoFar.with_characters.Statement.{statement}
 use Rattle.hexlines.proofs.LineSoFar.with_characters.Tie as tie
 
 abbrev Inv-loop : tie.InvT-loop
-Inv-loop characters line₀ i₀ line i = PartlyRead characters line₀ line i
+Inv-loop characters count₀ place₀ first₀ line₀ i₀ count place first line i =
+    PartlyRead characters (noted line₀ count₀ place₀ first₀) (noted line count place first) i
 
 abbrev μ-loop : tie.MeasureT-loop
-μ-loop characters line₀ i₀ line i = length characters - i
+μ-loop characters count₀ place₀ first₀ line₀ i₀ count place first line i = length characters - i
 
--- The places that the proofs look back to, from the answer whether the character is a digit: the loop's test; and the character.
+-- The places that the proofs look back to: the start by the loop's head, and the loop's test by the answer whether the character is a digit.
+abbrev start : tie.At-loop Inv-loop μ-loop → tie.Start Inv-loop μ-loop
+start l = l .before .before .before
+
 abbrev tested : tie.After-is-digit Inv-loop μ-loop → tie.In-loop Inv-loop μ-loop
-tested c = c .before .before .before .before
+tested c = c .before .before .before
 
+abbrev head : tie.After-is-digit Inv-loop μ-loop → tie.At-loop Inv-loop μ-loop
+head c = tested c .before
+
+-- the character, and the line so far with its notes
 abbrev character : tie.After-is-digit Inv-loop μ-loop → ℕ
-character c = let l = tested c .before in getD (l .before .before .args .characters .now) (l .loop .i) 0
+character c = getD (start (head c) .args .characters .now) (head c .loop .i) 0
+
+abbrev soFar : tie.After-is-digit Inv-loop μ-loop → LineSoFar
+soFar c = let l = head c .loop in noted (l .line) (l .length) (l .place) (l .first)
 
 -- what the first test says of the character
 wrong : (c : tie.Then1 Inv-loop μ-loop) → isDigit (character (c .before)) ≡ false
@@ -34,14 +45,10 @@ wrong c = sym (c .before .is-digit .ensures) ∙ not-true _ (c .if1 .taken)
 right : (c : tie.Else1 Inv-loop μ-loop) → isDigit (character (c .before)) ≡ true
 right c = sym (c .before .is-digit .ensures) ∙ not-false _ (c .if1 .left)
 
--- what is noted of it
-noted : (c : tie.After-is-digit Inv-loop μ-loop) → c .before .with-character .result ≡ withNote (tested c .before .loop .line .notes) (character c)
-noted c = c .before .with-character .ensures
-
 -- the line with the character
-read : (c : tie.After-is-digit Inv-loop μ-loop) (line : LineSoFar) → line ≡ withCharacter (tested c .before .loop .line) (character c)
-    → PartlyRead (tested c .before .before .before .args .characters .now) (tested c .before .before .before .args .self) line (tested c .before .loop .i + 1)
-read c line e = let t = tested c in next-read (t .before .loop .inv) (t .loop-test .taken) line e
+read : (c : tie.After-is-digit Inv-loop μ-loop) (line : LineSoFar) → line ≡ withCharacter (soFar c) (character c)
+    → PartlyRead (start (head c) .args .characters .now) (start (head c) .args .self) line (head c .loop .i + 1)
+read c line e = next-read (head c .loop .inv) (tested c .loop-test .taken) line e
 
 loop-holds : tie.Need-loop-holds Inv-loop μ-loop
 loop-holds c = none-read _ _ (search needs)
@@ -52,18 +59,28 @@ shared-slice-read-character c = search needs
 add-i : tie.Need-add-i Inv-loop μ-loop
 add-i c = search needs
 
-with-character-requires : tie.Need-with-character-requires Inv-loop μ-loop
-with-character-requires c κs = search needs
+wrapping-add-u64-requires : tie.Need-wrapping-add-u64-requires Inv-loop μ-loop
+wrapping-add-u64-requires c κs = search needs
 
 is-digit-requires : tie.Need-is-digit-requires Inv-loop μ-loop
 is-digit-requires c κs = search needs
+
+first-character-requires : tie.Need-first-character-requires Inv-loop μ-loop
+first-character-requires c κs = search needs
+
+first-place-requires : tie.Need-first-place-requires Inv-loop μ-loop
+first-place-requires c κs = search needs
 
 loop-less : tie.Need-loop-less Inv-loop μ-loop
 loop-less c = search needs
 
 loop-again : tie.Need-loop-again Inv-loop μ-loop
-unfolding withCharacter
-loop-again c = read (c .before) _ (simp (wrong c, noted (c .before)))
+loop-again c =
+    let w = c .before .before in
+    let d = w .before in
+    read d _
+    (wrong-character (soFar d) (character d) (wrong w) _ _ _ (d .before .wrapping-add-u64 .ensures) (c .first-place .ensures)
+    (c .before .first-character .ensures))
 
 add-line : tie.Need-add-line Inv-loop μ-loop
 add-line c = search needs
@@ -72,8 +89,10 @@ loop-less-2 : tie.Need-loop-less-2 Inv-loop μ-loop
 loop-less-2 c = search needs
 
 loop-again-2 : tie.Need-loop-again-2 Inv-loop μ-loop
-unfolding withCharacter
-loop-again-2 c = read (c .before .before) _ (simp (right (c .before), le-ltb _ _ (c .if2 .taken), noted (c .before .before)))
+loop-again-2 c =
+    let e = c .before in
+    let d = e .before in
+    read d _ (too-many (soFar d) (character d) (right e) _ (d .before .wrapping-add-u64 .ensures) (c .if2 .taken))
 
 element-copy-out-held : tie.Need-element-copy-out-held Inv-loop μ-loop
 element-copy-out-held c = search needs
@@ -97,10 +116,12 @@ loop-less-3 : tie.Need-loop-less-3 Inv-loop μ-loop
 loop-less-3 c = search needs
 
 loop-again-3 : tie.Need-loop-again-3 Inv-loop μ-loop
-unfolding withCharacter
 loop-again-3 c =
     let e = c .before .before .before in
-    read (e .before) _ (simp (right e, lt-ltb _ _ (c .before .before .if2 .left), c .digit .ensures .0, noted (e .before)))
+    let d = e .before in
+    read d _
+    (rw (c .digit .ensures .0)
+    (one-more (soFar d) (character d) (right e) _ (d .before .wrapping-add-u64 .ensures) (c .before .before .if2 .left)))
 
 returns : tie.Need-returns Inv-loop μ-loop
 returns c = all-read (c .before .loop .inv) (c .loop-test .left)
@@ -114,8 +135,10 @@ with-characters-spec =
     loop-holds
     shared-slice-read-character
     add-i
-    with-character-requires
+    wrapping-add-u64-requires
     is-digit-requires
+    first-character-requires
+    first-place-requires
     loop-less
     loop-again
     add-line
