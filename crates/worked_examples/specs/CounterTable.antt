@@ -9,12 +9,12 @@ abbrev pub table : List Row
 table =
     -- "reports L1ID and the bunch number, then adds 1 to L1ID, modulo 256"
     row (runMode 1 ∷ l1id 255 ∷ []) (lv1 ++ lv1) (done 10 2) (0x040105 ∷ 0xFF04 ∷ 0x090105 ∷ 0x0009 ∷ []) (l1id 1 ∷ next 10 ∷ [])
-    -- "the cycle less the base cycle, modulo 256": 202 less F0 is 112
+    -- "the cycle less the base cycle, modulo 256": hexadecimal 202 less F0 is 112, and 12 modulo 256
     ∷ row (next 0x1FE ∷ base 0xF0 ∷ runMode 1 ∷ []) lv1 (done 5 1) (0x2020105 ∷ 0x0012 ∷ []) (l1id 1 ∷ base 0xF0 ∷ next 0x203 ∷ [])
     -- "BCR, in RunMode, moves the base" to its own time
     ∷ row (next 0x100 ∷ l1id 3 ∷ runMode 1 ∷ []) (bcr ++ lv1) (done 14 2) (0x1081101 ∷ 0 ∷ 0x10D0105 ∷ 0x0305 ∷ []) (l1id 4 ∷ base 0x108 ∷ [])
     ∷ row (next 0x100 ∷ l1id 3 ∷ base 0x0F ∷ []) bcr (done 9 1) (0x1081100 ∷ 0 ∷ []) (l1id 3 ∷ base 0x0F ∷ [])
-    -- the base is "the time of the last BCR acted on or GlobalResetMCC": its last bit, cycle 310; EnDataTake moves none
+    -- the base is "the time of the last BCR acted on or GlobalResetMCC": its last bit, cycle 310 hexadecimal; EnDataTake moves none
     ∷ row (next 0x300 ∷ l1id 7 ∷ base 0x0F ∷ []) (globalResetMcc ++ (enDataTake ++ lv1)) (done 39 3)
     (0x3102901 ∷ 0 ∷ 0x3212801 ∷ 0 ∷ 0x3260105 ∷ 0x0016 ∷ [])
     (l1id 1 ∷ base 0x310 ∷ runMode 1 ∷ [])

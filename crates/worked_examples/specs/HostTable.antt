@@ -57,7 +57,8 @@ someImage =
 abbrev pub phases : List Phase
 phases = Hunt ∷ Body ∷ Field3 ∷ Field4 ∷ Field5 ∷ []
 
--- A row: an image; the bits on the line; the free words of the list; the words of the result ahead; the refusal number; and the result afterwards.
+-- A row: an image; the bits on the line, and how many of them are offered; the words of the list, all free; the words of the result ahead of the call; the
+-- refusal number; and the result afterwards.
 pub record HostRow : Type 0 where
   pub image : List ℕ
   pub line : List ℕ

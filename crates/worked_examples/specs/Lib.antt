@@ -9,6 +9,7 @@ pub mod RegisterTable
 pub mod FifoTable
 pub mod CounterTable
 pub mod FrameTable
+pub mod EffectTable
 pub mod SoundTable
 pub mod CallTable
 pub mod OpeningTable
