@@ -16,5 +16,4 @@ pub mod OpeningTable
 pub mod HostTable
 pub mod TextTable
 pub mod WorkedExamples
-pub mod Counters
 pub mod Edges

@@ -25,12 +25,12 @@ pub record TakingExamples : Type 0 where
   pub marked : MarkedStreams
   pub chip-gives : Gives 80 chip.table
   pub commands-give : Gives 26 commands.table
-  pub registers-give : Gives 14 registers.table
+  pub registers-give : Gives 16 registers.table
   pub fifos-give : Gives 12 fifos.table
-  pub counters-give : Gives 8 counters.table
-  pub frames-give : Gives 16 frames.table
+  pub counters-give : Gives 12 counters.table
+  pub frames-give : Gives 17 frames.table
   pub effects-give : Gives 28 effects.table
-  pub sound-gives : Gives 63 sound.table
+  pub sound-gives : Gives 101 sound.table
   pub calls-give : Table calls.callShown calls.callExpected 28 calls.table
   pub parts-give : frames.FrameParts
 
@@ -40,11 +40,11 @@ pub record OpeningExamples : Type 0 where
 
 -- The library for hosts: taking calls on an image, the image word by word, and buffers of other lengths.
 pub record HostExamples : Type 0 where
-  pub hosts-give : Table hosts.hostShown hosts.hostExpected 13 hosts.table
+  pub hosts-give : Table hosts.hostShown hosts.hostExpected 15 hosts.table
   pub image : hosts.HostImage
   pub buffers : hosts.HostBuffers
 
 -- The texts: the lines printed, and the hexadecimal lines read.
 pub record TextExamples : Type 0 where
   pub printed : Table texts.textShown texts.textExpected 12 texts.table
-  pub read : Table texts.hexShown texts.hexExpected 18 texts.hexTable
+  pub read : Table texts.hexShown texts.hexExpected 19 texts.hexTable
