@@ -6,4 +6,4 @@ use Rattle.worked_examples.specs.Edges.{LongestFrame}
 
 pub longest-frame : LongestFrame
 unfolding stepOf
-longest-frame = record { cycles = refl; stored = refl; bits = refl; bytes = refl }
+longest-frame = record { cycles = refl; stored = refl; bytes = refl }

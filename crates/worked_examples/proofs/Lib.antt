@@ -2,5 +2,4 @@ pub mod Taking
 pub mod Openings
 pub mod Hosts
 pub mod Texts
-pub mod Counters
 pub mod Edges

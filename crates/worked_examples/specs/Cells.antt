@@ -1,5 +1,6 @@
 -- The places of an example where numbers stand: the state's words, FIFO words and frame bytes, each by its name.
 -- Assumes nothing.
+use mathlib.Core.List.{List, [], _∷_}
 use Prim.Native.Nat.{ℕ, _+_, _*_}
 
 -- Where a number stands: a word of the state's image, a word of the store, a byte of the tray.
@@ -33,8 +34,9 @@ cnt n = cell (image-at 4) n
 abbrev pub next : ℕ → Cell
 next n = cell (image-at 5) n
 
--- The recogniser: its phase (0 hunting, 1 body, 2 Field 3, 3 Field 4, 4 Field 5), the window or the bits received, Fields 3 and 4, how many bits of the
--- present field are received, the bits held of Field 5, and a group's first bit.
+-- The recogniser: its phase (0 hunting, 1 body, 2 Field 3, 3 Field 4, 4 Field 5), the window or the bits received of a body, Field 3 or Field 4, Fields 3
+-- and 4 once received, how many bits of the present field are received, the bits held of Field 5, the first bit of a frame's present group of eight, and
+-- whether a group of the frame was unsteady so far.
 abbrev pub phase : ℕ → Cell
 phase n = cell (image-at 6) n
 
@@ -87,6 +89,18 @@ writePointer fifo n = cell (image-at (36 + fifo)) n
 
 abbrev pub readPointer : ℕ → ℕ → Cell
 readPointer fifo n = cell (image-at (52 + fifo)) n
+
+-- Words of the image from a place on.
+abbrev pub wordsFrom : ℕ → List ℕ → List Cell
+wordsFrom at [] = []
+wordsFrom at (n ∷ ns) = cell (image-at at) n ∷ wordsFrom (1 + at) ns
+
+-- The pointers of FIFO 0 on.
+abbrev pub writePointers : List ℕ → List Cell
+writePointers ns = wordsFrom 36 ns
+
+abbrev pub readPointers : List ℕ → List Cell
+readPointers ns = wordsFrom 52 ns
 
 -- "FIFO n from word 128 × n"
 abbrev pub word : ℕ → ℕ → ℕ → Cell

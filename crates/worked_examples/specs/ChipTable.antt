@@ -8,7 +8,8 @@ use Rattle.worked_examples.specs.Example.{Row, row, done}
 abbrev running : List Cell
 running = runMode 1 ∷ []
 
--- Flags 05 with kind 01 are the paper's "LV1" and flags 07 its "LV1 (w. bit-flip)"; kind 1F is its "bad Fast command"; no record is a "missed command".
+-- Flags 05 with kind 01 are the paper's "LV1" and flags 07 its "LV1 (w. bit-flip)"; kind 1F is its "bad Fast command";
+-- where no record is expected the paper has "missed command".
 abbrev pub table : List Row
 table =
     -- Table 1-4, LV1
@@ -82,7 +83,8 @@ table =
     ∷ row running (line "0001 10110 1000 00") (done 15 1) (0x060107 ∷ 0x0006 ∷ []) []
     ∷ row running (line "0010 10110 1000 00") (done 15 1) (0x060107 ∷ 0x0006 ∷ []) []
     ∷ row running (line "0100 10110 1000 00") (done 15 1) (0x0C1801 ∷ 0 ∷ []) []
-    -- Table 1-9, a Slow command's header: RunMode ends with it, and with no damaged one
+    -- Table 1-9, a Slow command's header: RunMode ends with it, and with no damaged one. LV1 are seen in the remains of some damaged ones: RunMode ends only
+    -- at an undamaged ninth bit (document 01), so these are acted on.
     ∷ row running (line "0000 10110 1011 00") (done 15 0) [] (runMode 0 ∷ [])
     ∷ row running (line "0000 10110 1011 10") (done 15 0) [] (runMode 0 ∷ [])
     ∷ row running (line "0000 10110 1010 00") (done 15 1) (0x0C1F00 ∷ 0x000A ∷ []) (runMode 1 ∷ [])

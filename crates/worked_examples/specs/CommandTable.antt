@@ -1,4 +1,5 @@
--- Each kind of record, in RunMode and out of it (document 01, "Hunting", "Slow commands" and "A record"; the chip paper, Tables 1-1 and 1-2).
+-- Triggers, Fasts, and the Slows without a table of their own, in RunMode and out of it.
+-- Document 01, "Hunting", "Slow commands" and "A record"; the chip paper, Tables 1-1 and 1-2.
 -- Assumes nothing.
 use mathlib.Core.List.{List, [], _∷_, _++_}
 use Rattle.worked_examples.specs.CommandBits.{line, field, lv1, bcr, ecr, cal, sync, slow, enDataTake, globalResetMcc, globalResetFe}

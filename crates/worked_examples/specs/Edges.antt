@@ -11,7 +11,6 @@ use Rattle.recogniser.specs.Parts.{startOf}
 use Rattle.recogniser.specs.Fields.{lengthOf}
 use Rattle.recogniser.specs.Step.{stepOf}
 use Rattle.frames.specs.Tray.{partOf}
-use Rattle.controller.specs.Records.{frameBitsOf}
 
 -- The recogniser at the start of a WrFrontEnd's Field 5.
 abbrev pub inField5 : Recogniser
@@ -26,10 +25,9 @@ abbrev pub storedBits : ℕ → ℕ → Recogniser → ℕ
 storedBits zero cnt r = 0
 storedBits (suc n) cnt r = isFrameBit (stepOf r 1 cnt .event .frame) + storedBits n cnt (stepOf r 1 cnt .next)
 
--- "CNT FFFF gives a frame of 8,247 bits, value 00381FFF, 1,031 bytes", in parts: its cycles, the bits stored over them from Field 5's start, the bits that
--- its record tells, and their bytes. The call that takes the last cycle, and its record, are rows of `FrameTable`.
+-- "CNT FFFF gives a frame of 8,247 bits, value 00381FFF, 1,031 bytes", in parts: its cycles, the bits stored over them from Field 5's start, and their
+-- bytes. The call that takes the last cycle and its record are a row of `FrameTable`; the bits that the record tells are in its `FrameParts`.
 pub record LongestFrame : Type 0 where
   pub cycles : lengthOf 4 0xFFFF ≡ 65976
   pub stored : storedBits 65976 0xFFFF inField5 ≡ 8247
-  pub bits : frameBitsOf 0x24 0x00381FFF ≡ 8247
   pub bytes : length (partOf (replicate 8192 0) 8247) ≡ 1031

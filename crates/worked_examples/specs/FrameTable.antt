@@ -17,7 +17,9 @@ table =
     (byte 0 0xA0 ∷ byte 1 0 ∷ phase 0 ∷ [])
     -- RdFrontEnd, kind 25: CNT 0001 is 8 control bits and 64 cycles
     ∷ row (register 5 0x0001 ∷ []) (rdFrontEnd (eightfold (line "10100101"))) (frame 81 1) (0x502501 ∷ 0x00080000 ∷ []) (byte 0 0xA5 ∷ [])
-    -- CNT 0009 is 8 control bits and 1 data bit; "a byte is zeroed as its first bit arrives", and no other byte changes
+    -- CNT 0009 is 8 control bits and 1 data bit
+    ∷ row (register 5 0x0009 ∷ []) (rdFrontEnd (eightfold (line "100000011"))) (frame 89 1) (0x582501 ∷ 0x00080001 ∷ []) (byte 0 0x81 ∷ byte 1 0x80 ∷ [])
+    -- "a byte is zeroed as its first bit arrives", and no other byte changes
     ∷ row (register 5 0x0009 ∷ byte 0 0xFF ∷ byte 1 0xFF ∷ byte 2 0xFF ∷ []) (wrFrontEnd (eightfold (line "000000011"))) (frame 89 1)
     (0x582401 ∷ 0x00080001 ∷ [])
     (byte 0 0x01 ∷ byte 1 0x80 ∷ byte 2 0xFF ∷ [])
@@ -49,6 +51,6 @@ table =
 pub record FrameParts : Type 0 where
   pub parts : map (partOf (1 ∷ 2 ∷ 3 ∷ [])) (0 ∷ 1 ∷ 8 ∷ 9 ∷ 24 ∷ 25 ∷ [])
       ≡ [] ∷ (1 ∷ []) ∷ (1 ∷ []) ∷ (1 ∷ 2 ∷ []) ∷ (1 ∷ 2 ∷ 3 ∷ []) ∷ [] ∷ []
-  pub front-end : frameBitsOf 0x24 0x00080003 ≡ 11
-  pub front-end-read : frameBitsOf 0x25 0x00381FFF ≡ 8247
+  pub front-end : map (frameBitsOf 0x24) (0x00080003 ∷ 0x00381FFF ∷ []) ≡ 11 ∷ 8247 ∷ []
+  pub front-end-read : map (frameBitsOf 0x25) (0x00080003 ∷ 0x00381FFF ∷ []) ≡ 11 ∷ 8247 ∷ []
   pub receiver : frameBitsOf 0x26 0x0000FFF8 ≡ 65528

@@ -57,7 +57,8 @@ someImage =
 abbrev pub phases : List Phase
 phases = Hunt ∷ Body ∷ Field3 ∷ Field4 ∷ Field5 ∷ []
 
--- A row: an image; the bits on the line; the free words of the list; the words of the result ahead; the refusal number; and the result afterwards.
+-- A row: an image; the bits on the line, and how many of them are offered; the words of the list, all free; the words of the result ahead of the call; the
+-- refusal number; and the result afterwards.
 pub record HostRow : Type 0 where
   pub image : List ℕ
   pub line : List ℕ
@@ -93,13 +94,15 @@ table =
     hostRow start (enDataTake ++ lv1) 22 4 nines 0 (22 ∷ 2 ∷ 0 ∷ [])
     ∷ hostRow start (wrFrontEnd [] ++ lv1) 22 4 nines 0 (17 ∷ 1 ∷ 1 ∷ [])
     ∷ hostRow start (enDataTake ++ lv1) 22 3 nines 0 (17 ∷ 1 ∷ 2 ∷ [])
-    -- 3: an image of another length or layout, with a word beyond its width, or of an unsound state
+    -- 3: an image of another length or layout, with a word beyond its width (RunMode, L1ID, register 1), or of an unsound state
     ∷ hostRow (1 ∷ 0x007F ∷ 0 ∷ 2 ∷ 5 ∷ replicate 62 0) lv1 5 4 nines 3 nines
     ∷ hostRow (1 ∷ 0x007F ∷ 0 ∷ 2 ∷ 5 ∷ replicate 64 0) lv1 5 4 nines 3 nines
     ∷ hostRow (set start 0 2) lv1 5 4 nines 3 nines
     ∷ hostRow (set start 14 2) lv1 5 4 nines 3 nines
     ∷ hostRow (set start 15 255) lv1 5 4 nines 0 (5 ∷ 1 ∷ 0 ∷ [])
     ∷ hostRow (set start 15 256) lv1 5 4 nines 3 nines
+    ∷ hostRow (set start 21 65535) lv1 5 4 nines 0 (5 ∷ 1 ∷ 0 ∷ [])
+    ∷ hostRow (set start 21 65536) lv1 5 4 nines 3 nines
     ∷ hostRow (set start 36 128) lv1 5 4 nines 3 nines
     -- 4: a result of other than three words; 5 and 6 as of the taking call
     ∷ hostRow start lv1 5 4 (9 ∷ 9 ∷ []) 4 (9 ∷ 9 ∷ [])

@@ -9,11 +9,11 @@ pub mod RegisterTable
 pub mod FifoTable
 pub mod CounterTable
 pub mod FrameTable
+pub mod EffectTable
 pub mod SoundTable
 pub mod CallTable
 pub mod OpeningTable
 pub mod HostTable
 pub mod TextTable
 pub mod WorkedExamples
-pub mod Counters
 pub mod Edges

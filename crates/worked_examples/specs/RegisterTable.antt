@@ -2,8 +2,15 @@
 -- Assumes nothing.
 use mathlib.Core.List.{List, [], _∷_, _++_}
 use Rattle.worked_examples.specs.CommandBits.{line, field, slow, wrRegister, rdRegister, globalResetMcc}
-use Rattle.worked_examples.specs.Cells.{mask, csr, feen, cnt, wlv1, wfst, wslw, register}
+use Rattle.worked_examples.specs.Cells.{Cell, wordsFrom, mask, csr, feen, cnt, wlv1, wfst, wslw, register}
 use Rattle.worked_examples.specs.Example.{Row, row, done}
+
+-- All 16 registers with numbers.
+abbrev allSixteen : List Cell
+allSixteen =
+    wordsFrom 20
+    (0x10A0 ∷ 0x10A1 ∷ 0x10A2 ∷ 0x10A3 ∷ 0x10A4 ∷ 0x10A5 ∷ 0x10A6 ∷ 0x10A7
+    ∷ 0x10A8 ∷ 0x10A9 ∷ 0x10AA ∷ 0x10AB ∷ 0x10AC ∷ 0x10AD ∷ 0x10AE ∷ 0x10AF ∷ [])
 
 -- The default plan is mask 007F, CSR 0, FEEN 2, CNT 5.
 abbrev pub table : List Row
@@ -31,6 +38,26 @@ table =
     (done 132 4)
     (0x202001 ∷ 0x0000FFFF ∷ 0x412008 ∷ 0x0001FFFF ∷ 0x622001 ∷ 0x000FFFFF ∷ 0x832101 ∷ 0x000FF8FF ∷ [])
     (register 0 0xFFFF ∷ register 1 0 ∷ register 15 0xF8FF ∷ [])
+    -- mask FFFF: each of the 16 addresses written once, and each read once
+    ∷ row (mask 0xFFFF ∷ [])
+    (wrRegister 0 0x10A0 ++ (wrRegister 1 0x10A1 ++ (wrRegister 2 0x10A2 ++ (wrRegister 3 0x10A3 ++
+    (wrRegister 4 0x10A4 ++ (wrRegister 5 0x10A5 ++ (wrRegister 6 0x10A6 ++ (wrRegister 7 0x10A7 ++
+    (wrRegister 8 0x10A8 ++ (wrRegister 9 0x10A9 ++ (wrRegister 10 0x10AA ++ (wrRegister 11 0x10AB ++
+    (wrRegister 12 0x10AC ++ (wrRegister 13 0x10AD ++ (wrRegister 14 0x10AE ++ wrRegister 15 0x10AF)))))))))))))))
+    (done 528 16)
+    (0x202001 ∷ 0x000010A0 ∷ 0x412001 ∷ 0x000110A1 ∷ 0x622001 ∷ 0x000210A2 ∷ 0x832001 ∷ 0x000310A3 ∷ 0xA42001 ∷ 0x000410A4 ∷ 0xC52001 ∷ 0x000510A5
+    ∷ 0xE62001 ∷ 0x000610A6 ∷ 0x1072001 ∷ 0x000710A7 ∷ 0x1282001 ∷ 0x000810A8 ∷ 0x1492001 ∷ 0x000910A9 ∷ 0x16A2001 ∷ 0x000A10AA ∷ 0x18B2001 ∷ 0x000B10AB
+    ∷ 0x1AC2001 ∷ 0x000C10AC ∷ 0x1CD2001 ∷ 0x000D10AD ∷ 0x1EE2001 ∷ 0x000E10AE ∷ 0x20F2001 ∷ 0x000F10AF ∷ [])
+    allSixteen
+    ∷ row (mask 0xFFFF ∷ allSixteen)
+    (rdRegister 0 ++ (rdRegister 1 ++ (rdRegister 2 ++ (rdRegister 3 ++ (rdRegister 4 ++ (rdRegister 5 ++
+    (rdRegister 6 ++ (rdRegister 7 ++ (rdRegister 8 ++ (rdRegister 9 ++ (rdRegister 10 ++ (rdRegister 11 ++
+    (rdRegister 12 ++ (rdRegister 13 ++ (rdRegister 14 ++ rdRegister 15)))))))))))))))
+    (done 528 16)
+    (0x202101 ∷ 0x000010A0 ∷ 0x412101 ∷ 0x000110A1 ∷ 0x622101 ∷ 0x000210A2 ∷ 0x832101 ∷ 0x000310A3 ∷ 0xA42101 ∷ 0x000410A4 ∷ 0xC52101 ∷ 0x000510A5
+    ∷ 0xE62101 ∷ 0x000610A6 ∷ 0x1072101 ∷ 0x000710A7 ∷ 0x1282101 ∷ 0x000810A8 ∷ 0x1492101 ∷ 0x000910A9 ∷ 0x16A2101 ∷ 0x000A10AA ∷ 0x18B2101 ∷ 0x000B10AB
+    ∷ 0x1AC2101 ∷ 0x000C10AC ∷ 0x1CD2101 ∷ 0x000D10AD ∷ 0x1EE2101 ∷ 0x000E10AE ∷ 0x20F2101 ∷ 0x000F10AF ∷ [])
+    []
     -- CSR: "bits 8, 9, 10 .. are not writable"
     ∷ row [] (wrRegister 0 0xFFFF ++ rdRegister 0) (done 66 2)
     (0x202001 ∷ 0x0000FFFF ∷ 0x412101 ∷ 0x0000F8FF ∷ [])

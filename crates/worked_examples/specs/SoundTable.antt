@@ -1,8 +1,9 @@
 -- Which states are sound, number 3 where they are not (document 01, "A taking call", the paragraph below the refusal table).
 -- Assumes nothing.
-use mathlib.Core.List.{List, [], _∷_}
+use mathlib.Core.List.{List, [], _∷_, _++_}
+use lib.ListN.{replicate}
 use Rattle.worked_examples.specs.Cells.{Cell, mask, csr, feen, cnt, next, phase, shift, command, address, count, held}
-use Rattle.worked_examples.specs.Cells.{runMode, base, register, writePointer, readPointer}
+use Rattle.worked_examples.specs.Cells.{wordsFrom, runMode, base, register, writePointer, writePointers, readPointer, readPointers}
 use Rattle.worked_examples.specs.Example.{Row, row, done, refused}
 
 -- A call that is offered no bits: it is 'done', or number 3.
@@ -29,14 +30,19 @@ table =
     ∷ sound (next 5 ∷ base 5 ∷ [])
     ∷ unsound (next 5 ∷ base 6 ∷ [])
     -- "pointers are below 128"
-    ∷ sound (writePointer 0 127 ∷ writePointer 15 127 ∷ readPointer 0 127 ∷ readPointer 15 127 ∷ [])
-    ∷ unsound (writePointer 0 128 ∷ [])
-    ∷ unsound (writePointer 15 128 ∷ [])
-    ∷ unsound (readPointer 0 128 ∷ [])
-    ∷ unsound (readPointer 15 128 ∷ [])
+    ∷ sound (writePointers (replicate 16 127) ++ readPointers (replicate 16 127))
+    ∷ unsound (writePointer 0 128 ∷ []) ∷ unsound (writePointer 1 128 ∷ []) ∷ unsound (writePointer 2 128 ∷ []) ∷ unsound (writePointer 3 128 ∷ [])
+    ∷ unsound (writePointer 4 128 ∷ []) ∷ unsound (writePointer 5 128 ∷ []) ∷ unsound (writePointer 6 128 ∷ []) ∷ unsound (writePointer 7 128 ∷ [])
+    ∷ unsound (writePointer 8 128 ∷ []) ∷ unsound (writePointer 9 128 ∷ []) ∷ unsound (writePointer 10 128 ∷ []) ∷ unsound (writePointer 11 128 ∷ [])
+    ∷ unsound (writePointer 12 128 ∷ []) ∷ unsound (writePointer 13 128 ∷ []) ∷ unsound (writePointer 14 128 ∷ []) ∷ unsound (writePointer 15 128 ∷ [])
+    ∷ unsound (readPointer 0 128 ∷ []) ∷ unsound (readPointer 1 128 ∷ []) ∷ unsound (readPointer 2 128 ∷ []) ∷ unsound (readPointer 3 128 ∷ [])
+    ∷ unsound (readPointer 4 128 ∷ []) ∷ unsound (readPointer 5 128 ∷ []) ∷ unsound (readPointer 6 128 ∷ []) ∷ unsound (readPointer 7 128 ∷ [])
+    ∷ unsound (readPointer 8 128 ∷ []) ∷ unsound (readPointer 9 128 ∷ []) ∷ unsound (readPointer 10 128 ∷ []) ∷ unsound (readPointer 11 128 ∷ [])
+    ∷ unsound (readPointer 12 128 ∷ []) ∷ unsound (readPointer 13 128 ∷ []) ∷ unsound (readPointer 14 128 ∷ []) ∷ unsound (readPointer 15 128 ∷ [])
     -- "missing registers hold 0"
-    ∷ sound (register 0 0xFFFF ∷ register 6 0xFFFF ∷ [])
-    ∷ unsound (register 7 1 ∷ [])
+    ∷ sound (wordsFrom 20 (replicate 7 0xFFFF))
+    ∷ unsound (register 7 1 ∷ []) ∷ unsound (register 8 1 ∷ []) ∷ unsound (register 9 1 ∷ []) ∷ unsound (register 10 1 ∷ [])
+    ∷ unsound (register 11 1 ∷ []) ∷ unsound (register 12 1 ∷ []) ∷ unsound (register 13 1 ∷ []) ∷ unsound (register 14 1 ∷ [])
     ∷ unsound (register 15 0x8000 ∷ [])
     -- "RunMode is off inside a Slow command"
     ∷ sound (runMode 1 ∷ [])
@@ -86,5 +92,8 @@ table =
     ∷ unsound (phase 4 ∷ command 8 ∷ [])
     ∷ unsound (phase 4 ∷ command 9 ∷ [])
     ∷ unsound (phase 4 ∷ command 11 ∷ [])
+    ∷ unsound (phase 4 ∷ command 12 ∷ [])
+    ∷ unsound (phase 4 ∷ command 13 ∷ [])
+    ∷ unsound (phase 4 ∷ command 14 ∷ [])
     ∷ unsound (phase 4 ∷ command 15 ∷ [])
     ∷ []

@@ -100,6 +100,7 @@ abbrev pub hexTable : List HexRow
 hexTable =
     reads (ascii "B5C074") (0xB5 ∷ 0xC0 ∷ 0x74 ∷ [])
     ∷ reads (ascii "0123456789ABCDEF") (0x01 ∷ 0x23 ∷ 0x45 ∷ 0x67 ∷ 0x89 ∷ 0xAB ∷ 0xCD ∷ 0xEF ∷ [])
+    ∷ reads (0x30 ∷ 0x39 ∷ 0x41 ∷ 0x46 ∷ []) (0x09 ∷ 0xAF ∷ [])
     ∷ reads [] []
     -- number 7, "a character is not 0-9 or A-F": the neighbours of the digits, lower case, a space, a carriage return, NUL
     ∷ rejects 7 (ascii "0/")
