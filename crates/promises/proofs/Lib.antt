@@ -1,5 +1,6 @@
 pub mod Refusals
 pub mod Frames
+pub mod RunGoesOn
 pub mod Records
 pub mod Damage
 pub mod Hosts

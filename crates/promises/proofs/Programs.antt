@@ -13,10 +13,11 @@ use Rattle.hexlines.specs.Lines.{linesFrom, linesRead}
 use Rattle.layout.specs.Digits.{charactersOf}
 use Rattle.layout.specs.ListingLines.{numbersLine}
 use Rattle.listing.specs.Records.{recordText}
-use Rattle.program.specs.Listing.{bitsText, listingOf}
+use Rattle.program.specs.Listing.{bitsText, stateLines, listingOf}
 use Rattle.program.specs.Program.{programOf}
 use Rattle.promises.specs.Programs.{ProgramPromise}
 
 pub program-promise : ProgramPromise
-unfolding stepOf trayOf planFits actOf openOf turnOf lineMeaning withNotes linesFrom linesRead charactersOf numbersLine recordText bitsText listingOf programOf
+unfolding stepOf trayOf planFits actOf openOf turnOf lineMeaning withNotes linesFrom linesRead
+    charactersOf numbersLine recordText bitsText stateLines listingOf programOf
 program-promise = record { listing = refl; to-the-end = refl; refused = refl }
