@@ -14,7 +14,7 @@ use Rattle.taking.proofs.CallLists.{call-kept, carried-words, carried-system}
 use Rattle.taking.proofs.LoopInvariant.{length-bits}
 use Rattle.taking.proofs.SoundnessKept.{start-sound, take-sound}
 use Rattle.taking.proofs.RecordsFit.{words-fit}
-use Rattle.promises.proofs.Frames.{frames}
+use Rattle.promises.proofs.Frames.{frames, empty-frame}
 use Rattle.promises.proofs.RunGoesOn.{run-goes-on}
 use Rattle.promises.specs.Records.{Exact, Ends, Cuts, SecondDemand}
 
@@ -54,6 +54,7 @@ second-demand = record {
   ends = ends;
   cuts = cuts;
   frames = frames;
+  empty-frame = empty-frame;
   opens-sound = start-sound;
   stays-sound = take-sound;
   fits = λ d cs. words-fit cs d;

@@ -18,7 +18,7 @@ use Rattle.taking.specs.Run.{NoFrames, LastIsFrame, stateAfter, wordsAfter}
 use Rattle.taking.specs.Turn.{System, turnOf}
 use Rattle.taking.specs.Take.{Call, offered, lent, takenOf, takeOf}
 use Rattle.taking.specs.Calls.{bitsTaken, wordsStanding, allWords, systemAfter, Part, carriedBits, carriedWords, carriedSystem}
-use Rattle.promises.specs.Frames.{Frames}
+use Rattle.promises.specs.Frames.{Frames, EmptyFrame}
 
 -- A call, refused or not, leaves and writes what the bits that it took say, cycle by cycle: none missing and none added.
 pub record Exact (d : Decoder) (c : Call) : Type 0 where
@@ -59,6 +59,7 @@ pub record SecondDemand : Type 0 where
   pub cuts : (s : System) → Cuts s
   -- After 'frame' the second call hands back the frame's bits, wherever the frame was cut into calls.
   pub frames : Frames
+  pub empty-frame : EmptyFrame
   -- Opening gives a sound state, and a sound state stays sound.
   pub opens-sound : (plan : Plan) (cycle : ℕ) → T (soundOf (openOf plan cycle .decoder))
   pub stays-sound : (d : Decoder) (c : Call) → T (soundOf d) → T (soundOf (takeOf d c .taken .decoder))
