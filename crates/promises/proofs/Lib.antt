@@ -5,4 +5,5 @@ pub mod Records
 pub mod Damage
 pub mod Hosts
 pub mod HostCalls
+pub mod HostDemands
 pub mod Programs
