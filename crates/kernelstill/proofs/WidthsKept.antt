@@ -184,10 +184,13 @@ narrow-of d w =
     let r = w .numbers .1 .1 .1 .1 .1 in
     record { shift = r .0; command = r .1 .0; address = r .1 .1 .0; count = r .1 .1 .1 .0; held = r .1 .1 .1 .1 .0 }
 
+pub model-widths : (d : Decoder) → Widths d → ModelFits (d .model)
+model-widths d w = record { l1id = w .numbers .1 .1 .1 .1 .1 .1 .1 .1 .1 .1 .0; each-register = register-low (d .model .registers) (w .arrays .0) }
+
 kept-of : (d : Decoder) (store tray : List ℕ) → Widths d → Kept (systemOf d store tray)
 kept-of d store tray w = record {
   recogniser = narrow-of d w;
-  model = record { l1id = w .numbers .1 .1 .1 .1 .1 .1 .1 .1 .1 .1 .0; each-register = register-low (d .model .registers) (w .arrays .0) };
+  model = model-widths d w;
   arrays = record { long = w .arrays .0 .long; writes = w .arrays .1 .0; reads = w .arrays .1 .1 .0 };
 }
 

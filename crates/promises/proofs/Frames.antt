@@ -1,31 +1,40 @@
 -- The second demand's frames, proved.
 -- Assumes nothing.
 use mathlib.Core.Path.{_≡_, _∙_, refl, sym, ap, subst}
-use mathlib.Core.Bool.{Bool, true, false, cond}
-use mathlib.Core.List.{List, [], _∷_}
+use mathlib.Core.Bool.{Bool, true, false, cond, _&&_}
+use mathlib.Core.List.{List, [], _∷_, _++_}
 use Prim.Native.Nat.{ℕ, _+_, _*_, _/_, _^_, _<_, _≤_}
 use native.Mathlib.Omega.{arith}
-use lib.Dec.{eqb, leb, T}
-use lib.ListN.{length}
+use lib.Dec.{eqb, leb, ltb, T}
+use lib.ListN.{length, length-append, length-set, take}
 use borrow.Author.Tests.{eqb-true, eqb-false, leb-true, lt-leb, le-leb, ne-eqb}
-use Rattle.limits.specs.Limits.{trayLength}
-use Rattle.bits.proofs.Truth.{both, cond-most}
+use Rattle.limits.specs.Limits.{storeLength, trayLength}
+use Rattle.bits.proofs.Truth.{both, cond-most, choice, and-right}
 use Rattle.bits.proofs.BitRanges.{binary}
 use Rattle.recogniser.specs.declared.Phase.the-variants.{Field5}
 use Rattle.recogniser.specs.declared.Recogniser.{Recogniser}
+use Rattle.recogniser.specs.declared.FrameBit.{FrameBit}
+use Rattle.recogniser.specs.declared.FrameBit.the-variants.{None, At}
 use Rattle.recogniser.specs.Parts.{startOf}
 use Rattle.recogniser.specs.Fields.{isFrame, lengthOf, dataBits, controlBits}
-use Rattle.frames.specs.Tray.{partOf}
+use Rattle.frames.specs.Tray.{trayOf, partOf}
 use Rattle.frames.proofs.FrameFill.{trayBy, bitsIn, PartHolds, part-holds}
+use Rattle.decoder.specs.Sound.{soundOf}
 use Rattle.controller.specs.Records.{headOf, kindOf, kindSlow, flagUnsteady, frameBitsOf}
 use Rattle.controller.specs.Commands.{frameValueOf}
+use Rattle.controller.specs.Widths.{ModelFits}
+use Rattle.controller.proofs.EffectKeeps.{model-fits}
 use Rattle.taking.specs.Run.{stateAfter, wordsAfter}
-use Rattle.taking.specs.Turn.{System, cntAt, turnOf}
-use Rattle.taking.specs.Calls.{Part, carriedSystem}
+use Rattle.taking.specs.Turn.{System, decoderOf, cntAt, transitionOf, turnOf}
+use Rattle.taking.specs.Take.{CallResult, offered}
+use Rattle.taking.specs.Calls.{Part, callOf, resultOf, systemAfter, bitsTaken, carriedBits, carriedWords, carriedSystem}
+use Rattle.taking.proofs.RunFaithful.{state-append, words-append}
+use Rattle.taking.proofs.Refusals.{unsound, wrong-buffers}
+use Rattle.taking.proofs.Refusals as refusals
 use Rattle.taking.proofs.CallLists.{carried-words, carried-system}
 use Rattle.taking.proofs.BitCalls.{carried-binary}
 use Rattle.taking.proofs.FrameTurns.{FrameTaken, frameRecord, frame-taken}
-use Rattle.promises.specs.Frames.{countOf, handedBack, Receives, HandsBack, Frames}
+use Rattle.promises.specs.Frames.{countOf, handedBack, Receives, HandsBack, Frames, EmptyFrame}
 
 -- The count of a frame's bits, off its record, against the cycles of Field 5.
 record Counted (command cnt : ℕ) : Type 0 where
@@ -54,28 +63,89 @@ counted-by command cnt frame narrow false e =
 counted : (command cnt : ℕ) → isFrame command ≡ true → cnt < 2 ^ 16 → Counted command cnt
 counted command cnt frame narrow = counted-by command cnt frame narrow (eqb command 6) refl
 
-module _ (s : System) (ps : List Part) (command address : ℕ) (field : List ℕ) (r : Receives s ps command address field) where
-  taken-from : (bits : List ℕ) → 0 < length bits → length bits ≡ lengthOf command (cntAt (s .machine))
-      → FrameTaken command 0 bits (record { recogniser = startOf Field5 0 command address; machine = s .machine })
-  taken-from [] some whole = absurd (omega arith)
-  taken-from (bit ∷ bits) some whole = frame-taken command address (r .frame) bits bit 0 _ _ (s .machine) (omega arith)
+-- What any bits keep: the clock goes on with each, and widths and the tray's length stay.
+tray-kept : (tray : List ℕ) (f : FrameBit) → length (trayOf tray f) ≡ length tray
+unfolding trayOf
+tray-kept tray None = refl
+tray-kept tray (At place bit) = length-set tray (place / 8) _
 
-  taken : FrameTaken command 0 field s
+record Kept (s : System) (bits : List ℕ) : Type 0 where
+  next : stateAfter turnOf s bits .machine .next ≡ s .machine .next + length bits
+  tray : length (stateAfter turnOf s bits .machine .tray) ≡ length (s .machine .tray)
+  model : ModelFits (s .machine .model) → ModelFits (stateAfter turnOf s bits .machine .model)
+
+kept : (bits : List ℕ) (s : System) → Kept s bits
+unfolding turnOf
+kept [] s = record { next = omega arith; tray = refl; model = λ f. f }
+kept (bit ∷ bits) s =
+    let m = s .machine in
+    let t = transitionOf s bit .event in
+    let k = kept bits (turnOf s bit .state) in
+    let on = k .next in
+    record {
+      next = omega arith;
+      tray = k .tray ∙ tray-kept (m .tray) (t .frame);
+      model = λ f. k .model (model-fits (m .plan) (m .model) (t .request) (m .next) (m .store) f);
+    }
+
+binary-behind : (xs ys : List ℕ) → T (binary (xs ++ ys)) → T (binary ys)
+binary-behind [] ys t = t
+binary-behind (x ∷ xs) ys t = binary-behind xs ys (and-right (ltb x 2) (binary (xs ++ ys)) t)
+
+-- Where a list of calls takes bits, some call is not refused: so the tray has its length.
+abbrev Long : System → List ℕ → Type 0
+Long s bits = 0 < length bits → length (s .machine .tray) ≡ trayLength
+
+abbrev taking : System → Part → List Part → CallResult → List ℕ
+taking s p ps l = take (l .taken .report .bits) (offered (callOf s p)) ++ carriedBits (systemAfter l) ps
+
+module _ (s : System) (p : Part) (ps : List Part) (later : Long s (carriedBits s ps)) where
+  part-long : (sound buffers : Bool) → soundOf (decoderOf s) ≡ sound → refusals.buffers (callOf s p) ≡ buffers → Long s (taking s p ps (resultOf s p))
+  part-long false buffers e f = subst (λ (l : CallResult). Long s (taking s p ps l)) (sym (unsound (decoderOf s) (callOf s p) e)) later
+  part-long true false e f = subst (λ (l : CallResult). Long s (taking s p ps l)) (sym (wrong-buffers (decoderOf s) (callOf s p) e f)) later
+  part-long true true e f = λ _.
+      let tray = eqb (length (s .machine .tray)) trayLength in
+      let rest = both (eqb (length (s .machine .store)) storeLength) (tray && leb (p .free) (length (p .list))) f .1 in
+      eqb-true _ _ (both tray (leb (p .free) (length (p .list))) rest .0)
+
+tray-fits : (ps : List Part) (s : System) → Long s (carriedBits s ps)
+unfolding carriedBits
+tray-fits [] s = λ some. absurd (omega arith)
+tray-fits (p ∷ ps) s = part-long s p ps (tray-fits ps s) (soundOf (decoderOf s)) (refusals.buffers (callOf s p)) refl refl
+
+module _ (s : System) (ps : List Part) (command address : ℕ) (before field : List ℕ) (widths : ModelFits (s .machine .model))
+    (r : Receives s (carriedBits s ps) command address before field) where
+  -- where Field 5 begins
+  abbrev here : System
+  here = stateAfter turnOf s before
+
+  taken-from : (bits : List ℕ) → 0 < length bits → length bits ≡ lengthOf command (cntAt (here .machine))
+      → FrameTaken command 0 bits (record { recogniser = startOf Field5 0 command address; machine = here .machine })
+  taken-from [] some whole = absurd (omega arith)
+  taken-from (bit ∷ bits) some whole = frame-taken command address (r .frame) bits bit 0 _ _ (here .machine) (omega arith)
+
+  taken : FrameTaken command 0 field here
   taken =
-      subst (λ (q : Recogniser). FrameTaken command 0 field (record { recogniser = q; machine = s .machine })) (sym (r .begins))
+      subst (λ (q : Recogniser). FrameTaken command 0 field (record { recogniser = q; machine = here .machine })) (sym (r .begins))
       (taken-from field (r .some) (r .whole))
 
   abbrev one : Bool
   one = eqb command 6
 
   abbrev head : ℕ
-  head = headOf (frameRecord (taken .time) command (taken .unsteady) (cntAt (s .machine)))
+  head = headOf (frameRecord (taken .time) command (taken .unsteady) (cntAt (here .machine)))
 
   abbrev value : ℕ
-  value = frameValueOf command (cntAt (s .machine))
+  value = frameValueOf command (cntAt (here .machine))
 
-  counts : Counted command (cntAt (s .machine))
-  counts = counted command (cntAt (s .machine)) (r .frame) (r .widths .each-register _)
+  abbrev tray : List ℕ
+  tray = carriedSystem s ps .machine .tray
+
+  ahead : Kept s before
+  ahead = kept before s
+
+  counts : Counted command (cntAt (here .machine))
+  counts = counted command (cntAt (here .machine)) (r .frame) (ahead .model widths .each-register _)
 
   low : command < 7
   low = omega (arith, leb-true command 6 (both (leb 4 command) (leb command 6) (r .frame) .1))
@@ -89,26 +159,36 @@ module _ (s : System) (ps : List Part) (command address : ℕ) (field : List ℕ
   count-is : countOf head value ≡ bitsIn one (length field)
   count-is = ap (λ k. frameBitsOf k value) kind-is ∙ counts .bits ∙ ap (bitsIn one) (sym (r .whole))
 
-  tray-is : carriedSystem s ps .machine .tray ≡ trayBy one 0 (s .machine .tray) field
+  tray-is : tray ≡ trayBy one 0 (here .machine .tray) field
   tray-is =
-      ap (λ (u : System). u .machine .tray) (carried-system s ps ∙ ap (stateAfter turnOf s) (r .took)) ∙ taken .tray
+      ap (λ (u : System). u .machine .tray) (carried-system s ps ∙ ap (stateAfter turnOf s) (r .took) ∙ state-append turnOf s before field)
+      ∙ taken .tray
 
-  part-is : handedBack s ps head value ≡ partOf (trayBy one 0 (s .machine .tray) field) (bitsIn one (length field))
+  part-is : handedBack tray head value ≡ partOf (trayBy one 0 (here .machine .tray) field) (bitsIn one (length field))
   part-is = λ i. partOf (tray-is i) (count-is i)
 
-  holds : PartHolds one field (handedBack s ps head value)
+  long : length (here .machine .tray) ≡ trayLength
+  long =
+      let some = r .some in
+      let all : length (carriedBits s ps) ≡ length before + length field = ap length (r .took) ∙ length-append before field in
+      ahead .tray ∙ tray-fits ps s (omega arith)
+
+  bits-are : T (binary field)
+  bits-are = binary-behind before field (subst (λ bits. T (binary bits)) (r .took) (carried-binary s ps))
+
+  holds : PartHolds one field (handedBack tray head value)
   holds =
       subst (PartHolds one field) (sym part-is)
-      (part-holds one field (s .machine .tray) (subst (λ bits. T (binary bits)) (r .took) (carried-binary s ps))
-      (rw (r .tray, r .whole) (counts .low)))
+      (part-holds one field (here .machine .tray) bits-are (rw (long, r .whole) (counts .low)))
 
-  hands-back : HandsBack s ps command field
+  hands-back : HandsBack s (carriedWords s ps) tray command before field
   hands-back = record {
     head = head;
     value = value;
-    written = carried-words s ps ∙ ap (wordsAfter turnOf s) (r .took) ∙ taken .words;
+    written = carried-words s ps ∙ ap (wordsAfter turnOf s) (r .took) ∙ words-append turnOf s before field
+        ∙ ap (λ words. wordsAfter turnOf s before ++ words) (taken .words);
     kind = kind-is;
-    time = omega (arith, low, flags, taken .last-bit);
+    time = omega (arith, low, flags, taken .last-bit, ahead .next);
     count = rw kind-is (counts .cycles ∙ sym (r .whole));
     bytes = holds .long ∙ ap (λ n. (n + 7) / 8) (sym count-is);
     bits = holds .bits;
@@ -116,3 +196,6 @@ module _ (s : System) (ps : List Part) (command address : ℕ) (field : List ℕ
 
 pub frames : Frames
 frames = hands-back
+
+pub empty-frame : EmptyFrame
+empty-frame lent = choice (λ l. l ≡ []) (leb 0 (8 * length lent)) (λ _. refl) (λ _. refl)

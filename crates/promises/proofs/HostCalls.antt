@@ -1,4 +1,4 @@
--- The demands for lists of the library's calls, proved: such a list is a list of taking calls on the state.
+-- A list of the library's calls is a list of taking calls on the state.
 -- Assumes nothing.
 use mathlib.Core.Path.{_≡_, _∙_, refl, sym, ap, ap₂, subst}
 use mathlib.Core.Bool.{Bool, true, false, cond, and-false}
@@ -13,29 +13,24 @@ use Rattle.decoder.specs.declared.Decoder.{Decoder}
 use Rattle.decoder.specs.Sound.{soundOf}
 use Rattle.taking.specs.declared.Ending.{Ending}
 use Rattle.taking.specs.declared.Ending.the-variants.{Unsound, WrongBuffers}
-use Rattle.taking.specs.Turn.{System, systemOf, decoderOf}
+use Rattle.taking.specs.Turn.{System, decoderOf}
 use Rattle.taking.specs.Take.{Call, CallResult, call, offered, refused, takeOf, endingNumber}
 use Rattle.taking.specs.Calls.{allBits, allWords, Part, callOf, carriedBits, carriedWords, carriedSystem, systemAfter, resultOf}
 use Rattle.taking.proofs.Refusals.{buffers, unsound, wrong-buffers}
-use Rattle.image.specs.Image.{imageOf, stateOf, imageFits, Widths}
+use Rattle.image.specs.Image.{imageOf, imageFits, Widths}
 use Rattle.image.proofs.RoundTrip.{image-fits, read-back}
-use Rattle.image.proofs.WellFormed.{read-again, read-widths}
 use Rattle.kernelstill.specs.Take.{TakeResult, resultLength, refusedCall, answered, takeResultOf}
 use Rattle.kernelstill.proofs.WidthsKept.{widths-kept}
-use Rattle.damage.specs.CleanStreams.{Item, streamBits, inverted}
-use Rattle.promises.specs.Damage.{Stream}
-use Rattle.promises.specs.HostCalls.{HostCall, left, told, imageBits, imageWords, HostDemands}
-use Rattle.promises.specs.HostCalls.{Carried, HostPart, hostCall, carriedOn, next, hostBits, hostWords, hostLeft, HostCuts, HostRuns, HostWrote}
+use Rattle.promises.specs.HostCalls.{HostCall, left, told, imageBits, imageWords}
+use Rattle.promises.specs.HostCalls.{Carried, HostPart, hostCall, carriedOn, next, hostBits, hostWords, hostLeft}
 use Rattle.promises.proofs.Refusals.{first-demand}
-use Rattle.promises.proofs.Records.{second-demand}
-use Rattle.promises.proofs.Damage.{third-demand}
 use Rattle.promises.proofs.Hosts.{host-promise}
 
 -- The taking call that a call on an image is. One whose result has no three words is one whose first free word is past the list's end: number 4 both.
-abbrev lentBy : Bool → Call → Call
+abbrev pub lentBy : Bool → Call → Call
 lentBy fit c = call (c .input) (c .first) (c .count) (c .store) (c .tray) (c .list) (cond fit (c .free) (suc (length (c .list))))
 
-abbrev stateCall : HostCall → Call
+abbrev pub stateCall : HostCall → Call
 stateCall h = lentBy (eqb (length (h .result)) resultLength) (h .lent)
 
 -- What a call on an image answers, beside what the call on its state answers.
@@ -90,11 +85,11 @@ same : (d : Decoder) (h : HostCall) → Widths d → Agrees (h .lent) (stateCall
 same d h w = agrees d (h .result) (h .lent) (eqb (length (h .result)) resultLength) refl w
 
 -- Lists of calls, any buffers at each.
-abbrev stateCalls : List HostCall → List Call
+abbrev pub stateCalls : List HostCall → List Call
 stateCalls [] = []
 stateCalls (h ∷ hs) = stateCall h ∷ stateCalls hs
 
-same-bits : (hs : List HostCall) (d : Decoder) → Widths d → imageBits (imageOf d) hs ≡ allBits d (stateCalls hs)
+pub same-bits : (hs : List HostCall) (d : Decoder) → Widths d → imageBits (imageOf d) hs ≡ allBits d (stateCalls hs)
 unfolding imageBits allBits
 same-bits [] d w = refl
 same-bits (h ∷ hs) d w =
@@ -103,7 +98,7 @@ same-bits (h ∷ hs) d w =
     ap₂ _++_ (ap (λ n. take n (offered (h .lent))) (a .bits))
     (ap (λ i. imageBits i hs) (a .image) ∙ same-bits hs after (widths-kept d (stateCall h) w))
 
-same-words : (hs : List HostCall) (d : Decoder) → Widths d → imageWords (imageOf d) hs ≡ allWords d (stateCalls hs)
+pub same-words : (hs : List HostCall) (d : Decoder) → Widths d → imageWords (imageOf d) hs ≡ allWords d (stateCalls hs)
 unfolding imageWords allWords
 same-words [] d w = refl
 same-words (h ∷ hs) d w =
@@ -112,7 +107,7 @@ same-words (h ∷ hs) d w =
     ap₂ _++_ (a .words) (ap (λ i. imageWords i hs) (a .image) ∙ same-words hs after (widths-kept d (stateCall h) w))
 
 -- Lists of calls, store and tray carried over.
-abbrev statePart : HostPart → Part
+abbrev pub statePart : HostPart → Part
 statePart p = record {
   input = p .part .input;
   first = p .part .first;
@@ -121,21 +116,22 @@ statePart p = record {
   free = cond (eqb (length (p .result)) resultLength) (p .part .free) (suc (length (p .part .list)));
 }
 
-abbrev stateParts : List HostPart → List Part
+abbrev pub stateParts : List HostPart → List Part
 stateParts [] = []
 stateParts (p ∷ ps) = statePart p ∷ stateParts ps
 
-abbrev imaged : System → Carried
+abbrev pub imaged : System → Carried
 imaged s = record { image = imageOf (decoderOf s); store = s .machine .store; tray = s .machine .tray }
 
-record SameCarried (s : System) (ps : List HostPart) : Type 0 where
-  bits : hostBits (imaged s) ps ≡ carriedBits s (stateParts ps)
-  words : hostWords (imaged s) ps ≡ carriedWords s (stateParts ps)
-  left-over : hostLeft (imaged s) ps ≡ imaged (carriedSystem s (stateParts ps))
+pub record SameCarried (s : System) (ps : List HostPart) : Type 0 where
+  pub bits : hostBits (imaged s) ps ≡ carriedBits s (stateParts ps)
+  pub words : hostWords (imaged s) ps ≡ carriedWords s (stateParts ps)
+  pub left-over : hostLeft (imaged s) ps ≡ imaged (carriedSystem s (stateParts ps))
+  pub widths : Widths (decoderOf (carriedSystem s (stateParts ps)))
 
-same-carried : (ps : List HostPart) (s : System) → Widths (decoderOf s) → SameCarried s ps
+pub same-carried : (ps : List HostPart) (s : System) → Widths (decoderOf s) → SameCarried s ps
 unfolding hostBits hostWords hostLeft carriedBits carriedWords carriedSystem
-same-carried [] s w = record { bits = refl; words = refl; left-over = refl }
+same-carried [] s w = record { bits = refl; words = refl; left-over = refl; widths = w }
 same-carried (p ∷ ps) s w =
     let a = same (decoderOf s) (hostCall (imaged s) p) w in
     let after : System = systemAfter (resultOf s (statePart p)) in
@@ -145,6 +141,7 @@ same-carried (p ∷ ps) s w =
       bits = ap₂ _++_ (ap (λ n. take n (offered (hostCall (imaged s) p .lent))) (a .bits)) (ap (λ k. hostBits k ps) on ∙ rest .bits);
       words = ap₂ _++_ (a .words) (ap (λ k. hostWords k ps) on ∙ rest .words);
       left-over = ap (λ k. hostLeft k ps) on ∙ rest .left-over;
+      widths = rest .widths;
     }
 
 -- A call on malformed words takes nothing and changes nothing.
@@ -152,71 +149,32 @@ malformed : (image : List ℕ) (h : HostCall) → imageFits image ≡ false → 
 unfolding takeResultOf
 malformed image h e = rw e
 
-no-bits : (image : List ℕ) → imageFits image ≡ false → (hs : List HostCall) → imageBits image hs ≡ []
+pub no-bits : (image : List ℕ) → imageFits image ≡ false → (hs : List HostCall) → imageBits image hs ≡ []
 unfolding imageBits
 no-bits image e [] = refl
 no-bits image e (h ∷ hs) =
     ap (λ (r : TakeResult). take (told r 0) (offered (h .lent)) ++ imageBits (r .image) hs) (malformed image h e) ∙ no-bits image e hs
 
-record Nothing (k : Carried) (ps : List HostPart) : Type 0 where
-  words : hostWords k ps ≡ []
-  left-over : hostLeft k ps ≡ k
+pub no-words : (image : List ℕ) → imageFits image ≡ false → (hs : List HostCall) → imageWords image hs ≡ []
+unfolding imageWords
+no-words image e [] = refl
+no-words image e (h ∷ hs) =
+    ap (λ (r : TakeResult). take (listUnit * told r 1) (drop (h .lent .free) (r .list)) ++ imageWords (r .image) hs) (malformed image h e)
+    ∙ no-words image e hs
 
-nothing : (k : Carried) → imageFits (k .image) ≡ false → (ps : List HostPart) → Nothing k ps
-unfolding hostWords hostLeft
-nothing k e [] = record { words = refl; left-over = refl }
+pub record Nothing (k : Carried) (ps : List HostPart) : Type 0 where
+  pub bits : hostBits k ps ≡ []
+  pub words : hostWords k ps ≡ []
+  pub left-over : hostLeft k ps ≡ k
+
+pub nothing : (k : Carried) → imageFits (k .image) ≡ false → (ps : List HostPart) → Nothing k ps
+unfolding hostBits hostWords hostLeft
+nothing k e [] = record { bits = refl; words = refl; left-over = refl }
 nothing k e (p ∷ ps) =
     let rest = nothing k e ps in
     let m = malformed (k .image) (hostCall k p) e in
     record {
+      bits = ap (λ (r : TakeResult). take (told r 0) (offered (hostCall k p .lent)) ++ hostBits (carriedOn r) ps) m ∙ rest .bits;
       words = ap (λ (r : TakeResult). take (listUnit * told r 1) (drop (p .part .free) (r .list)) ++ hostWords (carriedOn r) ps) m ∙ rest .words;
       left-over = ap (λ (r : TakeResult). hostLeft (carriedOn r) ps) m ∙ rest .left-over;
     }
-
--- The cuts, of a state's image, and of any words.
-state-cuts : (s : System) → Widths (decoderOf s) → HostCuts (imaged s)
-state-cuts s w ps qs e =
-    let p = same-carried ps s w in
-    let q = same-carried qs s w in
-    let same = second-demand .cuts s (stateParts ps) (stateParts qs) (sym (p .bits) ∙ e ∙ q .bits) in
-    (p .words ∙ same .0 ∙ sym (q .words), p .left-over ∙ ap imaged (same .1) ∙ sym (q .left-over))
-
-cuts-by : (k : Carried) (fit : Bool) → imageFits (k .image) ≡ fit → HostCuts k
-cuts-by k true e =
-    subst (λ i. HostCuts (record { image = i; store = k .store; tray = k .tray })) (read-again (k .image) e)
-    (state-cuts (systemOf (stateOf (k .image)) (k .store) (k .tray)) (read-widths (k .image)))
-cuts-by k false e = λ ps qs _.
-    let p = nothing k e ps in
-    let q = nothing k e qs in
-    (p .words ∙ sym (q .words), p .left-over ∙ sym (q .left-over))
-
--- The damage statement, of a state's image, and of any words.
-state-damage : (d : Decoder) → Widths d → (clean damaged : List HostCall) (items : List Item) (trailing k : ℕ) → Stream d items trailing k
-    → imageBits (imageOf d) clean ≡ streamBits items trailing → imageBits (imageOf d) damaged ≡ inverted k (streamBits items trailing)
-    → HostWrote d (imageOf d) clean damaged items k
-state-damage d w clean damaged items trailing k s c e =
-    let wrote =
-    third-demand d (stateCalls clean) (stateCalls damaged) items trailing k
-    (record { stream = s; took-clean = sym (same-bits clean d w) ∙ c; took-damaged = sym (same-bits damaged d w) ∙ e }) in
-    record {
-      clean-words = same-words clean d w ∙ wrote .clean-words;
-      damaged-words = same-words damaged d w ∙ wrote .damaged-words;
-      replaced = wrote .replaced;
-    }
-
-module _ (image : List ℕ) (clean damaged : List HostCall) (items : List Item) (trailing k : ℕ) (r : HostRuns image clean damaged items trailing k) where
-  damage-by : (fit : Bool) → imageFits image ≡ fit → HostWrote (stateOf image) image clean damaged items k
-  damage-by true e =
-      let is = read-again image e in
-      subst (λ i. HostWrote (stateOf image) i clean damaged items k) is
-      (state-damage (stateOf image) (read-widths image) clean damaged items trailing k (r .stream)
-      (ap (λ i. imageBits i clean) is ∙ r .took-clean) (ap (λ i. imageBits i damaged) is ∙ r .took-damaged))
-  damage-by false e =
-      let none : 0 ≡ length (streamBits items trailing) = ap length (sym (no-bits image e clean) ∙ r .took-clean) in
-      absurd (omega (arith, none, r .stream .inside))
-
-pub host-demands : HostDemands
-host-demands = record {
-  cuts = λ k. cuts-by k (imageFits (k .image)) refl;
-  damage = λ image clean damaged items trailing k r. damage-by image clean damaged items trailing k r (imageFits image) refl;
-}

@@ -14,7 +14,8 @@ use Rattle.taking.proofs.CallLists.{call-kept, carried-words, carried-system}
 use Rattle.taking.proofs.LoopInvariant.{length-bits}
 use Rattle.taking.proofs.SoundnessKept.{start-sound, take-sound}
 use Rattle.taking.proofs.RecordsFit.{words-fit}
-use Rattle.promises.proofs.Frames.{frames}
+use Rattle.promises.proofs.Frames.{frames, empty-frame}
+use Rattle.promises.proofs.RunGoesOn.{run-goes-on}
 use Rattle.promises.specs.Records.{Exact, Ends, Cuts, SecondDemand}
 
 exact : (d : Decoder) (c : Call) → Exact d c
@@ -38,6 +39,7 @@ module _ (d : Decoder) (c : Call) where
             let g = e .framed h in
             record { before = g .before; head = g .head; value = g .value; parts = rw z (sym (f .words) ∙ g .parts); frame = g .frame; earlier = g .earlier };
         no-frame = λ h. rw z (subst NoFrames (f .words) (e .unframed h));
+        at-once = λ n h. run-goes-on turnOf (offered c) (lent d c) (length (c .list) - c .free) n (rw (← z) h);
       }
 
 cuts : (s : System) → Cuts s
@@ -52,6 +54,7 @@ second-demand = record {
   ends = ends;
   cuts = cuts;
   frames = frames;
+  empty-frame = empty-frame;
   opens-sound = start-sound;
   stays-sound = take-sound;
   fits = λ d cs. words-fit cs d;

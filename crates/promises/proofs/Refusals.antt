@@ -1,12 +1,13 @@
 -- The first demand, proved: the tests of the definitions are the rows of the table.
 -- Assumes nothing.
-use mathlib.Core.Path.{_≡_, _∙_, refl, sym, ap}
+use mathlib.Core.Path.{_≡_, _∙_, refl, sym, ap, ap₂}
 use mathlib.Core.Bool.{Bool, true, false, cond, not, _&&_, _||_}
 use mathlib.Core.List.{List, [], _∷_}
 use Prim.Native.Nat.{ℕ, zero, suc, _+_, _*_, _-_, _%_, _<_}
 use native.Mathlib.Omega.{arith}
 use lib.Dec.{leb, ltb, eqb}
 use lib.ListN.{length}
+use lib.Seq.{sets}
 use borrow.Author.Tests.{le-leb, lt-leb, ltb-true, ltb-false}
 use Rattle.bits.proofs.Truth.{clash}
 use Rattle.limits.specs.Limits.{clockLimit, storeLength, trayLength, inputLimit}
@@ -23,9 +24,9 @@ use Rattle.taking.proofs.RunEndings.{run-ended}
 use Rattle.taking.proofs.Refusals.{buffers, range, unsound, wrong-buffers, wrong-range, clock-over, taken}
 use Rattle.hexlines.specs.Digits.{isDigit, allDigits, bytesOf}
 use Rattle.hexlines.specs.Line as lines
-use Rattle.hexlines.specs.Line.{countFits, lineMeaning, readOf}
-use Rattle.promises.specs.Refusals.{firstOf, threeInMask, threeDiffer, takingRows, wrongCharacter, someWrong, hexRows}
-use Rattle.promises.specs.Refusals.{Opens, Takes, ReadsLine, FirstDemand}
+use Rattle.hexlines.specs.Line.{LineMeaning, Read, countFits, lineMeaning, readOf, readInto}
+use Rattle.promises.specs.Refusals.{firstOf, threeInMask, threeDiffer, takingRows, wrongCharacter, someWrong, hexRows, readingRows, readAs}
+use Rattle.promises.specs.Refusals.{Opens, Takes, LineMeans, ReadsLine, FirstDemand}
 
 -- tests turned round
 not-leb-by : (a b : ℕ) (t : Bool) → ltb b a ≡ t → not (leb a b) ≡ ltb b a
@@ -139,45 +140,80 @@ count-row n =
     not-and (eqb (n % 2) 0) (leb n 64)
     ∙ (λ i. odd-by (n % 2) (omega arith) i || not-leb n 64 i)
 
+-- A refusal, and a line that is fit.
+record Line (line : List ℕ) : Type 0 where
+  refusal : ℕ
+  bytes : List ℕ
+  meaning : lineMeaning line ≡ record { number = refusal; bytes = bytes }
+  first : firstOf (hexRows line) ≡ refusal
+  none : eqb refusal 0 ≡ false → bytes ≡ []
+  all : refusal ≡ 0 → bytes ≡ bytesOf line
+
+line-refused : (line : List ℕ) (n : ℕ) → eqb n 0 ≡ false → lineMeaning line ≡ lines.refused n → firstOf (hexRows line) ≡ n → Line line
+line-refused line n some e f = record {
+  refusal = n;
+  bytes = [];
+  meaning = e;
+  first = f;
+  none = λ _. refl;
+  all = λ z. clash (ap (λ n. eqb n 0) z) some;
+}
+
+line-fits : (line : List ℕ) → lineMeaning line ≡ record { number = 0; bytes = bytesOf line } → firstOf (hexRows line) ≡ 0 → Line line
+line-fits line e f = record { refusal = 0; bytes = bytesOf line; meaning = e; first = f; none = λ z. clash refl z; all = λ _. refl }
+
+line-by : (line : List ℕ) (a b : Bool) → allDigits line ≡ a → countFits (length line) ≡ b
+    → someWrong line ≡ not a → (eqb (length line % 2) 1 || ltb 64 (length line)) ≡ not b → Line line
+unfolding lineMeaning
+line-by line false b e f g h = line-refused line 7 refl (rw e) (rw g)
+line-by line true false e f g h = line-refused line 8 refl (rw (e, f)) (rw (g, h))
+line-by line true true e f g h = line-fits line (rw (e, f)) (rw (g, h))
+
+line-is : (line : List ℕ) → Line line
+line-is line = line-by line (allDigits line) (countFits (length line)) refl refl (sym (digits-row line)) (sym (count-row (length line)))
+
+means : (line : List ℕ) → LineMeans line
+means line =
+    let l = line-is line in
+    record {
+      number = ap (λ (m : LineMeaning). m .number) (l .meaning) ∙ sym (l .first);
+      no-bytes = λ some. ap (λ (m : LineMeaning). m .bytes) (l .meaning) ∙ l .none (ap (λ n. eqb n 0) (sym (l .first)) ∙ some);
+      bytes = λ z. ap (λ (m : LineMeaning). m .bytes) (l .meaning) ∙ l .all (sym (l .first) ∙ z);
+    }
+
 module _ (line buffer : List ℕ) where
-  abbrev first : ℕ
-  first = firstOf (hexRows line)
+  -- what a call answers, and leaves of a buffer that is long enough
+  abbrev into : ℕ → List ℕ → Read
+  into number bytes = readAs number bytes (sets buffer 0 bytes)
 
-  -- a refusal, and a line that is fit
-  line-refused : (n : ℕ) → eqb n 0 ≡ false → lineMeaning line ≡ lines.refused n → first ≡ n → ReadsLine line buffer
+  read-as : (l : Line line) → readOf line buffer ≡ into (l .refusal) (l .bytes)
   unfolding readOf
-  line-refused n some e f = record {
-    meaning = rw (e, f);
-    number = rw (e, f);
-    no-bytes = λ _. rw e;
-    unchanged = λ _. rw (e, f);
-    through = λ z. clash (ap (λ n. eqb n 0) (sym f ∙ z)) some;
-  }
+  read-as l = ap (λ (m : LineMeaning). into (m .number) (m .bytes)) (l .meaning)
 
-  line-fits : lineMeaning line ≡ record { number = 0; bytes = bytesOf line } → first ≡ 0 → ReadsLine line buffer
-  unfolding readOf
-  line-fits e f = record {
-    meaning = rw (e, f);
-    number = rw (e, f);
-    no-bytes = λ some. clash (ap (λ n. eqb n 0) f) some;
-    unchanged = λ some. clash (ap (λ n. eqb n 0) f) some;
-    through = λ _. rw e;
+  reads-by : (short : Bool) → ltb (length buffer) 32 ≡ short → (l : Line line) → ReadsLine line buffer
+  unfolding readInto
+  reads-by true h l = record {
+    number = rw h;
+    unchanged = λ _. rw h;
+    through = λ z. let four : firstOf (readingRows line buffer) ≡ 4 = rw h in clash (ap (λ n. eqb n 0) (sym four ∙ z)) refl;
   }
-
-  reads-by : (a b : Bool) → allDigits line ≡ a → countFits (length line) ≡ b
-      → someWrong line ≡ not a → (eqb (length line % 2) 1 || ltb 64 (length line)) ≡ not b → ReadsLine line buffer
-  unfolding lineMeaning
-  reads-by false b e f g h = line-refused 7 refl (rw e) (rw g)
-  reads-by true false e f g h = line-refused 8 refl (rw (e, f)) (rw (g, h))
-  reads-by true true e f g h = line-fits (rw (e, f)) (rw (g, h))
+  reads-by false h l =
+      let first : firstOf (readingRows line buffer) ≡ l .refusal = rw h (l .first) in
+      let read : readInto line buffer ≡ into (l .refusal) (l .bytes) = rw h (read-as l) in
+      record {
+        number = ap (λ (r : Read). r .number) read ∙ sym first;
+        unchanged = λ some. read ∙ ap₂ into (sym first) (l .none (ap (λ n. eqb n 0) (sym first) ∙ some));
+        through = λ z. read ∙ ap₂ into (sym first ∙ z) (l .all (sym first ∙ z));
+      }
 
   reads : ReadsLine line buffer
-  reads = reads-by (allDigits line) (countFits (length line)) refl refl (sym (digits-row line)) (sym (count-row (length line)))
+  reads = reads-by (ltb (length buffer) 32) refl (line-is line)
 
 pub first-demand : FirstDemand
 first-demand = record {
   limits = record { clock = refl; store = refl; tray = refl; input = refl; unit = refl };
   opens = opens;
   takes = takes;
+  means = means;
   reads = reads;
 }

@@ -26,30 +26,31 @@ pub record Stream (d : Decoder) (items : List Item) (trailing k : ℕ) : Type 0 
   pub timing : T (timed items)
   pub inside : k < length (streamBits items trailing)
 
--- Two lists of calls, any cuts, any buffers, refused calls included, of which one has taken the stream and the other the same bits with that one inverted.
-pub record Runs (d : Decoder) (clean damaged : List Call) (items : List Item) (trailing k : ℕ) : Type 0 where
+-- The bits of two lists of calls, of which one has taken the stream and the other the same bits with that one inverted.
+pub record Runs (d : Decoder) (clean damaged : List ℕ) (items : List Item) (trailing k : ℕ) : Type 0 where
   pub stream : Stream d items trailing k
-  pub took-clean : allBits d clean ≡ streamBits items trailing
-  pub took-damaged : allBits d damaged ≡ inverted k (streamBits items trailing)
+  pub took-clean : clean ≡ streamBits items trailing
+  pub took-damaged : damaged ≡ inverted k (streamBits items trailing)
 
--- The clean run has written the paper's record for each command and no other. The damaged run has written exactly these but for the affected one, which
--- is exactly the damage table's (`damagedRecords`); in the paper's words (`Replaced`), the trigger numbers differ at most after the affected command up to
--- the first ECR after it, the bunch numbers up to the first BCR, and nowhere if no command is affected.
-pub record Wrote (d : Decoder) (clean damaged : List Call) (items : List Item) (k : ℕ) : Type 0 where
-  pub clean-words : allWords d clean ≡ recordWords (cleanRecords (sends d) (countersOf d) (d .next) items)
-  pub damaged-words : allWords d damaged ≡ recordWords (damagedRecords (sends d) (countersOf d) (d .next) items k)
+-- Their words. The clean run has written the paper's record for each command and no other. The damaged run has written exactly these but for the affected
+-- one, which is exactly the damage table's (`damagedRecords`); in the paper's words (`Replaced`), the trigger numbers differ at most after the affected
+-- command up to the first ECR after it, the bunch numbers up to the first BCR, and nowhere if no command is affected.
+pub record Wrote (d : Decoder) (clean damaged : List ℕ) (items : List Item) (k : ℕ) : Type 0 where
+  pub clean-words : clean ≡ recordWords (cleanRecords (sends d) (countersOf d) (d .next) items)
+  pub damaged-words : damaged ≡ recordWords (damagedRecords (sends d) (countersOf d) (d .next) items k)
   pub replaced : Replaced (sends d) (countersOf d) (d .next) items k (damagedRecords (sends d) (countersOf d) (d .next) items k)
 
+-- Any cuts, any buffers, refused calls included.
 abbrev pub ThirdDemand : Type 0
 ThirdDemand =
     (d : Decoder) (clean damaged : List Call) (items : List Item) (trailing k : ℕ)
-    → Runs d clean damaged items trailing k → Wrote d clean damaged items k
+    → Runs d (allBits d clean) (allBits d damaged) items trailing k → Wrote d (allWords d clean) (allWords d damaged) items k
 
 -- The premises can be met: wherever the clock has room for the stream, there are two such lists of calls.
 pub record Met (d : Decoder) (items : List Item) (trailing k : ℕ) : Type 0 where
   pub clean : List Call
   pub damaged : List Call
-  pub runs : Runs d clean damaged items trailing k
+  pub runs : Runs d (allBits d clean) (allBits d damaged) items trailing k
 
 abbrev pub ThirdDemandMet : Type 0
 ThirdDemandMet =

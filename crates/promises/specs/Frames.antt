@@ -2,11 +2,10 @@
 -- Assumes nothing.
 use mathlib.Core.Path.{_≡_}
 use mathlib.Core.Bool.{true, cond}
-use mathlib.Core.List.{List, [], _∷_}
+use mathlib.Core.List.{List, [], _∷_, _++_}
 use Prim.Native.Nat.{ℕ, _+_, _*_, _/_, _<_}
 use lib.Dec.{eqb}
 use lib.ListN.{length, getD}
-use Rattle.limits.specs.Limits.{trayLength}
 use Rattle.bits.specs.Bits.{bitOf}
 use Rattle.recogniser.specs.declared.Phase.the-variants.{Field5}
 use Rattle.recogniser.specs.Parts.{startOf}
@@ -14,7 +13,8 @@ use Rattle.recogniser.specs.Fields.{isFrame, lengthOf}
 use Rattle.frames.specs.Tray.{partOf}
 use Rattle.controller.specs.Records.{kindOf, kindSlow, frameBitsOf}
 use Rattle.controller.specs.Widths.{ModelFits}
-use Rattle.taking.specs.Turn.{System, cntAt}
+use Rattle.taking.specs.Run.{stateAfter, wordsAfter}
+use Rattle.taking.specs.Turn.{System, cntAt, turnOf}
 use Rattle.taking.specs.Calls.{Part, carriedBits, carriedWords, carriedSystem}
 
 -- How many cycles a frame's bit takes: "WrFrontEnd and RdFrontEnd carry each bit for eight cycles"; "WrReceiver carries one bit a cycle".
@@ -25,35 +25,40 @@ cyclesEach command = cond (eqb command 6) 1 8
 abbrev pub frameBit : ℕ → List ℕ → ℕ → ℕ
 frameBit command field place = getD field (cyclesEach command * place) 0
 
--- Field 5 of a frame begins, whatever the tray holds; and calls take all of it, cut anywhere, state, store and tray carried over.
-pub record Receives (s : System) (ps : List Part) (command address : ℕ) (field : List ℕ) : Type 0 where
+-- Calls take some bits, cut anywhere: first any bits, behind which Field 5 of a frame begins, then all of Field 5, as long as CNT says there.
+pub record Receives (s : System) (bits : List ℕ) (command address : ℕ) (before field : List ℕ) : Type 0 where
   pub frame : isFrame command ≡ true
-  pub begins : s .recogniser ≡ startOf Field5 0 command address
-  pub tray : length (s .machine .tray) ≡ trayLength
-  pub widths : ModelFits (s .machine .model)
-  pub took : carriedBits s ps ≡ field
+  pub took : bits ≡ before ++ field
+  pub begins : stateAfter turnOf s before .recogniser ≡ startOf Field5 0 command address
   pub some : 0 < length field
-  pub whole : length field ≡ lengthOf command (cntAt (s .machine))
+  pub whole : length field ≡ lengthOf command (cntAt (stateAfter turnOf s before .machine))
 
 -- The second call is "told the frame's count of bits", off its record, and is lent the tray as the calls left it.
 abbrev pub countOf : ℕ → ℕ → ℕ
 countOf head value = frameBitsOf (kindOf head) value
 
-abbrev pub handedBack : System → List Part → ℕ → ℕ → List ℕ
-handedBack s ps head value = partOf (carriedSystem s ps .machine .tray) (countOf head value)
+abbrev pub handedBack : List ℕ → ℕ → ℕ → List ℕ
+handedBack tray head value = partOf tray (countOf head value)
 
--- The calls write one record, the frame's, with the time of its last bit and the count of its bits. The part handed back has as many bytes as they need;
--- each of its bits, "highest bit first", is the frame's at that place, and 0 beyond the frame's last.
-pub record HandsBack (s : System) (ps : List Part) (command : ℕ) (field : List ℕ) : Type 0 where
+-- Behind the records of the bits ahead of Field 5 the calls write one, the frame's, with the time of its last bit and the count of its bits. The part
+-- handed back has as many bytes as they need; each of its bits, "highest bit first", is the frame's at that place, and 0 beyond the frame's last.
+pub record HandsBack (s : System) (words tray : List ℕ) (command : ℕ) (before field : List ℕ) : Type 0 where
   pub head : ℕ
   pub value : ℕ
-  pub written : carriedWords s ps ≡ head ∷ value ∷ []
+  pub written : words ≡ wordsAfter turnOf s before ++ (head ∷ value ∷ [])
   pub kind : kindOf head ≡ kindSlow command
-  pub time : head / 65536 + 1 ≡ s .machine .next + length field
+  pub time : head / 65536 + 1 ≡ s .machine .next + length before + length field
   pub count : countOf head value * cyclesEach command ≡ length field
-  pub bytes : length (handedBack s ps head value) ≡ (countOf head value + 7) / 8
-  pub bits : (i : ℕ) → i < 8 * length (handedBack s ps head value) → bitOf (handedBack s ps head value) i ≡ frameBit command field i
+  pub bytes : length (handedBack tray head value) ≡ (countOf head value + 7) / 8
+  pub bits : (i : ℕ) → i < 8 * length (handedBack tray head value) → bitOf (handedBack tray head value) i ≡ frameBit command field i
 
+-- State, store and tray are carried over from call to call, whatever the tray holds at first.
 abbrev pub Frames : Type 0
 Frames =
-    (s : System) (ps : List Part) (command address : ℕ) (field : List ℕ) → Receives s ps command address field → HandsBack s ps command field
+    (s : System) (ps : List Part) (command address : ℕ) (before field : List ℕ) → ModelFits (s .machine .model)
+    → Receives s (carriedBits s ps) command address before field
+    → HandsBack s (carriedWords s ps) (carriedSystem s ps .machine .tray) command before field
+
+-- "A Field 5 of length 0 ends with Field 4": such a frame has 0 bits, and the part handed back is the empty one.
+abbrev pub EmptyFrame : Type 0
+EmptyFrame = (tray : List ℕ) → partOf tray 0 ≡ []

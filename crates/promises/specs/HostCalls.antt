@@ -1,22 +1,22 @@
 -- The second and the third demand for lists of the library's own calls: a host hands each call the image as the call before left it.
 -- Assumes nothing.
 use mathlib.Core.Path.{_≡_}
-use mathlib.Core.Bool.{cond}
+use mathlib.Core.Bool.{true, cond}
 use mathlib.Core.List.{List, [], _∷_, _++_}
-use Prim.Native.Nat.{ℕ, _*_}
+use Prim.Native.Nat.{ℕ, _+_, _*_, _≤_}
 use lib.Dec.{eqb}
-use lib.ListN.{getD, take, drop}
-use Rattle.limits.specs.Limits.{listUnit}
-use Rattle.controller.specs.Records.{recordWords}
-use Rattle.decoder.specs.declared.Decoder.{Decoder}
+use lib.ListN.{length, getD, take, drop}
+use Rattle.limits.specs.Limits.{clockLimit, listUnit}
+use Rattle.controller.specs.Widths.{WordsFit}
+use Rattle.taking.specs.Run.{stateAfter, wordsAfter}
+use Rattle.taking.specs.Turn.{System, systemOf, turnOf}
 use Rattle.taking.specs.Take.{Call, call, offered}
 use Rattle.taking.specs.Calls.{Part}
-use Rattle.image.specs.Image.{stateOf}
+use Rattle.image.specs.Image.{stateOf, imageFits}
 use Rattle.kernelstill.specs.Take.{TakeResult, takeResultOf}
-use Rattle.damage.specs.CleanStreams.{Item, streamBits, inverted}
-use Rattle.damage.specs.Records.{countersOf, sends, cleanRecords, damagedRecords}
-use Rattle.damage.specs.Comparison.{Replaced}
-use Rattle.promises.specs.Damage.{Stream}
+use Rattle.damage.specs.CleanStreams.{Item, streamBits}
+use Rattle.promises.specs.Frames.{Receives, HandsBack}
+use Rattle.promises.specs.Damage.{Stream, Runs, Wrote}
 
 -- What a call is lent beside the image: the buffer of its result, and what any taking call is lent.
 pub record HostCall : Type 0 where
@@ -80,24 +80,54 @@ unfoldable pub hostLeft : Carried → List HostPart → Carried
 hostLeft k [] = k
 hostLeft k (p ∷ ps) = hostLeft (next k p) ps
 
--- The second demand's cuts, whatever words the image has: where the bits taken join to the same stream, so do the records; image, store and tray at the
--- end are the same.
+-- What it carries over stands for a state, with store and tray.
+abbrev pub standsFor : Carried → System
+standsFor k = systemOf (stateOf (k .image)) (k .store) (k .tray)
+
+-- The second demand, whatever words the image has. A list of calls leaves and writes what its bits say, cycle by cycle: none missing and none added.
+pub record HostExact (k : Carried) (ps : List HostPart) : Type 0 where
+  pub state : standsFor (hostLeft k ps) ≡ stateAfter turnOf (standsFor k) (hostBits k ps)
+  pub words : hostWords k ps ≡ wordsAfter turnOf (standsFor k) (hostBits k ps)
+
+-- Where the bits taken join to the same stream, so do the records; image, store and tray at the end are the same.
 abbrev pub HostCuts : Carried → Type 0
 HostCuts k =
     (ps qs : List HostPart) → hostBits k ps ≡ hostBits k qs → (hostWords k ps ≡ hostWords k qs) × (hostLeft k ps ≡ hostLeft k qs)
 
--- The third demand: two lists of calls on an image, of which one has taken a clean stream and the other the same bits with one inverted.
-pub record HostRuns (image : List ℕ) (clean damaged : List HostCall) (items : List Item) (trailing k : ℕ) : Type 0 where
-  pub stream : Stream (stateOf image) items trailing k
-  pub took-clean : imageBits image clean ≡ streamBits items trailing
-  pub took-damaged : imageBits image damaged ≡ inverted k (streamBits items trailing)
+-- The part of the tray handed back holds a frame's bits.
+abbrev pub HostFrames : Type 0
+HostFrames =
+    (k : Carried) (ps : List HostPart) (command address : ℕ) (before field : List ℕ)
+    → Receives (standsFor k) (hostBits k ps) command address before field
+    → HandsBack (standsFor k) (hostWords k ps) (hostLeft k ps .tray) command before field
 
-pub record HostWrote (d : Decoder) (image : List ℕ) (clean damaged : List HostCall) (items : List Item) (k : ℕ) : Type 0 where
-  pub clean-words : imageWords image clean ≡ recordWords (cleanRecords (sends d) (countersOf d) (d .next) items)
-  pub damaged-words : imageWords image damaged ≡ recordWords (damagedRecords (sends d) (countersOf d) (d .next) items k)
-  pub replaced : Replaced (sends d) (countersOf d) (d .next) items k (damagedRecords (sends d) (countersOf d) (d .next) items k)
+-- A call that answers 0 leaves an image that the next call does not turn away as unsound.
+abbrev pub HostSound : Type 0
+HostSound = (image : List ℕ) (h after : HostCall) → left image h .number ≡ 0 → left (left image h .image) after .number ≡ 3 → ⊥
+
+-- The third demand, any buffers at each call, and that its premises can be met where the words are an image.
+abbrev pub HostDamage : Type 0
+HostDamage =
+    (image : List ℕ) (clean damaged : List HostCall) (items : List Item) (trailing k : ℕ)
+    → Runs (stateOf image) (imageBits image clean) (imageBits image damaged) items trailing k
+    → Wrote (stateOf image) (imageWords image clean) (imageWords image damaged) items k
+
+pub record HostMet (image : List ℕ) (items : List Item) (trailing k : ℕ) : Type 0 where
+  pub clean : List HostCall
+  pub damaged : List HostCall
+  pub runs : Runs (stateOf image) (imageBits image clean) (imageBits image damaged) items trailing k
+
+abbrev pub HostDamageMet : Type 0
+HostDamageMet =
+    (image : List ℕ) (items : List Item) (trailing k : ℕ) → imageFits image ≡ true → Stream (stateOf image) items trailing k
+    → stateOf image .next + length (streamBits items trailing) ≤ clockLimit → HostMet image items trailing k
 
 pub record HostDemands : Type 0 where
+  pub exact : (k : Carried) (ps : List HostPart) → HostExact k ps
   pub cuts : (k : Carried) → HostCuts k
-  pub damage : (image : List ℕ) (clean damaged : List HostCall) (items : List Item) (trailing k : ℕ)
-      → HostRuns image clean damaged items trailing k → HostWrote (stateOf image) image clean damaged items k
+  pub frames : HostFrames
+  pub sound : HostSound
+  -- Each record has its time below 2^48 and "a value below 2^32".
+  pub fits : (image : List ℕ) (hs : List HostCall) → WordsFit (imageWords image hs)
+  pub damage : HostDamage
+  pub met : HostDamageMet

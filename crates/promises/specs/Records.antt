@@ -4,7 +4,7 @@
 -- Assumes nothing.
 use mathlib.Core.Path.{_≡_}
 use mathlib.Core.List.{List}
-use Prim.Native.Nat.{ℕ, _*_, _-_, _<_}
+use Prim.Native.Nat.{ℕ, _+_, _*_, _-_, _<_, _≤_}
 use lib.Dec.{T}
 use lib.ListN.{length, take}
 use Rattle.registers.specs.declared.Plan.{Plan}
@@ -18,23 +18,33 @@ use Rattle.taking.specs.Run.{NoFrames, LastIsFrame, stateAfter, wordsAfter}
 use Rattle.taking.specs.Turn.{System, turnOf}
 use Rattle.taking.specs.Take.{Call, offered, lent, takenOf, takeOf}
 use Rattle.taking.specs.Calls.{bitsTaken, wordsStanding, allWords, systemAfter, Part, carriedBits, carriedWords, carriedSystem}
-use Rattle.promises.specs.Frames.{Frames}
+use Rattle.promises.specs.Frames.{Frames, EmptyFrame}
 
 -- A call, refused or not, leaves and writes what the bits that it took say, cycle by cycle: none missing and none added.
 pub record Exact (d : Decoder) (c : Call) : Type 0 where
   pub state : systemAfter (takeOf d c) ≡ stateAfter turnOf (lent d c) (bitsTaken d c)
   pub words : wordsStanding d c ≡ wordsAfter turnOf (lent d c) (bitsTaken d c)
 
+-- The words of the records that a call has written once it has taken so many bits.
+abbrev pub writtenBy : Decoder → Call → ℕ → List ℕ
+writtenBy d c bits = wordsAfter turnOf (lent d c) (take bits (offered c))
+
+-- A call goes on to a further bit only where no record so far is a frame's, and two words are free: at a frame's record, and with fewer words free, "it
+-- stops at once".
+pub record GoesOn (words : List ℕ) (room : ℕ) : Type 0 where
+  pub no-frame : NoFrames words
+  pub two-free : length words + listUnit ≤ room
+
 -- Each ending of a call that is not refused has its condition: "'done' .. with every bit of its count taken", 'list full' "when bits remain and fewer than
--- two words are free", 'frame' "after a record of kind 24, 25 or 26, where it stops at once": so no earlier record is a frame's, and none at all where
--- the call ends otherwise.
+-- two words are free", 'frame' "after a record of kind 24, 25 or 26": its last record is a frame's, and none is where the call ends otherwise. Ahead of
+-- each bit taken the call could go on; so the record that ends it with 'frame' was written by the last bit taken.
 pub record Ends (d : Decoder) (c : Call) : Type 0 where
   pub done : takenOf d c .taken .report .ending ≡ Done → takenOf d c .taken .report .bits ≡ c .count
   pub full : takenOf d c .taken .report .ending ≡ ListFull
       → (takenOf d c .taken .report .bits < c .count) × (length (c .list) - c .free - listUnit * takenOf d c .taken .report .records < listUnit)
-  pub frame : takenOf d c .taken .report .ending ≡ Frame → LastIsFrame (wordsAfter turnOf (lent d c) (take (takenOf d c .taken .report .bits) (offered c)))
-  pub no-frame : (takenOf d c .taken .report .ending ≡ Frame → ⊥)
-      → NoFrames (wordsAfter turnOf (lent d c) (take (takenOf d c .taken .report .bits) (offered c)))
+  pub frame : takenOf d c .taken .report .ending ≡ Frame → LastIsFrame (writtenBy d c (takenOf d c .taken .report .bits))
+  pub no-frame : (takenOf d c .taken .report .ending ≡ Frame → ⊥) → NoFrames (writtenBy d c (takenOf d c .taken .report .bits))
+  pub at-once : (n : ℕ) → n < takenOf d c .taken .report .bits → GoesOn (writtenBy d c n) (length (c .list) - c .free)
 
 -- Two lists of calls from one state, store and tray carried over, refused calls among them: where the bits taken join to the same stream, so do the
 -- records, and the state, store and tray at the end are the same.
@@ -49,6 +59,7 @@ pub record SecondDemand : Type 0 where
   pub cuts : (s : System) → Cuts s
   -- After 'frame' the second call hands back the frame's bits, wherever the frame was cut into calls.
   pub frames : Frames
+  pub empty-frame : EmptyFrame
   -- Opening gives a sound state, and a sound state stays sound.
   pub opens-sound : (plan : Plan) (cycle : ℕ) → T (soundOf (openOf plan cycle .decoder))
   pub stays-sound : (d : Decoder) (c : Call) → T (soundOf d) → T (soundOf (takeOf d c .taken .decoder))

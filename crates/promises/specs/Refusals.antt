@@ -17,7 +17,7 @@ use Rattle.decoder.specs.Sound.{soundOf}
 use Rattle.taking.specs.declared.Ending.{Ending}
 use Rattle.taking.specs.Take.{Call, refused, takenOf, takeOf, endingNumber}
 use Rattle.hexlines.specs.Digits.{bytesOf}
-use Rattle.hexlines.specs.Line.{Read, lineMeaning, readOf}
+use Rattle.hexlines.specs.Line.{Read, lineMeaning, readInto}
 
 -- A row of the refusal table: its number, and whether it applies to this call.
 pub record Row : Type 0 where
@@ -93,21 +93,31 @@ pub record Takes (d : Decoder) (c : Call) : Type 0 where
   pub rejected : eqb (firstOf (takingRows d c)) 0 ≡ false → (ending : Ending) × (takeOf d c ≡ refused d c ending)
   pub through : firstOf (takingRows d c) ≡ 0 → takeOf d c ≡ takenOf d c
 
--- What a call that reads a line answers: a number, how many bytes, and the buffer's later contents.
+-- The rows of a call that reads a line into a lent buffer: number 4 where the buffer has fewer bytes than the longest line (ours: document 01 names no
+-- buffer for a line), then the line's own.
+abbrev pub readingRows : List ℕ → List ℕ → List Row
+readingRows line buffer = row 4 (ltb (length buffer) 32) ∷ hexRows line
+
+-- What such a call answers: a number, how many bytes, and the buffer's later contents.
 abbrev pub readAs : ℕ → List ℕ → List ℕ → Read
 readAs number bytes buffer = record { number = number; count = length bytes; buffer = buffer }
 
--- A hexadecimal line means the number of the first row that applies, and a call that reads it answers that number. "A refused line gives no bytes", and the
--- lent buffer is as it came; any other line's bytes, two digits each, stand at the buffer's start.
-pub record ReadsLine (line buffer : List ℕ) : Type 0 where
-  pub meaning : lineMeaning line .number ≡ firstOf (hexRows line)
-  pub number : readOf line buffer .number ≡ firstOf (hexRows line)
+-- A hexadecimal line means the number of the first row that applies. "A refused line gives no bytes"; any other gives its bytes, two digits each.
+pub record LineMeans (line : List ℕ) : Type 0 where
+  pub number : lineMeaning line .number ≡ firstOf (hexRows line)
   pub no-bytes : eqb (firstOf (hexRows line)) 0 ≡ false → lineMeaning line .bytes ≡ []
-  pub unchanged : eqb (firstOf (hexRows line)) 0 ≡ false → readOf line buffer ≡ readAs (firstOf (hexRows line)) [] buffer
-  pub through : firstOf (hexRows line) ≡ 0 → readOf line buffer ≡ readAs 0 (bytesOf line) (sets buffer 0 (bytesOf line))
+  pub bytes : firstOf (hexRows line) ≡ 0 → lineMeaning line .bytes ≡ bytesOf line
+
+-- A call that reads a line answers the number of the first row that applies. At a refusal it gives no bytes, and the lent buffer is as it came; else the
+-- line's bytes stand at the buffer's start.
+pub record ReadsLine (line buffer : List ℕ) : Type 0 where
+  pub number : readInto line buffer .number ≡ firstOf (readingRows line buffer)
+  pub unchanged : eqb (firstOf (readingRows line buffer)) 0 ≡ false → readInto line buffer ≡ readAs (firstOf (readingRows line buffer)) [] buffer
+  pub through : firstOf (readingRows line buffer) ≡ 0 → readInto line buffer ≡ readAs 0 (bytesOf line) (sets buffer 0 (bytesOf line))
 
 pub record FirstDemand : Type 0 where
   pub limits : Limits
   pub opens : (plan : Plan) (cycle : ℕ) → Opens plan cycle
   pub takes : (d : Decoder) (c : Call) → Takes d c
+  pub means : (line : List ℕ) → LineMeans line
   pub reads : (line buffer : List ℕ) → ReadsLine line buffer

@@ -1,0 +1,243 @@
+-- The demands for lists of the library's calls, proved: of a state's image, and of any words.
+-- Assumes nothing.
+use mathlib.Core.Path.{_≡_, _∙_, refl, sym, ap, ap₂, subst}
+use mathlib.Core.Bool.{Bool, true, false, cond, not}
+use mathlib.Core.List.{List, [], _∷_, _++_}
+use Prim.Native.Nat.{ℕ, _+_, _*_, _≤_}
+use native.Mathlib.Omega.{arith}
+use lib.Dec.{eqb}
+use lib.ListN.{length, length-append, replicate, take, drop}
+use borrow.Author.Tests.{eq-eqb}
+use Rattle.bits.proofs.Truth.{clash, both, holds-true, true-holds}
+use Rattle.limits.specs.Limits.{clockLimit, listUnit}
+use Rattle.controller.specs.Widths.{WordsFit}
+use Rattle.decoder.specs.declared.Decoder.{Decoder}
+use Rattle.decoder.specs.Sound.{soundOf}
+use Rattle.taking.specs.Run.{stateAfter, wordsAfter}
+use Rattle.taking.specs.Turn.{System, systemOf, decoderOf, turnOf}
+use Rattle.taking.specs.Take.{Call, CallResult, takeOf, endingNumber}
+use Rattle.taking.specs.Calls.{allBits, allWords, carriedSystem}
+use Rattle.taking.proofs.Refusals.{unsound}
+use Rattle.taking.proofs.CallLists.{carried-words, carried-system}
+use Rattle.taking.proofs.SoundnessKept.{take-sound}
+use Rattle.image.specs.Image.{imageOf, stateOf, imageFits, Widths}
+use Rattle.image.proofs.RoundTrip.{image-fits, read-back}
+use Rattle.image.proofs.WellFormed.{read-again, read-widths}
+use Rattle.kernelstill.specs.Take.{TakeResult, resultLength, answered, soundImage, takeResultOf}
+use Rattle.kernelstill.proofs.WidthsKept.{model-widths, widths-kept}
+use Rattle.damage.specs.CleanStreams.{Item, streamBits}
+use Rattle.promises.specs.Refusals.{Row, row, firstOf, takingRows}
+use Rattle.promises.specs.Frames.{Receives, HandsBack}
+use Rattle.promises.specs.Damage.{Stream, Runs, Wrote}
+use Rattle.promises.specs.HostCalls.{HostCall, left, imageBits, imageWords, Carried, HostPart, hostBits, hostWords, hostLeft, standsFor}
+use Rattle.promises.specs.HostCalls.{HostExact, HostCuts, HostMet, HostDemands}
+use Rattle.promises.proofs.Refusals.{first-demand}
+use Rattle.promises.proofs.Records.{second-demand}
+use Rattle.promises.proofs.Damage.{third-demand, third-demand-met}
+use Rattle.promises.proofs.HostCalls.{stateCalls, stateParts, imaged, same-bits, same-words, same-carried, no-bits, no-words, nothing}
+
+-- What is carried over of a state stands for it; and words that are an image are that of the state that they stand for.
+stands : (s : System) → Widths (decoderOf s) → standsFor (imaged s) ≡ s
+stands s w = ap (λ (d : Decoder). systemOf d (s .machine .store) (s .machine .tray)) (read-back (decoderOf s) w)
+
+formed : (P : Carried → Type 0) (k : Carried) → imageFits (k .image) ≡ true → P (imaged (standsFor k)) → P k
+formed P k e p = subst (λ i. P (record { image = i; store = k .store; tray = k .tray })) (read-again (k .image) e) p
+
+-- What a list of calls leaves and writes.
+state-exact : (s : System) → Widths (decoderOf s) → (ps : List HostPart) → HostExact (imaged s) ps
+state-exact s w ps =
+    let c = same-carried ps s w in
+    let is = stands s w in
+    record {
+      state = ap standsFor (c .left-over) ∙ stands (carriedSystem s (stateParts ps)) (c .widths) ∙ carried-system s (stateParts ps)
+          ∙ ap₂ (stateAfter turnOf) (sym is) (sym (c .bits));
+      words = c .words ∙ carried-words s (stateParts ps) ∙ ap₂ (wordsAfter turnOf) (sym is) (sym (c .bits));
+    }
+
+exact-by : (k : Carried) (ps : List HostPart) (fit : Bool) → imageFits (k .image) ≡ fit → HostExact k ps
+exact-by k ps true e = formed (λ k. HostExact k ps) k e (state-exact (standsFor k) (read-widths (k .image)) ps)
+exact-by k ps false e =
+    let n = nothing k e ps in
+    record {
+      state = ap standsFor (n .left-over) ∙ ap (stateAfter turnOf (standsFor k)) (sym (n .bits));
+      words = n .words ∙ ap (wordsAfter turnOf (standsFor k)) (sym (n .bits));
+    }
+
+-- The cuts.
+state-cuts : (s : System) → Widths (decoderOf s) → HostCuts (imaged s)
+state-cuts s w ps qs e =
+    let p = same-carried ps s w in
+    let q = same-carried qs s w in
+    let same = second-demand .cuts s (stateParts ps) (stateParts qs) (sym (p .bits) ∙ e ∙ q .bits) in
+    (p .words ∙ same .0 ∙ sym (q .words), p .left-over ∙ ap imaged (same .1) ∙ sym (q .left-over))
+
+cuts-by : (k : Carried) (fit : Bool) → imageFits (k .image) ≡ fit → HostCuts k
+cuts-by k true e = formed HostCuts k e (state-cuts (standsFor k) (read-widths (k .image)))
+cuts-by k false e = λ ps qs _.
+    let p = nothing k e ps in
+    let q = nothing k e qs in
+    (p .words ∙ sym (q .words), p .left-over ∙ sym (q .left-over))
+
+-- The frames.
+module _ (ps : List HostPart) (command address : ℕ) (before field : List ℕ) where
+  abbrev Handed : System → Carried → Type 0
+  Handed s k =
+      Receives s (hostBits k ps) command address before field → HandsBack s (hostWords k ps) (hostLeft k ps .tray) command before field
+
+  state-frames : (s : System) → Widths (decoderOf s) → Handed s (imaged s)
+  state-frames s w r =
+      let c = same-carried ps s w in
+      let tray : hostLeft (imaged s) ps .tray ≡ carriedSystem s (stateParts ps) .machine .tray = ap (λ (k : Carried). k .tray) (c .left-over) in
+      let back =
+      second-demand .frames s (stateParts ps) command address before field (model-widths (decoderOf s) w)
+      (record { frame = r .frame; took = sym (c .bits) ∙ r .took; begins = r .begins; some = r .some; whole = r .whole }) in
+      subst (λ t. HandsBack s (hostWords (imaged s) ps) t command before field) (sym tray)
+      (subst (λ words. HandsBack s words (carriedSystem s (stateParts ps) .machine .tray) command before field) (sym (c .words)) back)
+
+  frames-by : (k : Carried) (fit : Bool) → imageFits (k .image) ≡ fit → Handed (standsFor k) k
+  frames-by k true e = formed (Handed (standsFor k)) k e (state-frames (standsFor k) (read-widths (k .image)))
+  frames-by k false e = λ r.
+      let none : 0 ≡ length before + length field = ap length (sym (nothing k e ps .bits) ∙ r .took) ∙ length-append before field in
+      absurd (omega (arith, none, r .some))
+
+-- What follows an answer of 0; and a state that is sound is turned away with another number, if at all.
+abbrev Sound : TakeResult → Type 0
+Sound r = r .number ≡ 0 → soundImage (r .image) ≡ true
+
+other-rows : (a b c : Bool) → firstOf (row 4 a ∷ row 5 b ∷ row 6 c ∷ []) ≡ 3 → ⊥
+other-rows true b c z = omega arith
+other-rows false true c z = omega arith
+other-rows false false true z = omega arith
+other-rows false false false z = omega arith
+
+other-number : (s a b c : Bool) (rows : List Row) → rows ≡ row 3 (not s) ∷ row 4 a ∷ row 5 b ∷ row 6 c ∷ [] → s ≡ true → firstOf rows ≡ 3 → ⊥
+other-number s a b c rows is e z = other-rows a b c (sym (ap firstOf is ∙ ap (λ s. firstOf (row 3 (not s) ∷ row 4 a ∷ row 5 b ∷ row 6 c ∷ [])) e) ∙ z)
+
+-- A call on a sound image is the call on its state.
+module _ (image : List ℕ) (h : HostCall) where
+  abbrev on : CallResult
+  on = takeOf (stateOf image) (h .lent)
+
+  turned : soundImage image ≡ false → left image h .number ≡ 3
+  unfolding takeResultOf
+  turned e = rw e
+
+  wrong-result : soundImage image ≡ true → eqb (length (h .result)) resultLength ≡ false → left image h .number ≡ 4
+  unfolding takeResultOf
+  wrong-result e f = rw (e, f)
+
+  whole : soundImage image ≡ true → eqb (length (h .result)) resultLength ≡ true → left image h ≡ answered image (h .result) on
+  unfolding takeResultOf
+  whole e f = rw (e, f)
+
+  -- the image that it leaves is sound
+  written : soundImage image ≡ true → Sound (answered image (h .result) on)
+  written e zero =
+      let d = on .taken .decoder in
+      let w = widths-kept (stateOf image) (h .lent) (read-widths image) in
+      let before = true-holds (soundOf (stateOf image)) (both (imageFits image) (soundOf (stateOf image)) e .1) in
+      rw (eq-eqb (endingNumber (on .taken .report .ending)) 0 zero, image-fits d w, read-back d w)
+      (holds-true (soundOf d) (take-sound (stateOf image) (h .lent) before))
+
+  sound-by : (sound fit : Bool) → soundImage image ≡ sound → eqb (length (h .result)) resultLength ≡ fit → Sound (left image h)
+  sound-by false fit e f = λ zero. let three = turned e in absurd (omega arith)
+  sound-by true false e f = λ zero. let four = wrong-result e f in absurd (omega arith)
+  sound-by true true e f = subst Sound (sym (whole e f)) (written e)
+
+  -- and a call on a sound one does not answer 3
+  accepted : soundImage image ≡ true → (fit : Bool) → eqb (length (h .result)) resultLength ≡ fit → left image h .number ≡ 3 → ⊥
+  accepted e false f three = let four = wrong-result e f in omega arith
+  accepted e true f three =
+      other-number (soundOf (stateOf image)) _ _ _ (takingRows (stateOf image) (h .lent)) refl (both (imageFits image) (soundOf (stateOf image)) e .1)
+      (sym (first-demand .takes (stateOf image) (h .lent) .number) ∙ ap (λ (r : TakeResult). r .number) (sym (whole e f)) ∙ three)
+
+-- The widths of what is written.
+unsound-words : (cs : List Call) (d : Decoder) → soundOf d ≡ false → allWords d cs ≡ []
+unfolding allWords
+unsound-words [] d e = refl
+unsound-words (c ∷ cs) d e =
+    ap (λ (l : CallResult). take (listUnit * l .taken .report .records) (drop (c .free) (l .list)) ++ allWords (l .taken .decoder) cs) (unsound d c e)
+    ∙ unsound-words cs d e
+
+calls-fit : (d : Decoder) → Widths d → (cs : List Call) (sound : Bool) → soundOf d ≡ sound → WordsFit (allWords d cs)
+calls-fit d w cs true e = second-demand .fits d cs (true-holds (soundOf d) e) (model-widths d w)
+calls-fit d w cs false e = rw (unsound-words cs d e) tt
+
+fits-by : (image : List ℕ) (hs : List HostCall) (fit : Bool) → imageFits image ≡ fit → WordsFit (imageWords image hs)
+fits-by image hs true e =
+    let d = stateOf image in
+    let w = read-widths image in
+    subst (λ i. WordsFit (imageWords i hs)) (read-again image e) (rw (same-words hs d w) (calls-fit d w (stateCalls hs) (soundOf d) refl))
+fits-by image hs false e = rw (no-words image e hs) tt
+
+-- The damage statement.
+state-damage : (d : Decoder) → Widths d → (clean damaged : List HostCall) (items : List Item) (trailing k : ℕ)
+    → Runs d (imageBits (imageOf d) clean) (imageBits (imageOf d) damaged) items trailing k
+    → Wrote d (imageWords (imageOf d) clean) (imageWords (imageOf d) damaged) items k
+state-damage d w clean damaged items trailing k r =
+    let wrote =
+    third-demand d (stateCalls clean) (stateCalls damaged) items trailing k
+    (record {
+      stream = r .stream;
+      took-clean = sym (same-bits clean d w) ∙ r .took-clean;
+      took-damaged = sym (same-bits damaged d w) ∙ r .took-damaged;
+    }) in
+    record {
+      clean-words = same-words clean d w ∙ wrote .clean-words;
+      damaged-words = same-words damaged d w ∙ wrote .damaged-words;
+      replaced = wrote .replaced;
+    }
+
+module _ (image : List ℕ) (clean damaged : List HostCall) (items : List Item) (trailing k : ℕ) where
+  abbrev Damage : List ℕ → Type 0
+  Damage i =
+      Runs (stateOf image) (imageBits i clean) (imageBits i damaged) items trailing k
+      → Wrote (stateOf image) (imageWords i clean) (imageWords i damaged) items k
+
+  damage-by : (fit : Bool) → imageFits image ≡ fit → Damage image
+  damage-by true e = subst Damage (read-again image e) (state-damage (stateOf image) (read-widths image) clean damaged items trailing k)
+  damage-by false e = λ r.
+      let none : 0 ≡ length (streamBits items trailing) = ap length (sym (no-bits image e clean) ∙ r .took-clean) in
+      absurd (omega (arith, none, r .stream .inside))
+
+-- Each taking call as a call on an image.
+abbrev hostCalls : List Call → List HostCall
+hostCalls [] = []
+hostCalls (c ∷ cs) = record { result = replicate resultLength 0; lent = c } ∷ hostCalls cs
+
+same-calls : (cs : List Call) → stateCalls (hostCalls cs) ≡ cs
+same-calls [] = refl
+same-calls (c ∷ cs) = ap (λ cs. c ∷ cs) (same-calls cs)
+
+module _ (image : List ℕ) (fits : imageFits image ≡ true) where
+  takes : (cs : List Call) → imageBits image (hostCalls cs) ≡ allBits (stateOf image) cs
+  takes cs =
+      ap (λ i. imageBits i (hostCalls cs)) (sym (read-again image fits)) ∙ same-bits (hostCalls cs) (stateOf image) (read-widths image)
+      ∙ ap (allBits (stateOf image)) (same-calls cs)
+
+  met : (items : List Item) (trailing k : ℕ) → Stream (stateOf image) items trailing k
+      → stateOf image .next + length (streamBits items trailing) ≤ clockLimit → HostMet image items trailing k
+  met items trailing k s room =
+      let m = third-demand-met (stateOf image) items trailing k s room in
+      record {
+        clean = hostCalls (m .clean);
+        damaged = hostCalls (m .damaged);
+        runs = record {
+          stream = s;
+          took-clean = takes (m .clean) ∙ m .runs .took-clean;
+          took-damaged = takes (m .damaged) ∙ m .runs .took-damaged;
+        };
+      }
+
+pub host-demands : HostDemands
+host-demands = record {
+  exact = λ k ps. exact-by k ps (imageFits (k .image)) refl;
+  cuts = λ k. cuts-by k (imageFits (k .image)) refl;
+  frames = λ k ps command address before field. frames-by ps command address before field k (imageFits (k .image)) refl;
+  sound = λ image h after zero.
+      let sound = sound-by image h (soundImage image) (eqb (length (h .result)) resultLength) refl refl zero in
+      accepted (left image h .image) after sound (eqb (length (after .result)) resultLength) refl;
+  fits = λ image hs. fits-by image hs (imageFits image) refl;
+  damage = λ image clean damaged items trailing k. damage-by image clean damaged items trailing k (imageFits image) refl;
+  met = λ image items trailing k fits. met image fits items trailing k;
+}
