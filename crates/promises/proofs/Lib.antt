@@ -1,6 +1,7 @@
 pub mod Refusals
 pub mod Frames
 pub mod RunGoesOn
+pub mod RecordLines
 pub mod Records
 pub mod Damage
 pub mod Hosts

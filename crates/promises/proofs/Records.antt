@@ -16,6 +16,7 @@ use Rattle.taking.proofs.SoundnessKept.{start-sound, take-sound}
 use Rattle.taking.proofs.RecordsFit.{words-fit}
 use Rattle.promises.proofs.Frames.{frames, empty-frame}
 use Rattle.promises.proofs.RunGoesOn.{run-goes-on}
+use Rattle.promises.proofs.RecordLines.{lines-tell}
 use Rattle.promises.specs.Records.{Exact, Ends, Cuts, SecondDemand}
 
 exact : (d : Decoder) (c : Call) → Exact d c
@@ -58,4 +59,5 @@ second-demand = record {
   opens-sound = start-sound;
   stays-sound = take-sound;
   fits = λ d cs. words-fit cs d;
+  lines-tell = lines-tell;
 }

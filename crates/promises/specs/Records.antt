@@ -3,7 +3,7 @@
 -- endings and soundness.
 -- Assumes nothing.
 use mathlib.Core.Path.{_≡_}
-use mathlib.Core.List.{List}
+use mathlib.Core.List.{List, [], _∷_}
 use Prim.Native.Nat.{ℕ, _+_, _*_, _-_, _<_, _≤_}
 use lib.Dec.{T}
 use lib.ListN.{length, take}
@@ -18,6 +18,7 @@ use Rattle.taking.specs.Run.{NoFrames, LastIsFrame, stateAfter, wordsAfter}
 use Rattle.taking.specs.Turn.{System, turnOf}
 use Rattle.taking.specs.Take.{Call, offered, lent, takenOf, takeOf}
 use Rattle.taking.specs.Calls.{bitsTaken, wordsStanding, allWords, systemAfter, Part, carriedBits, carriedWords, carriedSystem}
+use Rattle.layout.specs.ListingLines.{recordLine}
 use Rattle.promises.specs.Frames.{Frames, EmptyFrame}
 
 -- A call, refused or not, leaves and writes what the bits that it took say, cycle by cycle: none missing and none added.
@@ -53,6 +54,12 @@ Cuts s =
     (ps qs : List Part) → carriedBits s ps ≡ carriedBits s qs
     → (carriedWords s ps ≡ carriedWords s qs) × (carriedSystem s ps ≡ carriedSystem s qs)
 
+-- Such a record's line loses nothing: equal lines, "time (12 digits), kind (2), flags (2), value (8)", come from equal words.
+abbrev pub LinesTell : Type 0
+LinesTell =
+    (head value head′ value′ : ℕ) → WordsFit (head ∷ value ∷ []) → WordsFit (head′ ∷ value′ ∷ [])
+    → recordLine head value ≡ recordLine head′ value′ → (head ≡ head′) × (value ≡ value′)
+
 pub record SecondDemand : Type 0 where
   pub exact : (d : Decoder) (c : Call) → Exact d c
   pub ends : (d : Decoder) (c : Call) → Ends d c
@@ -63,6 +70,7 @@ pub record SecondDemand : Type 0 where
   -- Opening gives a sound state, and a sound state stays sound.
   pub opens-sound : (plan : Plan) (cycle : ℕ) → T (soundOf (openOf plan cycle .decoder))
   pub stays-sound : (d : Decoder) (c : Call) → T (soundOf d) → T (soundOf (takeOf d c .taken .decoder))
-  -- Each record that a list of calls writes from a sound state has its time below 2^48 and "a value below 2^32", so that a printed line loses nothing.
-  -- Registers and L1ID fit their widths by the types of a program.
+  -- Each record that a list of calls writes from a sound state has its time below 2^48 and "a value below 2^32". Registers and L1ID fit their widths by the
+  -- types of a program.
   pub fits : (d : Decoder) (cs : List Call) → T (soundOf d) → ModelFits (d .model) → WordsFit (allWords d cs)
+  pub lines-tell : LinesTell
