@@ -1,5 +1,6 @@
 pub mod Refusals
 pub mod Frames
+pub mod ListParts
 pub mod RunGoesOn
 pub mod RecordLines
 pub mod Records

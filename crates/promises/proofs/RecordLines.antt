@@ -1,32 +1,19 @@
 -- Of words that fit, a record's line loses nothing: equal lines come from equal words.
 -- Assumes nothing.
-use mathlib.Core.Path.{_≡_, _∙_, refl, sym, ap, ap₂}
+use mathlib.Core.Path.{_≡_, _∙_, refl, sym, ap}
 use mathlib.Core.Bool.{Bool, true, false}
-use mathlib.Core.List.{List, [], _∷_, _++_}
+use mathlib.Core.List.{List, _∷_, _++_}
 use Prim.Native.Nat.{ℕ, zero, suc, _+_, _*_, _/_, _%_, _^_, _<_}
 use native.Mathlib.Nat.{pow-suc}
 use native.Mathlib.Omega.{arith}
 use lib.Dec.{ltb}
-use lib.ListN.{length, getD, drop}
+use lib.ListN.{getD, drop}
 use borrow.Author.Tests.{ltb-true, ltb-false}
 use Rattle.layout.specs.Digits.{characterOf, charactersOf}
 use Rattle.layout.specs.ListingLines.{numbersLine}
 use Rattle.layout.proofs.Digits.{digits-length, lowest-digit}
 use Rattle.promises.specs.Records.{LinesTell}
-
--- Equal lists whose first parts are as long have equal parts.
-record SameParts (xs ys us vs : List ℕ) : Type 0 where
-  first : xs ≡ ys
-  rest : us ≡ vs
-
-same-parts : (xs ys us vs : List ℕ) → length xs ≡ length ys → xs ++ us ≡ ys ++ vs → SameParts xs ys us vs
-same-parts [] [] us vs n e = record { first = refl; rest = e }
-same-parts [] (y ∷ ys) us vs n e = absurd (omega arith)
-same-parts (x ∷ xs) [] us vs n e = absurd (omega arith)
-same-parts (x ∷ xs) (y ∷ ys) us vs n e =
-    let head : x ≡ y = ap (λ (l : List ℕ). getD l 0 0) e in
-    let p = same-parts xs ys us vs (omega arith) (ap (λ (l : List ℕ). drop 1 l) e) in
-    record { first = ap₂ _∷_ head (p .first); rest = p .rest }
+use Rattle.promises.proofs.ListParts.{same-parts}
 
 -- Different digits have different characters.
 character-tells : (a b : ℕ) (low low′ : Bool) → ltb a 10 ≡ low → ltb b 10 ≡ low′ → a < 16 → b < 16 → characterOf a ≡ characterOf b → a ≡ b

@@ -4,7 +4,7 @@
 -- Assumes nothing.
 use mathlib.Core.Path.{_≡_}
 use mathlib.Core.List.{List, [], _∷_}
-use Prim.Native.Nat.{ℕ, _+_, _*_, _-_, _<_, _≤_}
+use Prim.Native.Nat.{ℕ, suc, _+_, _*_, _-_, _<_, _≤_}
 use lib.Dec.{T}
 use lib.ListN.{length, take}
 use Rattle.registers.specs.declared.Plan.{Plan}
@@ -36,14 +36,21 @@ pub record GoesOn (words : List ℕ) (room : ℕ) : Type 0 where
   pub no-frame : NoFrames words
   pub two-free : length words + listUnit ≤ room
 
+-- 'frame' "after a record of kind 24, 25 or 26, where it stops at once": the call's last record is a frame's, and no earlier one is; all of these had been
+-- written ahead of the last bit taken, which therefore wrote the frame's.
+pub record StopsAtFrame (d : Decoder) (c : Call) (bits : ℕ) : Type 0 where
+  pub last-record : LastIsFrame (writtenBy d c bits)
+  pub ahead : ℕ
+  pub last-bit : bits ≡ suc ahead
+  pub by-last-bit : last-record .before ≡ writtenBy d c ahead
+
 -- Each ending of a call that is not refused has its condition: "'done' .. with every bit of its count taken", 'list full' "when bits remain and fewer than
--- two words are free", 'frame' "after a record of kind 24, 25 or 26": its last record is a frame's, and none is where the call ends otherwise. Ahead of
--- each bit taken the call could go on; so the record that ends it with 'frame' was written by the last bit taken.
+-- two words are free", and 'frame' as above; no record is a frame's where the call ends otherwise. Ahead of each bit taken the call could go on.
 pub record Ends (d : Decoder) (c : Call) : Type 0 where
   pub done : takenOf d c .taken .report .ending ≡ Done → takenOf d c .taken .report .bits ≡ c .count
   pub full : takenOf d c .taken .report .ending ≡ ListFull
       → (takenOf d c .taken .report .bits < c .count) × (length (c .list) - c .free - listUnit * takenOf d c .taken .report .records < listUnit)
-  pub frame : takenOf d c .taken .report .ending ≡ Frame → LastIsFrame (writtenBy d c (takenOf d c .taken .report .bits))
+  pub frame : takenOf d c .taken .report .ending ≡ Frame → StopsAtFrame d c (takenOf d c .taken .report .bits)
   pub no-frame : (takenOf d c .taken .report .ending ≡ Frame → ⊥) → NoFrames (writtenBy d c (takenOf d c .taken .report .bits))
   pub at-once : (n : ℕ) → n < takenOf d c .taken .report .bits → GoesOn (writtenBy d c n) (length (c .list) - c .free)
 
