@@ -27,7 +27,7 @@ use Rattle.controller.proofs.EffectKeeps.{model-fits}
 use Rattle.taking.specs.Run.{stateAfter, wordsAfter}
 use Rattle.taking.specs.Turn.{System, decoderOf, cntAt, transitionOf, turnOf}
 use Rattle.taking.specs.Take.{CallResult, offered}
-use Rattle.taking.specs.Calls.{Part, callOf, resultOf, systemAfter, bitsTaken, carriedBits, carriedWords, carriedSystem}
+use Rattle.taking.specs.Calls.{Part, callOf, resultOf, systemAfter, carriedBits, carriedWords, carriedSystem}
 use Rattle.taking.proofs.RunFaithful.{state-append, words-append}
 use Rattle.taking.proofs.Refusals.{unsound, wrong-buffers}
 use Rattle.taking.proofs.Refusals as refusals

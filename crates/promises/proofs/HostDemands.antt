@@ -1,14 +1,14 @@
 -- The demands for lists of the library's calls, proved: of a state's image, and of any words.
 -- Assumes nothing.
 use mathlib.Core.Path.{_≡_, _∙_, refl, sym, ap, ap₂, subst}
-use mathlib.Core.Bool.{Bool, true, false, cond, not}
+use mathlib.Core.Bool.{Bool, true, false, not}
 use mathlib.Core.List.{List, [], _∷_, _++_}
 use Prim.Native.Nat.{ℕ, _+_, _*_, _≤_}
 use native.Mathlib.Omega.{arith}
 use lib.Dec.{eqb}
 use lib.ListN.{length, length-append, replicate, take, drop}
 use borrow.Author.Tests.{eq-eqb}
-use Rattle.bits.proofs.Truth.{clash, both, holds-true, true-holds}
+use Rattle.bits.proofs.Truth.{both, holds-true, true-holds}
 use Rattle.limits.specs.Limits.{clockLimit, listUnit}
 use Rattle.controller.specs.Widths.{WordsFit}
 use Rattle.decoder.specs.declared.Decoder.{Decoder}

@@ -1,9 +1,10 @@
 -- The second demand, proved.
 -- Assumes nothing.
 use mathlib.Core.Path.{_≡_, _∙_, sym, ap, subst}
-use Prim.Native.Nat.{_+_, _-_}
+use mathlib.Core.List.{List, [], _∷_, _++_}
+use Prim.Native.Nat.{ℕ, _+_, _-_}
 use native.Mathlib.Omega.{arith}
-use lib.ListN.{length}
+use lib.ListN.{length, length-append}
 use Rattle.decoder.specs.declared.Decoder.{Decoder}
 use Rattle.taking.specs.Run.{Run, NoFrames, runOf, stateAfter, wordsAfter}
 use Rattle.taking.specs.Turn.{System, turnOf}
@@ -15,8 +16,16 @@ use Rattle.taking.proofs.LoopInvariant.{length-bits}
 use Rattle.taking.proofs.SoundnessKept.{start-sound, take-sound}
 use Rattle.taking.proofs.RecordsFit.{words-fit}
 use Rattle.promises.proofs.Frames.{frames, empty-frame}
-use Rattle.promises.proofs.RunGoesOn.{run-goes-on}
+use Rattle.promises.proofs.ListParts.{same-parts}
+use Rattle.promises.proofs.RunGoesOn.{run-goes-on, run-last-bit}
+use Rattle.promises.proofs.RecordLines.{lines-tell}
 use Rattle.promises.specs.Records.{Exact, Ends, Cuts, SecondDemand}
+
+-- the first parts of two lists that each have two words behind
+two-behind : (xs ys : List ℕ) (a b a′ b′ : ℕ) → xs ++ (a ∷ b ∷ []) ≡ ys ++ (a′ ∷ b′ ∷ []) → xs ≡ ys
+two-behind xs ys a b a′ b′ e =
+    let n : length xs + 2 ≡ length ys + 2 = sym (length-append xs (a ∷ b ∷ [])) ∙ ap length e ∙ length-append ys (a′ ∷ b′ ∷ []) in
+    same-parts xs ys (a ∷ b ∷ []) (a′ ∷ b′ ∷ []) (omega arith) e .first
 
 exact : (d : Decoder) (c : Call) → Exact d c
 exact d c = let k = call-kept d c in record { state = k .system; words = k .words }
@@ -37,7 +46,14 @@ module _ (d : Decoder) (c : Call) where
         full = λ h. let g = e .full h in let w = f .whole in (omega arith, omega arith);
         frame = λ h.
             let g = e .framed h in
-            record { before = g .before; head = g .head; value = g .value; parts = rw z (sym (f .words) ∙ g .parts); frame = g .frame; earlier = g .earlier };
+            let l = run-last-bit turnOf (offered c) (lent d c) (length (c .list) - c .free) h in
+            let parts = sym (f .words) ∙ g .parts in
+            record {
+              last-record = record { before = g .before; head = g .head; value = g .value; parts = rw z parts; frame = g .frame; earlier = g .earlier };
+              ahead = l .ahead;
+              last-bit = z ∙ l .last;
+              by-last-bit = two-behind (g .before) _ _ _ _ _ (sym parts ∙ l .parts);
+            };
         no-frame = λ h. rw z (subst NoFrames (f .words) (e .unframed h));
         at-once = λ n h. run-goes-on turnOf (offered c) (lent d c) (length (c .list) - c .free) n (rw (← z) h);
       }
@@ -58,4 +74,5 @@ second-demand = record {
   opens-sound = start-sound;
   stays-sound = take-sound;
   fits = λ d cs. words-fit cs d;
+  lines-tell = lines-tell;
 }
