@@ -1,4 +1,4 @@
--- What each command changes, and that it changes nothing else of the controller: over a state with no number at 0 (document 01, "What commands do").
+-- What each command changes, and that it changes nothing else of the controller, whose numbers are not 0 ahead (document 01, "What commands do").
 -- Assumes nothing.
 use mathlib.Core.List.{List, [], _∷_, _++_}
 use Prim.Native.Nat.{ℕ}
@@ -11,7 +11,8 @@ use Rattle.worked_examples.specs.Example.{Row, row, done, frame}
 abbrev controller : List ℕ → List ℕ → List ℕ → List ℕ → List ℕ → List Cell
 controller counters warnings registers writes reads = wordsFrom 14 (counters ++ (warnings ++ (registers ++ (writes ++ reads))))
 
--- CSR lets triggers be sent, FEEN is FIFOs 1 and 15, CNT is 8 control bits, or one byte for the receivers.
+-- The registers of the default plan: CSR lets triggers be sent, FEEN is FIFOs 1 and 15, CNT is 8 control bits, or 8 bits of a WrReceiver. Those that are
+-- missing hold 0.
 abbrev regs : List ℕ
 regs = 0x8081 ∷ 0x1111 ∷ 0x8002 ∷ 0x3333 ∷ 0x4444 ∷ 0x0001 ∷ 0x6666 ∷ replicate 9 0
 
