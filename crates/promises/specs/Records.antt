@@ -36,8 +36,8 @@ pub record GoesOn (words : List ℕ) (room : ℕ) : Type 0 where
   pub no-frame : NoFrames words
   pub two-free : length words + listUnit ≤ room
 
--- 'frame' "after a record of kind 24, 25 or 26, where it stops at once": the call's last record is a frame's, and no earlier one is; all of these had been
--- written ahead of the last bit taken, which therefore wrote the frame's.
+-- 'frame' "after a record of kind 24, 25 or 26, where it stops at once": the call's last record is a frame's, and no earlier one is. The earlier ones, and
+-- no others, had been written ahead of the last bit taken: this bit wrote the frame's.
 pub record StopsAtFrame (d : Decoder) (c : Call) (bits : ℕ) : Type 0 where
   pub last-record : LastIsFrame (writtenBy d c bits)
   pub ahead : ℕ
@@ -61,7 +61,7 @@ Cuts s =
     (ps qs : List Part) → carriedBits s ps ≡ carriedBits s qs
     → (carriedWords s ps ≡ carriedWords s qs) × (carriedSystem s ps ≡ carriedSystem s qs)
 
--- Such a record's line loses nothing: equal lines, "time (12 digits), kind (2), flags (2), value (8)", come from equal words.
+-- Of words that fit, a record's line loses nothing: equal lines, "time (12 digits), kind (2), flags (2), value (8)", come from equal words.
 abbrev pub LinesTell : Type 0
 LinesTell =
     (head value head′ value′ : ℕ) → WordsFit (head ∷ value ∷ []) → WordsFit (head′ ∷ value′ ∷ [])
@@ -71,7 +71,7 @@ pub record SecondDemand : Type 0 where
   pub exact : (d : Decoder) (c : Call) → Exact d c
   pub ends : (d : Decoder) (c : Call) → Ends d c
   pub cuts : (s : System) → Cuts s
-  -- After 'frame' the second call hands back the frame's bits, wherever the frame was cut into calls.
+  -- After 'frame' the second call hands back the frame's bits, wherever the stream was cut into calls.
   pub frames : Frames
   pub empty-frame : EmptyFrame
   -- Opening gives a sound state, and a sound state stays sound.
