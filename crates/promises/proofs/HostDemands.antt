@@ -30,7 +30,7 @@ use Rattle.promises.specs.Refusals.{Row, row, firstOf, takingRows}
 use Rattle.promises.specs.Frames.{Receives, HandsBack}
 use Rattle.promises.specs.Damage.{Stream, Runs, Wrote}
 use Rattle.promises.specs.HostCalls.{HostCall, left, imageBits, imageWords, Carried, HostPart, hostBits, hostWords, hostLeft, standsFor}
-use Rattle.promises.specs.HostCalls.{HostExact, HostCuts, HostMet, HostDemands}
+use Rattle.promises.specs.HostCalls.{HostExact, HostEnds, HostCuts, HostMet, HostDemands}
 use Rattle.promises.proofs.Refusals.{first-demand}
 use Rattle.promises.proofs.Records.{second-demand}
 use Rattle.promises.proofs.Damage.{third-demand, third-demand-met}
@@ -229,9 +229,23 @@ module _ (image : List ℕ) (fits : imageFits image ≡ true) where
         };
       }
 
+-- the ending, by the tests of the call on an image
+ends-by : (image : List ℕ) (h : HostCall) (s t : Bool) → soundImage image ≡ s → eqb (length (h .result)) resultLength ≡ t
+    → left image h .number ≡ 0 → HostEnds image h
+unfolding takeResultOf
+ends-by image h false t e f zero = let z : _≡_ {A = ℕ} 3 0 = rw e at zero in absurd (omega arith)
+ends-by image h true false e f zero = let z : _≡_ {A = ℕ} 4 0 = rw (e, f) at zero in absurd (omega arith)
+ends-by image h true true e f zero =
+    let d = stateOf image in
+    let takes = first-demand .takes d (h .lent) in
+    let none : endingNumber (takeOf d (h .lent) .taken .report .ending) ≡ 0 = rw (e, f) at zero in
+    let through = takes .through (sym (takes .number) ∙ none) in
+    record { result = rw (e, f, none, through); ends = second-demand .ends d (h .lent) }
+
 pub host-demands : HostDemands
 host-demands = record {
   exact = λ k ps. exact-by k ps (imageFits (k .image)) refl;
+  ends = λ image h. ends-by image h (soundImage image) (eqb (length (h .result)) resultLength) refl refl;
   cuts = λ k. cuts-by k (imageFits (k .image)) refl;
   frames = λ k ps command address before field. frames-by ps command address before field k (imageFits (k .image)) refl;
   sound = λ image h after zero.

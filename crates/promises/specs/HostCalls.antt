@@ -10,11 +10,12 @@ use Rattle.limits.specs.Limits.{clockLimit, listUnit}
 use Rattle.controller.specs.Widths.{WordsFit}
 use Rattle.taking.specs.Run.{stateAfter, wordsAfter}
 use Rattle.taking.specs.Turn.{System, systemOf, turnOf}
-use Rattle.taking.specs.Take.{Call, call, offered}
+use Rattle.taking.specs.Take.{Call, call, offered, takenOf}
 use Rattle.taking.specs.Calls.{Part}
 use Rattle.image.specs.Image.{stateOf, imageFits}
-use Rattle.kernelstill.specs.Take.{TakeResult, takeResultOf}
+use Rattle.kernelstill.specs.Take.{TakeResult, resultWords, takeResultOf}
 use Rattle.damage.specs.CleanStreams.{Item, streamBits}
+use Rattle.promises.specs.Records.{Ends}
 use Rattle.promises.specs.Frames.{Receives, HandsBack}
 use Rattle.promises.specs.Damage.{Stream, Runs, Wrote}
 
@@ -94,6 +95,11 @@ abbrev pub HostCuts : Carried → Type 0
 HostCuts k =
     (ps qs : List HostPart) → hostBits k ps ≡ hostBits k qs → (hostWords k ps ≡ hostWords k qs) × (hostLeft k ps ≡ hostLeft k qs)
 
+-- A call that answers 0 tells the bits, the records and the ending of the taking call on its state, each ending at its condition.
+pub record HostEnds (image : List ℕ) (h : HostCall) : Type 0 where
+  pub result : left image h .result ≡ resultWords (takenOf (stateOf image) (h .lent) .taken .report)
+  pub ends : Ends (stateOf image) (h .lent)
+
 -- The part of the tray handed back holds a frame's bits.
 abbrev pub HostFrames : Type 0
 HostFrames =
@@ -124,6 +130,7 @@ HostDamageMet =
 
 pub record HostDemands : Type 0 where
   pub exact : (k : Carried) (ps : List HostPart) → HostExact k ps
+  pub ends : (image : List ℕ) (h : HostCall) → left image h .number ≡ 0 → HostEnds image h
   pub cuts : (k : Carried) → HostCuts k
   pub frames : HostFrames
   pub sound : HostSound
