@@ -36,12 +36,15 @@ module _ (s : LineSoFar) (c : ℕ) where
   wrong-character w length place first l p f = rw (f, p, l, first-wrong (s .notes) c (eqb (s .notes .place) 0) refl w, w)
 
   module _ (d : isDigit c ≡ true) (length : ℕ) (l : length ≡ oneLonger (s .notes)) where
-    digit-note : notes length (s .notes .place) (s .notes .character) ≡ withNote (s .notes) c
+    abbrev longer : LineNotes
+    longer = notes length (s .notes .place) (s .notes .character)
+
+    digit-note : longer ≡ withNote (s .notes) c
     unfolding withNote
     digit-note = simp (d, l)
 
     pub too-many : digitLimit ≤ s .digits
-        → record { wrong = s .wrong; digits = digitLimit + 1; bytes = s .bytes; notes = notes length (s .notes .place) (s .notes .character) } ≡ withCharacter s c
+        → record { wrong = s .wrong; digits = digitLimit + 1; bytes = s .bytes; notes = longer } ≡ withCharacter s c
     unfolding withCharacter
     too-many h = rw (digit-note) (simp (d, le-ltb (s .digits) digitLimit h))
 
@@ -50,7 +53,7 @@ module _ (s : LineSoFar) (c : ℕ) where
           wrong = s .wrong;
           digits = s .digits + 1;
           bytes = set (s .bytes) at (getD (s .bytes) at 0 % 16 * 16 + digitOf c);
-          notes = notes length (s .notes .place) (s .notes .character);
+          notes = longer;
         } ≡ withCharacter s c
     unfolding withCharacter
     one-more h = rw (digit-note) (simp (d, lt-ltb (s .digits) digitLimit h))
