@@ -1,5 +1,1 @@
 pub mod Taking
-pub mod Openings
-pub mod Hosts
-pub mod Texts
-pub mod Edges

@@ -21,12 +21,6 @@ taking-examples =
       marked = record { counted = refl; given = refl };
       chip-gives = record { counted = refl; given = refl };
       commands-give = record { counted = refl; given = refl };
-      registers-give = record { counted = refl; given = refl };
-      fifos-give = record { counted = refl; given = refl };
-      counters-give = record { counted = refl; given = refl };
-      frames-give = record { counted = refl; given = refl };
-      effects-give = record { counted = refl; given = refl };
       sound-gives = record { counted = refl; given = refl };
       calls-give = record { counted = refl; given = refl };
-      parts-give = record { parts = refl; front-end = refl; front-end-read = refl; receiver = refl };
     }

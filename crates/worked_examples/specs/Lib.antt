@@ -5,15 +5,6 @@ pub mod Example
 pub mod StreamTable
 pub mod ChipTable
 pub mod CommandTable
-pub mod RegisterTable
-pub mod FifoTable
-pub mod CounterTable
-pub mod FrameTable
-pub mod EffectTable
 pub mod SoundTable
 pub mod CallTable
-pub mod OpeningTable
-pub mod HostTable
-pub mod TextTable
 pub mod WorkedExamples
-pub mod Edges

@@ -18,8 +18,8 @@ use Rattle.image.specs.Image.{imageOf, stateOf, imageFits}
 use Rattle.kernelstill.specs.Open.{openResultOf}
 use Rattle.kernelstill.specs.Take.{takeResultOf}
 use Rattle.kernelstill.specs.Lines.{recordResultOf}
-use Rattle.worked_examples.specs.HostTable.{HostImage, HostBuffers}
-use Rattle.worked_examples.specs.WorkedExamples.{HostExamples}
+use Rattle.host_examples.specs.HostTable.{HostImage, HostBuffers}
+use Rattle.host_examples.specs.HostExamples.{HostExamples}
 
 host-image : HostImage
 unfolding imageOf stateOf

@@ -5,7 +5,7 @@ use Rattle.registers.specs.Plan.{planFits}
 use Rattle.decoder.specs.Opening.{openOf}
 use Rattle.image.specs.Image.{imageOf}
 use Rattle.kernelstill.specs.Open.{openResultOf}
-use Rattle.worked_examples.specs.WorkedExamples.{OpeningExamples}
+use Rattle.host_examples.specs.HostExamples.{OpeningExamples}
 
 pub opening-examples : OpeningExamples
 unfolding planFits openOf imageOf openResultOf

@@ -2,7 +2,7 @@
 -- Assumes nothing.
 use mathlib.Core.Path.{refl}
 use Rattle.recogniser.specs.Step.{stepOf}
-use Rattle.worked_examples.specs.Edges.{LongestFrame}
+use Rattle.longest_frame.specs.LongestFrame.{LongestFrame}
 
 pub longest-frame : LongestFrame
 unfolding stepOf

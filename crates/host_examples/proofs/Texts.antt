@@ -7,7 +7,7 @@ use Rattle.layout.specs.ListingLines.{numbersLine, byteDigits}
 use Rattle.image.specs.Image.{stateOf}
 use Rattle.listing.specs.Records.{recordText, recordsText}
 use Rattle.listing.specs.State.{textsFrom, stateText}
-use Rattle.worked_examples.specs.WorkedExamples.{TextExamples}
+use Rattle.host_examples.specs.HostExamples.{TextExamples}
 
 pub text-examples : TextExamples
 unfolding lineMeaning charactersOf numbersLine byteDigits stateOf recordText recordsText textsFrom stateText

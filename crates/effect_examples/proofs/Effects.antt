@@ -1,0 +1,27 @@
+-- The tables of what commands do, computed.
+-- Assumes nothing.
+use mathlib.Core.Path.{refl}
+use Rattle.recogniser.specs.Step.{stepOf}
+use Rattle.frames.specs.Tray.{trayOf}
+use Rattle.registers.specs.Plan.{planFits}
+use Rattle.registers.specs.Sound.{everyFrom, pointersFit, missingZero}
+use Rattle.registers.specs.Fifos.{writeOf}
+use Rattle.controller.specs.Commands.{actOf}
+use Rattle.decoder.specs.Fit.{fitOf}
+use Rattle.decoder.specs.Sound.{soundOf}
+use Rattle.taking.specs.Turn.{turnOf}
+use Rattle.taking.specs.Take.{takenOf, takeOf}
+use Rattle.image.specs.Image.{imageOf, stateOf}
+use Rattle.effect_examples.specs.EffectExamples.{EffectExamples}
+
+pub effect-examples : EffectExamples
+unfolding stepOf fitOf trayOf planFits everyFrom pointersFit missingZero writeOf actOf soundOf turnOf takenOf takeOf imageOf stateOf
+effect-examples =
+    record {
+      registers-give = record { counted = refl; given = refl };
+      fifos-give = record { counted = refl; given = refl };
+      counters-give = record { counted = refl; given = refl };
+      frames-give = record { counted = refl; given = refl };
+      effects-give = record { counted = refl; given = refl };
+      parts-give = record { parts = refl; front-end = refl; front-end-read = refl; receiver = refl };
+    }

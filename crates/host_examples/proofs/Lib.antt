@@ -1,0 +1,3 @@
+pub mod Openings
+pub mod Hosts
+pub mod Texts

@@ -1,0 +1,4 @@
+pub mod OpeningTable
+pub mod HostTable
+pub mod TextTable
+pub mod HostExamples
