@@ -18,11 +18,11 @@ use Rattle.registers.specs.Registers.{cntOf}
 use Rattle.decoder.specs.declared.Decoder.{Decoder}
 use Rattle.controller.specs.declared.Record.{Record}
 use Rattle.controller.specs.Records.{headOf, recordWords, wordsOf}
-use Rattle.taking.specs.Run.{stateAfter, wordsAfter}
-use Rattle.taking.specs.Turn.{System, decoderOf, turnOf}
-use Rattle.taking.specs.Take.{Call, takeOf, lent}
-use Rattle.taking.specs.Calls.{bitsTaken, wordsStanding, allBits, allWords}
-use Rattle.taking.proofs.CallLists.{call-kept}
+use Rattle.calls.specs.Run.{stateAfter, wordsAfter}
+use Rattle.calls.specs.Turn.{System, decoderOf, turnOf}
+use Rattle.calls.specs.Take.{Call, takeOf, lent}
+use Rattle.calls.specs.Calls.{bitsTaken, wordsStanding, allBits, allWords}
+use Rattle.calls.proofs.CallLists.{call-kept}
 use Rattle.damage.specs.Commands.{Command, widthOf}
 use Rattle.damage.specs.CleanStreams.{Item, itemSize, streamBits, timed, inverted}
 use Rattle.damage.specs.Table.{Replacement, replacementOf}

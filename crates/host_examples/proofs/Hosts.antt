@@ -9,8 +9,8 @@ use Rattle.controller.specs.Commands.{actOf}
 use Rattle.decoder.specs.Fit.{fitOf}
 use Rattle.decoder.specs.Opening.{openOf}
 use Rattle.decoder.specs.Sound.{soundOf}
-use Rattle.taking.specs.Turn.{turnOf}
-use Rattle.taking.specs.Take.{takenOf, takeOf}
+use Rattle.calls.specs.Turn.{turnOf}
+use Rattle.calls.specs.Take.{takenOf, takeOf}
 use Rattle.hexlines.specs.Line.{lineMeaning, readOf, readInto}
 use Rattle.layout.specs.Digits.{charactersOf}
 use Rattle.layout.specs.ListingLines.{numbersLine}

@@ -8,7 +8,7 @@ use lib.ListN.{set, replicate}
 use Rattle.recogniser.specs.declared.Phase.{Phase}
 use Rattle.recogniser.specs.declared.Phase.the-variants.{Hunt, Body, Field3, Field4, Field5}
 use Rattle.decoder.specs.declared.Decoder.{Decoder}
-use Rattle.taking.specs.Take.{call}
+use Rattle.calls.specs.Take.{call}
 use Rattle.image.specs.Fields.{phaseNumber}
 use Rattle.image.specs.Image.{imageOf, stateOf}
 use Rattle.output.specs.Ascii.{ascii}

@@ -10,8 +10,8 @@ use borrow.Author.Tests.{eq-eqb, ne-eqb}
 use Rattle.bits.proofs.Truth.{both, holds-true}
 use Rattle.decoder.specs.declared.Decoder.{Decoder}
 use Rattle.decoder.specs.Sound.{soundOf}
-use Rattle.taking.specs.Take.{Call, CallResult, takeOf, endingNumber}
-use Rattle.taking.proofs.SoundnessKept.{take-sound}
+use Rattle.calls.specs.Take.{Call, CallResult, takeOf, endingNumber}
+use Rattle.calls.proofs.SoundnessKept.{take-sound}
 use Rattle.image.specs.Image.{imageLength, imageOf, stateOf, imageFits}
 use Rattle.image.proofs.RoundTrip.{fits-length, written-fits}
 use Rattle.kernelstill.specs.Take.{TakeResult, takeResult, resultLength, resultWords, refusedCall, answered, soundImage, takeResultOf, Holds}

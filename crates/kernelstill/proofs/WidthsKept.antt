@@ -34,11 +34,11 @@ use Rattle.decoder.specs.declared.Decoder.{Decoder}
 use Rattle.controller.specs.Widths.{ModelFits}
 use Rattle.controller.proofs.EffectCases.{act-keeps, write-keeps}
 use Rattle.controller.proofs.EffectKeeps.{after, model-fits}
-use Rattle.taking.specs.Run.{stateAfter}
-use Rattle.taking.specs.Turn.{System, systemOf, decoderOf, cntAt, transitionOf, turnOf}
-use Rattle.taking.specs.Take.{Call, lent, takeOf}
-use Rattle.taking.specs.Calls.{bitsTaken}
-use Rattle.taking.proofs.CallLists.{call-kept}
+use Rattle.calls.specs.Run.{stateAfter}
+use Rattle.calls.specs.Turn.{System, systemOf, decoderOf, cntAt, transitionOf, turnOf}
+use Rattle.calls.specs.Take.{Call, lent, takeOf}
+use Rattle.calls.specs.Calls.{bitsTaken}
+use Rattle.calls.proofs.CallLists.{call-kept}
 use Rattle.image.specs.Fields as field
 use Rattle.image.specs.Image.{Widths, ArrayKeeps}
 

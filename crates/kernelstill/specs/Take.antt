@@ -8,10 +8,10 @@ use lib.Dec.{eqb}
 use lib.ListN.{length}
 use Rattle.decoder.specs.declared.Decoder.{Decoder}
 use Rattle.decoder.specs.Sound.{soundOf}
-use Rattle.taking.specs.declared.Ending.{Ending}
-use Rattle.taking.specs.declared.Ending.the-variants.{Done, Frame, ListFull, Unsound, WrongBuffers, WrongRange, ClockOver}
-use Rattle.taking.specs.declared.Report.{Report}
-use Rattle.taking.specs.Take.{Call, CallResult, takeOf, endingNumber}
+use Rattle.calls.specs.declared.Ending.{Ending}
+use Rattle.calls.specs.declared.Ending.the-variants.{Done, Frame, ListFull, Unsound, WrongBuffers, WrongRange, ClockOver}
+use Rattle.calls.specs.declared.Report.{Report}
+use Rattle.calls.specs.Take.{Call, CallResult, takeOf, endingNumber}
 use Rattle.image.specs.Image.{imageOf, stateOf, imageFits}
 
 -- A refusal number, 0 for none, and each buffer's later contents.

@@ -6,15 +6,15 @@ ghost use lib.ListN.{length};
 ghost use Rattle.frames.specs.Tray.{partOf};
 ghost use Rattle.controller.specs.Records.{kindOf, isFrameHead, frameBitsOf};
 ghost use Rattle.decoder.specs.Opening.{openOf};
-ghost use Rattle.taking.specs.Take.{call, takeOf};
+ghost use Rattle.calls.specs.Take.{call, takeOf};
 ghost use Rattle.image.specs.Image.{imageLength, stateOf};
 ghost use Rattle.kernelstill.specs.Open.{emptyPlan, planOf, openResult, openResultOf};
 ghost use Rattle.kernelstill.specs.Take.{endingCode, resultLength, resultWords, soundImage, takeResult, takeResultOf, Holds};
 ghost use Rattle.kernelstill.specs.Lines.{lineResult, hexResultOf, recordResultOf};
+use calls::Ending;
+use calls::Report;
 use decoder::Decoder;
 use registers::Plan;
-use taking::Ending;
-use taking::Report;
 
 // The words of a taking call's result: bits taken, records written, ending.
 const RESULT_WORDS: usize = 3;

@@ -14,10 +14,10 @@ use Rattle.controller.specs.declared.Cycle.{Cycle}
 use Rattle.controller.specs.declared.Cycle.the-variants.{Silent, Recorded}
 use Rattle.controller.specs.declared.Record.{Record}
 use Rattle.controller.specs.Records.{headOf, kindOf, isFrameHead, frameBitsOf}
-use Rattle.taking.specs.declared.Ending.{Ending}
-use Rattle.taking.specs.declared.Ending.the-variants.{Frame, ListFull, Done}
-use Rattle.taking.specs.Run.{Run, ended, oneBit, oneRecord, afterCycle, runOf, stateAfter}
-use Rattle.taking.specs.Turn.{System, turnOf}
+use Rattle.calls.specs.declared.Ending.{Ending}
+use Rattle.calls.specs.declared.Ending.the-variants.{Frame, ListFull, Done}
+use Rattle.calls.specs.Run.{Run, ended, oneBit, oneRecord, afterCycle, runOf, stateAfter}
+use Rattle.calls.specs.Turn.{System, turnOf}
 use Rattle.layout.specs.ListingLines.{recordLine}
 use Rattle.layout.proofs.LineLengths.{frame-length, record-line-length}
 use Rattle.listing.specs.Records.{frameText, recordText, recordsText}

@@ -11,7 +11,7 @@ use borrow.Author.Tests.{leb-true, eqb-true}
 use Rattle.bits.proofs.Truth.{both, clash}
 use Rattle.registers.specs.Plan.{defaultPlan}
 use Rattle.limits.specs.Limits.{storeLength, trayLength}
-use Rattle.taking.proofs.SoundnessKept.{start-sound}
+use Rattle.calls.proofs.SoundnessKept.{start-sound}
 use Rattle.output.specs.Ascii.{lineFeed}
 use Rattle.hexlines.specs.Lines.{noCharacters, readFrom}
 use Rattle.hexlines.proofs.Blocks.{lines}

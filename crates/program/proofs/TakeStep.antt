@@ -10,9 +10,9 @@ use lib.ListN.{length}
 use borrow.Author.Tests.{eqb-false}
 use Rattle.bits.proofs.Truth.{choice}
 use Rattle.decoder.specs.Sound.{soundOf}
-use Rattle.taking.specs.Turn.{System}
-use Rattle.taking.specs.Take.{Call, CallResult, takeOf}
-use Rattle.taking.proofs.SoundnessKept.{take-sound}
+use Rattle.calls.specs.Turn.{System}
+use Rattle.calls.specs.Take.{Call, CallResult, takeOf}
+use Rattle.calls.proofs.SoundnessKept.{take-sound}
 use Rattle.output.specs.Block.{block, putAll}
 use Rattle.output.proofs.Pieces.{put-end-within}
 use Rattle.hexlines.specs.declared.LineNotes.{LineNotes}

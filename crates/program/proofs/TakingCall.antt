@@ -14,14 +14,14 @@ use Rattle.bits.proofs.Truth.{holds-true}
 use Rattle.decoder.specs.declared.Decoder.{Decoder}
 use Rattle.limits.specs.Limits.{clockLimit, storeLength, trayLength}
 use Rattle.decoder.specs.Sound.{soundOf}
-use Rattle.taking.specs.declared.Ending.the-variants.{ClockOver}
-use Rattle.taking.specs.Run.{Run, runOf, stateAfter}
-use Rattle.taking.specs.Turn.{System, turnOf}
-use Rattle.taking.specs.Take.{Call, CallResult, lent, refused, clockFits, takenOf, takeOf}
-use Rattle.taking.specs.Calls.{systemAfter}
-use Rattle.taking.proofs.RunFaithful.{run-faithful}
-use Rattle.taking.proofs.LoopInvariant.{length-bits}
-use Rattle.taking.proofs.Refusals.{buffers, range, taken, clock-over}
+use Rattle.calls.specs.declared.Ending.the-variants.{ClockOver}
+use Rattle.calls.specs.Run.{Run, runOf, stateAfter}
+use Rattle.calls.specs.Turn.{System, turnOf}
+use Rattle.calls.specs.Take.{Call, CallResult, lent, refused, clockFits, takenOf, takeOf}
+use Rattle.calls.specs.Calls.{systemAfter}
+use Rattle.calls.proofs.RunFaithful.{run-faithful}
+use Rattle.calls.proofs.LoopInvariant.{length-bits}
+use Rattle.calls.proofs.Refusals.{buffers, range, taken, clock-over}
 use Rattle.hexlines.specs.declared.LineNotes.{LineNotes}
 use Rattle.hexlines.specs.Line.{lineBytes}
 use Rattle.listing.specs.Records.{recordsText}

@@ -10,9 +10,9 @@ use Rattle.controller.specs.declared.Cycle.{Cycle}
 use Rattle.controller.specs.declared.Cycle.the-variants.{Silent, Recorded}
 use Rattle.controller.specs.Records.{headOf}
 use Rattle.decoder.specs.declared.Decoder.{Decoder}
-use Rattle.taking.specs.Run.{stateAfter}
-use Rattle.taking.specs.Turn.{System, turnOf}
-use Rattle.taking.specs.Take.{clockFits}
+use Rattle.calls.specs.Run.{stateAfter}
+use Rattle.calls.specs.Turn.{System, turnOf}
+use Rattle.calls.specs.Take.{clockFits}
 use Rattle.hexlines.specs.declared.LineNotes.{LineNotes}
 use Rattle.hexlines.specs.Notes.{noNotes}
 use Rattle.hexlines.specs.Lines.{LineRead}

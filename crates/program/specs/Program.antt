@@ -7,7 +7,7 @@ use Prim.Native.Nat.{ℕ}
 use lib.ListN.{take, drop}
 use Rattle.registers.specs.Plan.{defaultPlan}
 use Rattle.decoder.specs.Opening.{openOf}
-use Rattle.taking.specs.Turn.{System, systemOf, decoderOf}
+use Rattle.calls.specs.Turn.{System, systemOf, decoderOf}
 use Rattle.hexlines.specs.Lines.{linesOf, linesRead}
 use Rattle.program.specs.declared.PrintOptions.{PrintOptions}
 use Rattle.program.specs.declared.RunState.{RunState}

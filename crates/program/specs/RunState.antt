@@ -11,7 +11,7 @@ use Rattle.registers.specs.Plan.{defaultPlan}
 use Rattle.limits.specs.Limits.{storeLength, trayLength}
 use Rattle.decoder.specs.Opening.{openOf}
 use Rattle.decoder.specs.Sound.{soundOf}
-use Rattle.taking.specs.Turn.{System, systemOf}
+use Rattle.calls.specs.Turn.{System, systemOf}
 use Rattle.output.specs.Ascii.{lineFeed}
 use Rattle.output.specs.Block.{blockLength}
 use Rattle.hexlines.specs.declared.LineSoFar.{LineSoFar}

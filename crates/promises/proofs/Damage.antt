@@ -1,6 +1,6 @@
 -- The third demand, proved.
 -- Assumes nothing.
-use Rattle.taking.proofs.BitCalls.{callsFor, calls-take}
+use Rattle.calls.proofs.BitCalls.{callsFor, calls-take}
 use Rattle.damage.specs.CleanStreams.{streamBits, inverted}
 use Rattle.damage.specs.Records.{countersOf, sends}
 use Rattle.damage.proofs.Comparison.{replaced}

@@ -24,16 +24,16 @@ use Rattle.controller.specs.Records.{headOf, kindOf, kindSlow, flagUnsteady, fr
 use Rattle.controller.specs.Commands.{frameValueOf}
 use Rattle.controller.specs.Widths.{ModelFits}
 use Rattle.controller.proofs.EffectKeeps.{model-fits}
-use Rattle.taking.specs.Run.{stateAfter, wordsAfter}
-use Rattle.taking.specs.Turn.{System, decoderOf, cntAt, transitionOf, turnOf}
-use Rattle.taking.specs.Take.{CallResult, offered}
-use Rattle.taking.specs.Calls.{Part, callOf, resultOf, systemAfter, carriedBits, carriedWords, carriedSystem}
-use Rattle.taking.proofs.RunFaithful.{state-append, words-append}
-use Rattle.taking.proofs.Refusals.{unsound, wrong-buffers}
-use Rattle.taking.proofs.Refusals as refusals
-use Rattle.taking.proofs.CallLists.{carried-words, carried-system}
-use Rattle.taking.proofs.BitCalls.{carried-binary}
-use Rattle.taking.proofs.FrameTurns.{FrameTaken, frameRecord, frame-taken}
+use Rattle.calls.specs.Run.{stateAfter, wordsAfter}
+use Rattle.calls.specs.Turn.{System, decoderOf, cntAt, transitionOf, turnOf}
+use Rattle.calls.specs.Take.{CallResult, offered}
+use Rattle.calls.specs.Calls.{Part, callOf, resultOf, systemAfter, carriedBits, carriedWords, carriedSystem}
+use Rattle.calls.proofs.RunFaithful.{state-append, words-append}
+use Rattle.calls.proofs.Refusals.{unsound, wrong-buffers}
+use Rattle.calls.proofs.Refusals as refusals
+use Rattle.calls.proofs.CallLists.{carried-words, carried-system}
+use Rattle.calls.proofs.BitCalls.{carried-binary}
+use Rattle.calls.proofs.FrameTurns.{FrameTaken, frameRecord, frame-taken}
 use Rattle.promises.specs.Frames.{countOf, handedBack, Receives, HandsBack, Frames, EmptyFrame}
 
 -- The count of a frame's bits, off its record, against the cycles of Field 5.

@@ -11,12 +11,12 @@ use borrow.Author.Tests.{lt-leb, eqb-true}
 use Rattle.limits.specs.Limits.{listUnit}
 use Rattle.decoder.specs.declared.Decoder.{Decoder}
 use Rattle.decoder.specs.Sound.{soundOf}
-use Rattle.taking.specs.declared.Ending.{Ending}
-use Rattle.taking.specs.declared.Ending.the-variants.{Unsound, WrongBuffers}
-use Rattle.taking.specs.Turn.{System, decoderOf}
-use Rattle.taking.specs.Take.{Call, CallResult, call, offered, refused, takeOf, endingNumber}
-use Rattle.taking.specs.Calls.{allBits, allWords, Part, callOf, carriedBits, carriedWords, carriedSystem, systemAfter, resultOf}
-use Rattle.taking.proofs.Refusals.{buffers, unsound, wrong-buffers}
+use Rattle.calls.specs.declared.Ending.{Ending}
+use Rattle.calls.specs.declared.Ending.the-variants.{Unsound, WrongBuffers}
+use Rattle.calls.specs.Turn.{System, decoderOf}
+use Rattle.calls.specs.Take.{Call, CallResult, call, offered, refused, takeOf, endingNumber}
+use Rattle.calls.specs.Calls.{allBits, allWords, Part, callOf, carriedBits, carriedWords, carriedSystem, systemAfter, resultOf}
+use Rattle.calls.proofs.Refusals.{buffers, unsound, wrong-buffers}
 use Rattle.image.specs.Image.{imageOf, imageFits, Widths}
 use Rattle.image.proofs.RoundTrip.{image-fits, read-back}
 use Rattle.kernelstill.specs.Take.{TakeResult, resultLength, refusedCall, answered, takeResultOf}

@@ -13,13 +13,13 @@ use Rattle.limits.specs.Limits.{clockLimit, listUnit}
 use Rattle.controller.specs.Widths.{WordsFit}
 use Rattle.decoder.specs.declared.Decoder.{Decoder}
 use Rattle.decoder.specs.Sound.{soundOf}
-use Rattle.taking.specs.Run.{stateAfter, wordsAfter}
-use Rattle.taking.specs.Turn.{System, systemOf, decoderOf, turnOf}
-use Rattle.taking.specs.Take.{Call, CallResult, takeOf, endingNumber}
-use Rattle.taking.specs.Calls.{allBits, allWords, carriedSystem}
-use Rattle.taking.proofs.Refusals.{unsound}
-use Rattle.taking.proofs.CallLists.{carried-words, carried-system}
-use Rattle.taking.proofs.SoundnessKept.{take-sound}
+use Rattle.calls.specs.Run.{stateAfter, wordsAfter}
+use Rattle.calls.specs.Turn.{System, systemOf, decoderOf, turnOf}
+use Rattle.calls.specs.Take.{Call, CallResult, takeOf, endingNumber}
+use Rattle.calls.specs.Calls.{allBits, allWords, carriedSystem}
+use Rattle.calls.proofs.Refusals.{unsound}
+use Rattle.calls.proofs.CallLists.{carried-words, carried-system}
+use Rattle.calls.proofs.SoundnessKept.{take-sound}
 use Rattle.image.specs.Image.{imageOf, stateOf, imageFits, Widths}
 use Rattle.image.proofs.RoundTrip.{image-fits, read-back}
 use Rattle.image.proofs.WellFormed.{read-again, read-widths}

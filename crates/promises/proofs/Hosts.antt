@@ -10,9 +10,9 @@ use borrow.Author.Tests.{eq-eqb, ne-eqb}
 use Rattle.registers.specs.Plan.{planFits}
 use Rattle.decoder.specs.declared.Decoder.{Decoder}
 use Rattle.decoder.specs.Sound.{soundOf}
-use Rattle.taking.specs.declared.Ending.{Ending}
-use Rattle.taking.specs.Take.{Call, CallResult, refused, takeOf, endingNumber}
-use Rattle.taking.proofs.Refusals.{unsound}
+use Rattle.calls.specs.declared.Ending.{Ending}
+use Rattle.calls.specs.Take.{Call, CallResult, refused, takeOf, endingNumber}
+use Rattle.calls.proofs.Refusals.{unsound}
 use Rattle.image.specs.Image.{imageLength, imageOf, stateOf, Widths}
 use Rattle.image.proofs.RoundTrip.{image-fits, read-back}
 use Rattle.image.proofs.WellFormed.{formed, formed-fits}

@@ -5,7 +5,7 @@ use Rattle.recogniser.specs.Step.{stepOf}
 use Rattle.registers.specs.Plan.{planFits}
 use Rattle.controller.specs.Commands.{actOf}
 use Rattle.decoder.specs.Opening.{openOf}
-use Rattle.taking.specs.Turn.{turnOf}
+use Rattle.calls.specs.Turn.{turnOf}
 use Rattle.hexlines.specs.Line.{lineMeaning}
 use Rattle.hexlines.specs.Lines.{linesFrom, linesRead}
 use Rattle.layout.specs.Digits.{charactersOf}

@@ -6,15 +6,15 @@ use Prim.Native.Nat.{ℕ, _+_, _-_}
 use native.Mathlib.Omega.{arith}
 use lib.ListN.{length, length-append}
 use Rattle.decoder.specs.declared.Decoder.{Decoder}
-use Rattle.taking.specs.Run.{Run, NoFrames, runOf, stateAfter, wordsAfter}
-use Rattle.taking.specs.Turn.{System, turnOf}
-use Rattle.taking.specs.Take.{Call, offered, lent, takenOf}
-use Rattle.taking.proofs.RunFaithful.{run-faithful}
-use Rattle.taking.proofs.RunEndings.{run-ended}
-use Rattle.taking.proofs.CallLists.{call-kept, carried-words, carried-system}
-use Rattle.taking.proofs.LoopInvariant.{length-bits}
-use Rattle.taking.proofs.SoundnessKept.{start-sound, take-sound}
-use Rattle.taking.proofs.RecordsFit.{words-fit}
+use Rattle.calls.specs.Run.{Run, NoFrames, runOf, stateAfter, wordsAfter}
+use Rattle.calls.specs.Turn.{System, turnOf}
+use Rattle.calls.specs.Take.{Call, offered, lent, takenOf}
+use Rattle.calls.proofs.RunFaithful.{run-faithful}
+use Rattle.calls.proofs.RunEndings.{run-ended}
+use Rattle.calls.proofs.CallLists.{call-kept, carried-words, carried-system}
+use Rattle.calls.proofs.LoopInvariant.{length-bits}
+use Rattle.calls.proofs.SoundnessKept.{start-sound, take-sound}
+use Rattle.calls.proofs.RecordsFit.{words-fit}
 use Rattle.promises.proofs.Frames.{frames, empty-frame}
 use Rattle.promises.proofs.ListParts.{same-parts}
 use Rattle.promises.proofs.RunGoesOn.{run-goes-on, run-last-bit}

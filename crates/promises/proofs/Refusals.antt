@@ -16,12 +16,12 @@ use Rattle.registers.specs.Plan.{existsAt, planFits}
 use Rattle.decoder.specs.declared.Decoder.{Decoder}
 use Rattle.decoder.specs.Opening.{openOf}
 use Rattle.decoder.specs.Sound.{soundOf}
-use Rattle.taking.specs.declared.Ending.{Ending}
-use Rattle.taking.specs.declared.Ending.the-variants.{Unsound, WrongBuffers, WrongRange, ClockOver}
-use Rattle.taking.specs.Turn.{turnOf}
-use Rattle.taking.specs.Take.{Call, CallResult, offered, lent, refused, clockFits, takenOf, takeOf, endingNumber}
-use Rattle.taking.proofs.RunEndings.{run-ended}
-use Rattle.taking.proofs.Refusals.{buffers, range, unsound, wrong-buffers, wrong-range, clock-over, taken}
+use Rattle.calls.specs.declared.Ending.{Ending}
+use Rattle.calls.specs.declared.Ending.the-variants.{Unsound, WrongBuffers, WrongRange, ClockOver}
+use Rattle.calls.specs.Turn.{turnOf}
+use Rattle.calls.specs.Take.{Call, CallResult, offered, lent, refused, clockFits, takenOf, takeOf, endingNumber}
+use Rattle.calls.proofs.RunEndings.{run-ended}
+use Rattle.calls.proofs.Refusals.{buffers, range, unsound, wrong-buffers, wrong-range, clock-over, taken}
 use Rattle.hexlines.specs.Digits.{isDigit, allDigits, bytesOf}
 use Rattle.hexlines.specs.Line as lines
 use Rattle.hexlines.specs.Line.{LineMeaning, Read, countFits, lineMeaning, readOf, readInto}

@@ -11,8 +11,8 @@ use Rattle.controller.specs.declared.Cycle.{Cycle}
 use Rattle.controller.specs.declared.Cycle.the-variants.{Silent, Recorded}
 use Rattle.controller.specs.declared.Record.{Record}
 use Rattle.controller.specs.Records.{headOf, wordsOf, isFrameHead}
-use Rattle.taking.specs.declared.Ending.the-variants.{Frame, ListFull}
-use Rattle.taking.specs.Run.{Turned, Run, ended, oneBit, oneRecord, afterCycle, runOf, wordsAfter}
+use Rattle.calls.specs.declared.Ending.the-variants.{Frame, ListFull}
+use Rattle.calls.specs.Run.{Turned, Run, ended, oneBit, oneRecord, afterCycle, runOf, wordsAfter}
 use Rattle.promises.specs.Records.{GoesOn}
 
 module _ {W : Type 0} (turn : W → ℕ → Turned W) where

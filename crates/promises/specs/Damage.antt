@@ -11,8 +11,8 @@ use Rattle.recogniser.specs.declared.Phase.the-variants.{Hunt}
 use Rattle.decoder.specs.declared.Decoder.{Decoder}
 use Rattle.decoder.specs.Sound.{soundOf}
 use Rattle.controller.specs.Records.{recordWords}
-use Rattle.taking.specs.Take.{Call}
-use Rattle.taking.specs.Calls.{allBits, allWords}
+use Rattle.calls.specs.Take.{Call}
+use Rattle.calls.specs.Calls.{allBits, allWords}
 use Rattle.damage.specs.CleanStreams.{Item, streamBits, timed, inverted}
 use Rattle.damage.specs.Records.{countersOf, sends, cleanRecords, damagedRecords}
 use Rattle.damage.specs.Comparison.{Replaced}

@@ -13,9 +13,9 @@ use Rattle.recogniser.specs.Fields.{isFrame, lengthOf}
 use Rattle.frames.specs.Tray.{partOf}
 use Rattle.controller.specs.Records.{kindOf, kindSlow, frameBitsOf}
 use Rattle.controller.specs.Widths.{ModelFits}
-use Rattle.taking.specs.Run.{stateAfter, wordsAfter}
-use Rattle.taking.specs.Turn.{System, cntAt, turnOf}
-use Rattle.taking.specs.Calls.{Part, carriedBits, carriedWords, carriedSystem}
+use Rattle.calls.specs.Run.{stateAfter, wordsAfter}
+use Rattle.calls.specs.Turn.{System, cntAt, turnOf}
+use Rattle.calls.specs.Calls.{Part, carriedBits, carriedWords, carriedSystem}
 
 -- How many cycles a frame's bit takes: "WrFrontEnd and RdFrontEnd carry each bit for eight cycles"; "WrReceiver carries one bit a cycle".
 abbrev pub cyclesEach : ℕ → ℕ

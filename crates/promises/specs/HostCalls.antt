@@ -8,10 +8,10 @@ use lib.Dec.{eqb}
 use lib.ListN.{length, getD, take, drop}
 use Rattle.limits.specs.Limits.{clockLimit, listUnit}
 use Rattle.controller.specs.Widths.{WordsFit}
-use Rattle.taking.specs.Run.{stateAfter, wordsAfter}
-use Rattle.taking.specs.Turn.{System, systemOf, turnOf}
-use Rattle.taking.specs.Take.{Call, call, offered, takenOf}
-use Rattle.taking.specs.Calls.{Part}
+use Rattle.calls.specs.Run.{stateAfter, wordsAfter}
+use Rattle.calls.specs.Turn.{System, systemOf, turnOf}
+use Rattle.calls.specs.Take.{Call, call, offered, takenOf}
+use Rattle.calls.specs.Calls.{Part}
 use Rattle.image.specs.Image.{stateOf, imageFits}
 use Rattle.kernelstill.specs.Take.{TakeResult, resultWords, takeResultOf}
 use Rattle.damage.specs.CleanStreams.{Item, streamBits}

@@ -8,7 +8,7 @@ use lib.ListN.{length, replicate}
 use Rattle.registers.specs.Plan.{planFits}
 use Rattle.decoder.specs.declared.Decoder.{Decoder}
 use Rattle.decoder.specs.Opening.{openOf, openingNumber}
-use Rattle.taking.specs.Take.{Call, takeOf}
+use Rattle.calls.specs.Take.{Call, takeOf}
 use Rattle.image.specs.Fields.{whole, bits, upTo}
 use Rattle.image.specs.Image.{layout, wordLimits, imageLength, imageOf, stateOf, imageFits, Widths, Formed}
 use Rattle.kernelstill.specs.Open.{emptyPlan, planOf, openResultOf}

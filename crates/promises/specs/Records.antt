@@ -13,11 +13,11 @@ use Rattle.limits.specs.Limits.{listUnit}
 use Rattle.decoder.specs.Opening.{openOf}
 use Rattle.decoder.specs.Sound.{soundOf}
 use Rattle.controller.specs.Widths.{ModelFits, WordsFit}
-use Rattle.taking.specs.declared.Ending.the-variants.{Done, Frame, ListFull}
-use Rattle.taking.specs.Run.{NoFrames, LastIsFrame, stateAfter, wordsAfter}
-use Rattle.taking.specs.Turn.{System, turnOf}
-use Rattle.taking.specs.Take.{Call, offered, lent, takenOf, takeOf}
-use Rattle.taking.specs.Calls.{bitsTaken, wordsStanding, allWords, systemAfter, Part, carriedBits, carriedWords, carriedSystem}
+use Rattle.calls.specs.declared.Ending.the-variants.{Done, Frame, ListFull}
+use Rattle.calls.specs.Run.{NoFrames, LastIsFrame, stateAfter, wordsAfter}
+use Rattle.calls.specs.Turn.{System, turnOf}
+use Rattle.calls.specs.Take.{Call, offered, lent, takenOf, takeOf}
+use Rattle.calls.specs.Calls.{bitsTaken, wordsStanding, allWords, systemAfter, Part, carriedBits, carriedWords, carriedSystem}
 use Rattle.layout.specs.ListingLines.{recordLine}
 use Rattle.promises.specs.Frames.{Frames, EmptyFrame}
 

@@ -14,8 +14,8 @@ use Rattle.registers.specs.Plan.{existsAt, defaultPlan}
 use Rattle.decoder.specs.declared.Decoder.{Decoder}
 use Rattle.decoder.specs.Opening.{openedAt, openOf, openingNumber}
 use Rattle.decoder.specs.Sound.{soundOf}
-use Rattle.taking.specs.declared.Ending.{Ending}
-use Rattle.taking.specs.Take.{Call, refused, takenOf, takeOf, endingNumber}
+use Rattle.calls.specs.declared.Ending.{Ending}
+use Rattle.calls.specs.Take.{Call, refused, takenOf, takeOf, endingNumber}
 use Rattle.hexlines.specs.Digits.{bytesOf}
 use Rattle.hexlines.specs.Line.{Read, lineMeaning, readInto}
 

@@ -4,9 +4,9 @@ use mathlib.Core.List.{List, [], _∷_}
 use Prim.Native.Nat.{ℕ}
 use lib.ListN.{length, getD, set, replicate}
 use Rattle.decoder.specs.declared.Decoder.{Decoder}
-use Rattle.taking.specs.declared.Report.{Report}
-use Rattle.taking.specs.Take.{Call, call, takeOf, endingNumber}
-use Rattle.taking.specs.Calls.{wordsStanding}
+use Rattle.calls.specs.declared.Report.{Report}
+use Rattle.calls.specs.Take.{Call, call, takeOf, endingNumber}
+use Rattle.calls.specs.Calls.{wordsStanding}
 use Rattle.image.specs.Image.{imageOf, stateOf}
 use Rattle.kernelstill.specs.Take.{resultWords}
 use Rattle.worked_examples.specs.Table.{Table}

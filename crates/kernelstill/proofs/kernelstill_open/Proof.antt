@@ -8,7 +8,7 @@ use borrow.Author.Needs.{needs}
 use Rattle.registers.specs.declared.Plan.{Plan}
 use Rattle.decoder.specs.declared.Opened.{Opened}
 use Rattle.decoder.specs.Opening.{openOf}
-use Rattle.taking.proofs.SoundnessKept.{start-sound}
+use Rattle.calls.proofs.SoundnessKept.{start-sound}
 use Rattle.image.specs.Image.{imageLength, imageOf, stateOf}
 use Rattle.kernelstill.specs.Open.{planOf, openedInto, openResultOf}
 use Rattle.kernelstill.specs.Take.{Holds}

@@ -5,8 +5,8 @@ use Prim.Native.Nat.{_+_, _-_, _≤_}
 use native.Mathlib.Omega.{arith}
 use borrow.Author.Needs.{needs}
 use Rattle.stretches.proofs.SingleCycles.{Passes}
-use Rattle.taking.specs.Take.{Call, call}
-use Rattle.taking.proofs.LoopInvariant.{Invariant, left, initially, stretch-walks, done, full, quiet, performed, moved, stretched-fits}
+use Rattle.calls.specs.Take.{Call, call}
+use Rattle.calls.proofs.LoopInvariant.{Invariant, left, initially, stretch-walks, done, full, quiet, performed, moved, stretched-fits}
 use Rattle.taking.proofs.run.Statement.{statement}
 use Rattle.taking.proofs.run.Tie as tie
 

@@ -10,9 +10,9 @@ use borrow.Author.Tests.{not-true, not-false}
 use Rattle.decoder.specs.declared.Decoder.{Decoder}
 use Rattle.limits.specs.Limits.{clockLimit}
 use Rattle.decoder.specs.Sound.{soundOf}
-use Rattle.taking.specs.Take.{Call, call}
-use Rattle.taking.proofs.Refusals.{buffers, range, unsound, wrong-buffers, wrong-range, clock-over, taken}
-use Rattle.taking.proofs.Refusals.{clock-short, clock-long, next-low, May, run-may}
+use Rattle.calls.specs.Take.{Call, call}
+use Rattle.calls.proofs.Refusals.{buffers, range, unsound, wrong-buffers, wrong-range, clock-over, taken}
+use Rattle.calls.proofs.Refusals.{clock-short, clock-long, next-low, May, run-may}
 use Rattle.taking.proofs.take.Statement.{statement}
 use Rattle.taking.proofs.take.Tie as tie
 

@@ -6,7 +6,7 @@ use native.Mathlib.Omega.{arith}
 use lib.ListN.{replicate}
 use lib.Seq.{length-take-le}
 use borrow.Author.Needs.{needs}
-use Rattle.taking.specs.Take.{CallResult}
+use Rattle.calls.specs.Take.{CallResult}
 use Rattle.program.specs.RunState.{Snapshot, snapshot, listWords}
 use Rattle.program.proofs.TakingCall.{CallPrints}
 use Rattle.program.proofs.TakeStep.{callOf, CallMade, call-printed, records-fit, after-take}

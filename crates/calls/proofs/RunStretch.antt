@@ -19,9 +19,9 @@ use Rattle.stretches.proofs.SingleCycles.{Passes, ends, last, more}
 use Rattle.frames.specs.Tray.{trayOf}
 use Rattle.controller.specs.declared.Cycle.the-variants.{Silent}
 use Rattle.controller.specs.Commands.{Effect, actOf}
-use Rattle.taking.specs.declared.Ending.the-variants.{Done, ListFull}
-use Rattle.taking.specs.Run.{Turned, Run, ended, oneBit, afterCycle, runOf}
-use Rattle.taking.specs.Turn.{Machine, System, cntAt, effectAt, respondBy, respondOf, turnBy, turnOf}
+use Rattle.calls.specs.declared.Ending.the-variants.{Done, ListFull}
+use Rattle.calls.specs.Run.{Turned, Run, ended, oneBit, afterCycle, runOf}
+use Rattle.calls.specs.Turn.{Machine, System, cntAt, effectAt, respondBy, respondOf, turnBy, turnOf}
 
 -- The turn that a stretch makes: its last request acts in the cycle of its last bit.
 abbrev pub landedBy : Machine → Transition → ℕ → Effect → Turned System

@@ -30,13 +30,13 @@ use Rattle.controller.specs.Commands.{Effect, actOf}
 use Rattle.controller.specs.Requests.{requestFits}
 use Rattle.controller.proofs.RequestsFit.{step-request-fits}
 use Rattle.decoder.specs.declared.Decoder.{Decoder}
-use Rattle.taking.specs.declared.Ending.{Ending}
-use Rattle.taking.specs.declared.Ending.the-variants.{Done, Frame, ListFull}
-use Rattle.taking.specs.Perform.{PerformResult, recordedAt, performOf}
-use Rattle.taking.specs.Run.{Run, ended, oneBit, oneRecord, afterCycle, runOf}
-use Rattle.taking.specs.Turn.{System, decoderOf, turnOf}
-use Rattle.taking.specs.Take.{Call, CallResult, result, takenWith, finished, takenOf}
-use Rattle.taking.proofs.RunStretch.{landed, bitsAhead, run-stretch}
+use Rattle.calls.specs.declared.Ending.{Ending}
+use Rattle.calls.specs.declared.Ending.the-variants.{Done, Frame, ListFull}
+use Rattle.calls.specs.Perform.{PerformResult, recordedAt, performOf}
+use Rattle.calls.specs.Run.{Run, ended, oneBit, oneRecord, afterCycle, runOf}
+use Rattle.calls.specs.Turn.{System, decoderOf, turnOf}
+use Rattle.calls.specs.Take.{Call, CallResult, result, takenWith, finished, takenOf}
+use Rattle.calls.proofs.RunStretch.{landed, bitsAhead, run-stretch}
 
 -- The system that the loop's locals make up, and the bits that are left.
 abbrev pub systemAt : Decoder → List ℕ → List ℕ → Recogniser → Model → ℕ → System

@@ -5,8 +5,8 @@ use Prim.Native.Nat.{ℕ, _*_}
 use lib.ListN.{take, drop}
 use Rattle.decoder.specs.declared.Decoder.{Decoder}
 use Rattle.limits.specs.Limits.{listUnit}
-use Rattle.taking.specs.Turn.{System, systemOf, decoderOf}
-use Rattle.taking.specs.Take.{Call, CallResult, call, offered, takeOf}
+use Rattle.calls.specs.Turn.{System, systemOf, decoderOf}
+use Rattle.calls.specs.Take.{Call, CallResult, call, offered, takeOf}
 
 -- What one call has taken: its first bits, as many as it answers.
 abbrev pub bitsTaken : Decoder → Call → List ℕ

@@ -13,7 +13,7 @@ use Rattle.registers.specs.declared.Model.{Model}
 use Rattle.registers.specs.Registers.{cntOf}
 use Rattle.controller.specs.Commands.{Effect, actOf}
 use Rattle.decoder.specs.declared.Decoder.{Decoder}
-use Rattle.taking.specs.Run.{Turned}
+use Rattle.calls.specs.Run.{Turned}
 
 -- All that an event reads or changes: the plan, the number of the next cycle, the model, the store and the tray.
 pub record Machine : Type 0 where

@@ -12,11 +12,11 @@ use Rattle.registers.specs.declared.Model.{Model}
 use Rattle.decoder.specs.declared.Decoder.{Decoder}
 use Rattle.limits.specs.Limits.{clockLimit, storeLength, trayLength, listUnit, inputLimit}
 use Rattle.decoder.specs.Sound.{soundOf}
-use Rattle.taking.specs.declared.Taken.{Taken}
-use Rattle.taking.specs.declared.Ending.{Ending}
-use Rattle.taking.specs.declared.Ending.the-variants.{Done, Frame, ListFull, Unsound, WrongBuffers, WrongRange, ClockOver}
-use Rattle.taking.specs.Run.{Run, runOf}
-use Rattle.taking.specs.Turn.{System, systemOf, decoderOf, turnOf}
+use Rattle.calls.specs.declared.Taken.{Taken}
+use Rattle.calls.specs.declared.Ending.{Ending}
+use Rattle.calls.specs.declared.Ending.the-variants.{Done, Frame, ListFull, Unsound, WrongBuffers, WrongRange, ClockOver}
+use Rattle.calls.specs.Run.{Run, runOf}
+use Rattle.calls.specs.Turn.{System, systemOf, decoderOf, turnOf}
 
 -- "It is lent input, a first bit and a bit count; a FIFO store ..; a tray ..; a record list and the number of its first free word."
 pub record Call : Type 0 where

@@ -12,9 +12,9 @@ use Rattle.decoder.specs.declared.Decoder.{Decoder}
 use Rattle.limits.specs.Limits.{clockLimit, storeLength, trayLength, inputLimit}
 use Rattle.decoder.specs.Sound.{soundOf}
 use Rattle.decoder.proofs.Soundness.{sound-parts}
-use Rattle.taking.specs.declared.Ending.{Ending}
-use Rattle.taking.specs.declared.Ending.the-variants.{Unsound, WrongBuffers, WrongRange, ClockOver}
-use Rattle.taking.specs.Take.{Call, CallResult, refused, buffersFit, rangeFits, clockFits, takenOf, takeOf}
+use Rattle.calls.specs.declared.Ending.{Ending}
+use Rattle.calls.specs.declared.Ending.the-variants.{Unsound, WrongBuffers, WrongRange, ClockOver}
+use Rattle.calls.specs.Take.{Call, CallResult, refused, buffersFit, rangeFits, clockFits, takenOf, takeOf}
 
 -- The tests of a call.
 abbrev pub buffers : Call → Bool

@@ -28,11 +28,11 @@ use Rattle.decoder.specs.Opening.{openedAt, openOf}
 use Rattle.decoder.specs.Sound.{insideSlow, soundOf}
 use Rattle.decoder.proofs.StepsFit.{start-fits, step-fits}
 use Rattle.decoder.proofs.Soundness.{sound, sound-parts}
-use Rattle.taking.specs.Run.{runOf, stateAfter}
-use Rattle.taking.specs.Turn.{System, decoderOf, transitionOf, turnOf}
-use Rattle.taking.specs.Take.{Call, CallResult, offered, lent, buffersFit, rangeFits, clockFits, takenOf, takeOf}
-use Rattle.taking.proofs.RunFaithful.{run-faithful}
-use Rattle.taking.proofs.SlowSteps.{Steps, over, begins, goes-on, slow-steps}
+use Rattle.calls.specs.Run.{runOf, stateAfter}
+use Rattle.calls.specs.Turn.{System, decoderOf, transitionOf, turnOf}
+use Rattle.calls.specs.Take.{Call, CallResult, offered, lent, buffersFit, rangeFits, clockFits, takenOf, takeOf}
+use Rattle.calls.proofs.RunFaithful.{run-faithful}
+use Rattle.calls.proofs.SlowSteps.{Steps, over, begins, goes-on, slow-steps}
 
 -- The start state of a plan that fits.
 opened-sound : (plan : Plan) (cycle : ℕ) → planFits plan ≡ true → cycle ≤ clockLimit → T (soundOf (openedAt plan cycle))

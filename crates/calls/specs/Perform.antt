@@ -13,7 +13,7 @@ use Rattle.controller.specs.declared.Cycle.{Cycle}
 use Rattle.controller.specs.declared.Cycle.the-variants.{Silent, Recorded}
 use Rattle.controller.specs.Records.{headOf, isFrameHead}
 use Rattle.controller.specs.Commands.{Effect, actOf}
-use Rattle.taking.specs.declared.Performed.{Performed}
+use Rattle.calls.specs.declared.Performed.{Performed}
 
 -- What `perform` answers, and the store's and the list's later contents.
 pub record PerformResult : Type 0 where

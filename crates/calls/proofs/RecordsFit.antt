@@ -31,12 +31,12 @@ use Rattle.controller.specs.Records.{wordsOf}
 use Rattle.controller.specs.Widths.{ModelFits, Narrow, WordsFit}
 use Rattle.controller.proofs.EffectKeeps.{model-fits}
 use Rattle.controller.proofs.RecordsFit.{act-words-fit}
-use Rattle.taking.specs.Run.{stateAfter, wordsAfter}
-use Rattle.taking.specs.Turn.{System, decoderOf, transitionOf, turnOf}
-use Rattle.taking.specs.Take.{Call, CallResult, offered, lent, buffersFit, rangeFits, clockFits, takenOf, takeOf}
-use Rattle.taking.specs.Calls.{bitsTaken, wordsStanding, allWords}
-use Rattle.taking.proofs.CallLists.{call-kept}
-use Rattle.taking.proofs.SoundnessKept.{turn-sound, take-sound}
+use Rattle.calls.specs.Run.{stateAfter, wordsAfter}
+use Rattle.calls.specs.Turn.{System, decoderOf, transitionOf, turnOf}
+use Rattle.calls.specs.Take.{Call, CallResult, offered, lent, buffersFit, rangeFits, clockFits, takenOf, takeOf}
+use Rattle.calls.specs.Calls.{bitsTaken, wordsStanding, allWords}
+use Rattle.calls.proofs.CallLists.{call-kept}
+use Rattle.calls.proofs.SoundnessKept.{turn-sound, take-sound}
 
 abbrev NarrowStep : Transition → Type 0
 NarrowStep h = Narrow (h .event .request)

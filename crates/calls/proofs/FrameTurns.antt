@@ -22,8 +22,8 @@ use Rattle.controller.specs.declared.Cycle.{Cycle}
 use Rattle.controller.specs.declared.Cycle.the-variants.{Silent, Recorded}
 use Rattle.controller.specs.Records.{headOf, wordsOf, flagActed, flagUnsteady}
 use Rattle.controller.specs.Commands.{slowRecord, frameValueOf, actOf}
-use Rattle.taking.specs.Run.{Turned, stateAfter, wordsAfter}
-use Rattle.taking.specs.Turn.{System, Machine, cntAt, turnOf}
+use Rattle.calls.specs.Run.{Turned, stateAfter, wordsAfter}
+use Rattle.calls.specs.Turn.{System, Machine, cntAt, turnOf}
 
 -- The record of a frame.
 abbrev pub frameRecord : ℕ → ℕ → Bool → ℕ → Record

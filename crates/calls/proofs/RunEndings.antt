@@ -11,10 +11,10 @@ use Rattle.controller.specs.declared.Cycle.{Cycle}
 use Rattle.controller.specs.declared.Cycle.the-variants.{Silent, Recorded}
 use Rattle.controller.specs.declared.Record.{Record}
 use Rattle.controller.specs.Records.{headOf, isFrameHead}
-use Rattle.taking.specs.declared.Ending.{Ending}
-use Rattle.taking.specs.declared.Ending.the-variants.{Done, Frame, ListFull}
-use Rattle.taking.specs.Run.{Turned, Run, NoFrames, LastIsFrame, ended, oneBit, oneRecord, afterCycle, runOf}
-use Rattle.taking.specs.Take.{endingNumber}
+use Rattle.calls.specs.declared.Ending.{Ending}
+use Rattle.calls.specs.declared.Ending.the-variants.{Done, Frame, ListFull}
+use Rattle.calls.specs.Run.{Turned, Run, NoFrames, LastIsFrame, ended, oneBit, oneRecord, afterCycle, runOf}
+use Rattle.calls.specs.Take.{endingNumber}
 
 -- What holds of a run of some bits into a room.
 pub record Ended {W : Type 0} (bits : List ℕ) (room : ℕ) (r : Run W) : Type 0 where

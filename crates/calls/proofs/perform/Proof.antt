@@ -5,10 +5,10 @@ use native.Mathlib.Omega.{arith}
 use borrow.Author.Needs.{needs}
 use lib.ListN.{length-take, length-drop}
 use Rattle.limits.specs.Limits.{clockLimit}
-use Rattle.taking.proofs.PerformCases.{at-time, silently, recorded}
-use Rattle.taking.proofs.LoopInvariant.{two-put}
-use Rattle.taking.proofs.perform.Statement.{statement}
-use Rattle.taking.proofs.perform.Tie as tie
+use Rattle.calls.proofs.PerformCases.{at-time, silently, recorded}
+use Rattle.calls.proofs.LoopInvariant.{two-put}
+use Rattle.calls.proofs.perform.Statement.{statement}
+use Rattle.calls.proofs.perform.Tie as tie
 
 -- The places that the proofs look back to, each by the one after it: the call, after the request's effect, after its CNT.
 abbrev called : tie.After-act → tie.Start

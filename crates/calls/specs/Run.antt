@@ -10,8 +10,8 @@ use Rattle.controller.specs.declared.Cycle.the-variants.{Silent, Recorded}
 use Rattle.controller.specs.declared.Record.{Record}
 use Rattle.controller.specs.Records.{headOf, wordsOf, isFrameHead}
 use Rattle.limits.specs.Limits.{listUnit}
-use Rattle.taking.specs.declared.Ending.{Ending}
-use Rattle.taking.specs.declared.Ending.the-variants.{Done, Frame, ListFull}
+use Rattle.calls.specs.declared.Ending.{Ending}
+use Rattle.calls.specs.declared.Ending.the-variants.{Done, Frame, ListFull}
 
 -- A state after a cycle, and what the cycle answers.
 pub record Turned (S : Type 0) : Type 0 where

@@ -6,7 +6,7 @@ use Prim.Native.Nat.{ℕ, _+_, _*_, _-_, _<_, _≤_}
 use native.Mathlib.Omega.{arith}
 use lib.Dec.{leb}
 use borrow.Author.Tests.{le-leb, lt-leb, leb-true, leb-false}
-use Rattle.taking.specs.Take.{rangeFits}
+use Rattle.calls.specs.Take.{rangeFits}
 
 module _ (input first count : ℕ) where
   pub too-long : 65536 < input → false ≡ rangeFits input first count

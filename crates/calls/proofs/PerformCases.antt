@@ -15,7 +15,7 @@ use Rattle.controller.specs.declared.Cycle.the-variants.{Silent, Recorded}
 use Rattle.controller.specs.Records.{headOf, isFrameHead}
 use Rattle.controller.specs.Commands.{Effect, effect, actOf}
 use Rattle.controller.proofs.RecordTime.{record-time}
-use Rattle.taking.specs.Perform.{performResult, performOf}
+use Rattle.calls.specs.Perform.{performResult, performOf}
 
 module _ (plan : Plan) (m : Model) (q : Request) (time : ℕ) (store store₁ : List ℕ) (a : Acted)
     (did : effect a store₁ ≡ actOf plan m q time store) where

@@ -16,13 +16,13 @@ use Rattle.controller.specs.Records.{headOf, isFrameHead}
 use Rattle.decoder.specs.declared.Decoder.{Decoder}
 use Rattle.limits.specs.Limits.{clockLimit, storeLength, trayLength}
 use Rattle.decoder.specs.Sound.{soundOf}
-use Rattle.taking.specs.Run.{Run, Turned, afterCycle, runOf, stateAfter}
-use Rattle.taking.specs.Turn.{System, decoderOf, turnOf}
-use Rattle.taking.specs.Take.{Call, CallResult, call, lent, takenOf, takeOf}
-use Rattle.taking.specs.Calls.{Part, callOf, resultOf, systemAfter, bitsTaken, allBits, carriedBits}
-use Rattle.taking.proofs.CallLists.{call-kept}
-use Rattle.taking.proofs.Refusals.{taken}
-use Rattle.taking.proofs.SoundnessKept.{take-sound}
+use Rattle.calls.specs.Run.{Run, Turned, afterCycle, runOf, stateAfter}
+use Rattle.calls.specs.Turn.{System, decoderOf, turnOf}
+use Rattle.calls.specs.Take.{Call, CallResult, call, lent, takenOf, takeOf}
+use Rattle.calls.specs.Calls.{Part, callOf, resultOf, systemAfter, bitsTaken, allBits, carriedBits}
+use Rattle.calls.proofs.CallLists.{call-kept}
+use Rattle.calls.proofs.Refusals.{taken}
+use Rattle.calls.proofs.SoundnessKept.{take-sound}
 
 -- The bit is the highest of a byte; the list has room for one record.
 abbrev pub callFor : ℕ → Call

@@ -11,9 +11,9 @@ use Rattle.controller.specs.declared.Cycle.{Cycle}
 use Rattle.controller.specs.declared.Cycle.the-variants.{Silent, Recorded}
 use Rattle.controller.specs.declared.Record.{Record}
 use Rattle.controller.specs.Records.{headOf, wordsOf, isFrameHead}
-use Rattle.taking.specs.declared.Ending.{Ending}
-use Rattle.taking.specs.declared.Ending.the-variants.{Done, Frame, ListFull}
-use Rattle.taking.specs.Run.{Turned, Run, ended, oneBit, oneRecord, afterCycle, runOf, stateAfter, wordsAfter}
+use Rattle.calls.specs.declared.Ending.{Ending}
+use Rattle.calls.specs.declared.Ending.the-variants.{Done, Frame, ListFull}
+use Rattle.calls.specs.Run.{Turned, Run, ended, oneBit, oneRecord, afterCycle, runOf, stateAfter, wordsAfter}
 
 module _ {W : Type 0} (turn : W → ℕ → Turned W) where
   pub state-append : (w : W) (xs ys : List ℕ) → stateAfter turn w (xs ++ ys) ≡ stateAfter turn (stateAfter turn w xs) ys

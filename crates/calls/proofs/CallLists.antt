@@ -11,13 +11,13 @@ use Rattle.bits.proofs.Truth.{choice}
 use Rattle.decoder.specs.declared.Decoder.{Decoder}
 use Rattle.limits.specs.Limits.{listUnit}
 use Rattle.decoder.specs.Sound.{soundOf}
-use Rattle.taking.specs.declared.Ending.{Ending}
-use Rattle.taking.specs.declared.Ending.the-variants.{Unsound, WrongBuffers, WrongRange, ClockOver}
-use Rattle.taking.specs.Run.{Run, runOf, stateAfter, wordsAfter}
-use Rattle.taking.specs.Turn.{System, decoderOf, turnOf}
-use Rattle.taking.specs.Take.{Call, CallResult, offered, lent, refused, buffersFit, rangeFits, clockFits, takenOf, takeOf}
-use Rattle.taking.specs.Calls.{Part, bitsTaken, callOf, resultOf, systemAfter, carriedBits, carriedWords, carriedSystem}
-use Rattle.taking.proofs.RunFaithful.{run-faithful, state-append, words-append}
+use Rattle.calls.specs.declared.Ending.{Ending}
+use Rattle.calls.specs.declared.Ending.the-variants.{Unsound, WrongBuffers, WrongRange, ClockOver}
+use Rattle.calls.specs.Run.{Run, runOf, stateAfter, wordsAfter}
+use Rattle.calls.specs.Turn.{System, decoderOf, turnOf}
+use Rattle.calls.specs.Take.{Call, CallResult, offered, lent, refused, buffersFit, rangeFits, clockFits, takenOf, takeOf}
+use Rattle.calls.specs.Calls.{Part, bitsTaken, callOf, resultOf, systemAfter, carriedBits, carriedWords, carriedSystem}
+use Rattle.calls.proofs.RunFaithful.{run-faithful, state-append, words-append}
 
 -- the words of a run stand in the list where it was lent
 module _ (words list : List ℕ) (free : ℕ) (whole : length words / 2 * 2 ≡ length words) where
