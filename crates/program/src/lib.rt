@@ -39,14 +39,14 @@ pub struct RunState {
 }
 
 // The words of a taking call's list: 16 records.
-const LIST_WORDS: usize = 32;
+pub const LIST_WORDS: usize = 32;
 
 // The most bytes that a step puts into the block of output: a record's line has 28 bytes, 14 for each of its words; a frame's has two for each byte of
 // the tray, and two more.
 const STEP_ROOM: usize = 14 * LIST_WORDS + (2 * Decoder::TRAY_LENGTH + 2);
 
 // The refusal of a taking call of a line's bits, by the bits that it took: only one at the clock's end takes none.
-fn clock_number(bits: usize) -> u8
+pub fn clock_number(bits: usize) -> u8
     ensures { λ r. ⌜ r ≡ clockNumber bits ⌝ }
 {
     if bits == 0 { 6 } else { 0 }
@@ -75,29 +75,6 @@ impl RunState {
         }
     }
 
-    // One taking call of the last line's bits, and the lines of its records. Only a refused call takes no bits.
-    fn take_bits(self, store: &mut [u32], tray: &mut [u8], out: &mut [u8], frames: bool) -> RunState
-        requires { ⌜ StepReady (snapshot self (now store) (now tray) (now out)) × (0 < self .count) ⌝ }
-        ensures { λ r. ⌜ AfterTake frames (snapshot self (now (store .entry)) (now (tray .entry)) (now (out .entry)))
-            (snapshot r (now (store .exit)) (now (tray .exit)) (now (out .exit))) ⌝ }
-    {
-        let d = self.decoder;
-        let bytes = self.bytes;
-        let mut list = [0u64; LIST_WORDS];
-        let taken = taking::take(d, &bytes, self.first, self.count, store, tray, &mut list, 0);
-        let report = taken.report;
-        let n = report.records * 2;
-        let decoder = taken.decoder;
-        let mut next = self;
-        next.decoder = decoder;
-        next.first = self.first + report.bits;
-        next.count = self.count - report.bits;
-        next.filled = listing::put_records(out, self.filled, &list[..n], tray, frames);
-        next.over = report.bits == 0;
-        next.number = clock_number(report.bits);
-        next
-    }
-
     // The present line has ended: its bits are to be taken, or it is refused and ends the run.
     fn end_line(self, out: &mut [u8]) -> RunState
         ensures { λ r. ⌜ EndsLine self (now (out .entry)) r (now (out .exit)) ⌝ }
@@ -123,7 +100,7 @@ impl RunState {
     }
 
     // Scans the block of input up to and with the next line feed.
-    fn scan_line(self, input: &[u8], out: &mut [u8]) -> RunState
+    pub fn scan_line(self, input: &[u8], out: &mut [u8]) -> RunState
         ensures { λ r. ⌜ ScansLine (now (input .entry)) self (now (out .entry)) r (now (out .exit)) ⌝ }
     {
         let line = self.line;
@@ -138,56 +115,14 @@ impl RunState {
         next
     }
 
-    // One step of the run: a taking call, or where no bits are left a scan for the next line.
-    fn step(
-        self,
-        input: &[u8],
-        store: &mut [u32],
-        tray: &mut [u8],
-        out: &mut [u8],
-        frames: bool,
-    ) -> RunState
-        requires { ⌜ WellFormed (snapshot self (now store) (now tray) (now out))
-            × (canStep (length (now input)) (length (now out)) self ≡ true) × (self .next ≤ length (now input)) ⌝ }
-        ensures { λ r. ⌜ AfterSteps frames (now (input .entry)) (snapshot self (now (store .entry)) (now (tray .entry)) (now (out .entry)))
-            (snapshot r (now (store .exit)) (now (tray .exit)) (now (out .exit))) ⌝ }
-        ensures { λ r. ⌜ workLeft (length (now (input .entry))) r < workLeft (length (now (input .entry))) self ⌝ }
-    {
-        if self.count == 0 {
-            return self.scan_line(input, out);
-        }
-        self.take_bits(store, tray, out, frames)
-    }
-
     // Whether a step is to be made: there is something to do, and room for what it may put.
-    fn can_step(self, input: usize, output: usize) -> bool
+    pub fn can_step(self, input: usize, output: usize) -> bool
         requires { ⌜ self .filled ≤ output ⌝ }
         ensures { λ r. ⌜ r ≡ canStep input output self ⌝ }
     {
         let some = (self.count != 0) | (self.next < input);
         let fits = STEP_ROOM <= output - self.filled;
         !self.over & (some & fits)
-    }
-
-    // Lists the rest of the block of input into the block of output, as far as that has room.
-    pub fn list_block(
-        self,
-        input: &[u8],
-        store: &mut [u32],
-        tray: &mut [u8],
-        out: &mut [u8],
-        frames: bool,
-    ) -> RunState
-        requires { ⌜ WellFormed (snapshot self (now store) (now tray) (now out)) × (self .next ≤ length (now input)) ⌝ }
-        ensures { λ r. ⌜ AfterSteps frames (now (input .entry)) (snapshot self (now (store .entry)) (now (tray .entry)) (now (out .entry)))
-            (snapshot r (now (store .exit)) (now (tray .exit)) (now (out .exit))) ⌝ }
-        ensures { λ r. ⌜ canStep (length (now (input .entry))) (length (now (out .entry))) r ≡ false ⌝ }
-    {
-        let mut state = self;
-        while state.can_step(input.len(), out.len()) {
-            state = state.step(input, store, tray, out, frames);
-        }
-        state
     }
 
     // Whether all that the last read brought is listed, and the next is due.

@@ -112,7 +112,14 @@ fn list(
         }
         state = refilled.state;
         let length = state.length;
-        state = state.list_block(&input[..length], store, tray, &mut output, prints.frames);
+        state = blocks::list_block(
+            state,
+            &input[..length],
+            store,
+            tray,
+            &mut output,
+            prints.frames,
+        );
         let filled = state.filled;
         if !posix::write_whole(STDOUT_FILENO, &output[..filled]) {
             posix::fail_output(name);

@@ -1,4 +1,4 @@
--- `program::RunState::take_bits` meets its contract: what the taking call answers, and the lines of its records.
+-- `blocks::take_bits` meets its contract: what the taking call answers, and the lines of its records.
 -- Assumes nothing.
 use mathlib.Core.Bool.{Bool}
 use mathlib.Core.Path.{refl, sym}
@@ -7,11 +7,11 @@ use lib.ListN.{replicate}
 use lib.Seq.{length-take-le}
 use borrow.Author.Needs.{needs}
 use Rattle.calls.specs.Take.{CallResult}
 use Rattle.program.specs.RunState.{Snapshot, snapshot, listWords}
 use Rattle.program.proofs.TakingCall.{CallPrints}
 use Rattle.program.proofs.TakeStep.{callOf, CallMade, call-printed, records-fit, after-take}
-use Rattle.program.proofs.RunState.take_bits.Statement.{statement}
-use Rattle.program.proofs.RunState.take_bits.Tie as tie
+use Rattle.blocks.proofs.take_bits.Statement.{statement}
+use Rattle.blocks.proofs.take_bits.Tie as tie
 
 -- The places that the proofs look back to, each by one after it: the start, the call, the store and the tray after it, its report.
 abbrev bytesLent : tie.After-take → tie.After-bytes2
@@ -34,7 +34,7 @@ reported c = c .before .before .before .before .before .before
 
 -- the run as the function begins, and what the call leaves
 abbrev before : tie.After-take → Snapshot
-before c = let a = start c .args in snapshot (a .self) (a .store .now) (a .tray .now) (a .out .now)
+before c = let a = start c .args in snapshot (a .from) (a .store .now) (a .tray .now) (a .out .now)
 
 abbrev result : tie.After-take → CallResult
 result c = let buffers = c .take .last .1 .1 .1 .1 in

@@ -1,12 +1,12 @@
--- `program::RunState::step` meets its contract: with no bits left the block is scanned, else a taking call is made.
+-- `blocks::step` meets its contract: with no bits left the block is scanned, else a taking call is made.
 -- Assumes nothing.
 use native.Mathlib.Omega.{arith}
 use lib.ListN.{length}
 use borrow.Author.Needs.{needs}
 use Rattle.program.specs.RunState.{StepReady, snapshot}
 use Rattle.program.proofs.Steps.{step-ready, more-input, by-taking}
-use Rattle.program.proofs.RunState.step.Statement.{statement}
-use Rattle.program.proofs.RunState.step.Tie as tie
+use Rattle.blocks.proofs.step.Statement.{statement}
+use Rattle.blocks.proofs.step.Tie as tie
 
 -- The places that the proofs look back to: the start by the test, and the taking call by the end.
 abbrev start : tie.After-struct-known → tie.Start
@@ -15,7 +15,7 @@ start c = c .before .before .before .before .before
 abbrev taken : tie.After-slice-known7 → tie.After-take-bits
 taken c = c .before .before .before .before .before .before
 
-ready : (b : tie.Start) → let a = b .args in StepReady (snapshot (a .self) (a .store .now) (a .tray .now) (a .out .now))
+ready : (b : tie.Start) → let a = b .args in StepReady (snapshot (a .from) (a .store .now) (a .tray .now) (a .out .now))
 ready b = step-ready (length (b .args .input .now)) _ (b .pre .0) (b .pre .1)
 
 scan-line-requires : tie.Need-scan-line-requires
@@ -30,7 +30,7 @@ returns c =
     let t = scanned .before .before in
     let b = start (t .before) in
     let a = b .args in
-    scanned .scan-line .ensures (a .frames) (a .store .now) (a .tray .now) (ready b) (t .if1 .taken) (more-input _ _ (a .self) (b .pre .1) (t .if1 .taken))
+    scanned .scan-line .ensures (a .frames) (a .store .now) (a .tray .now) (ready b) (t .if1 .taken) (more-input _ _ (a .from) (b .pre .1) (t .if1 .taken))
 
 take-bits-requires : tie.Need-take-bits-requires
 take-bits-requires c κs = let e = c .before .before .before in (ready (start (e .before)), omega (arith, e .if1 .left))

@@ -1,11 +1,11 @@
--- `program::RunState::list_block` meets its contract: each step keeps what is printed in the end, and the loop stops where no step is to be made.
+-- `blocks::list_block` meets its contract: each step keeps what is printed in the end, and the loop stops where no step is to be made.
 -- Assumes nothing.
 use mathlib.Core.Path.{_≡_, refl, sym, _∙_}
 use lib.ListN.{length}
 use Rattle.program.specs.RunState.{snapshot, workLeft, AfterSteps}
 use Rattle.program.proofs.Steps.{no-steps, more-steps}
-use Rattle.program.proofs.RunState.list_block.Statement.{statement}
-use Rattle.program.proofs.RunState.list_block.Tie as tie
+use Rattle.blocks.proofs.list_block.Statement.{statement}
+use Rattle.blocks.proofs.list_block.Tie as tie
 
 abbrev Inv-loop : tie.InvT-loop
 Inv-loop input store₀ tray₀ out₀ frames state₀ store tray out state =
