@@ -1,2 +1,3 @@
 pub mod Truth
 pub mod BitRanges
+pub mod Ranges

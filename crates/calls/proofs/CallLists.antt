@@ -7,6 +7,7 @@ use Prim.Native.Nat.{ℕ, _+_, _*_, _-_, _/_, _≤_}
 use native.Mathlib.Omega.{arith}
 use lib.ListN.{length, take, drop}
 use lib.Seq.{sets, sets-eq, length-take-le, drop-at, take-at}
+use Rattle.bits.specs.Range.{rangeFits}
 use Rattle.bits.proofs.Truth.{choice}
 use Rattle.decoder.specs.declared.Decoder.{Decoder}
 use Rattle.limits.specs.Limits.{listUnit}
@@ -15,7 +16,7 @@ use Rattle.calls.specs.declared.Ending.{Ending}
 use Rattle.calls.specs.declared.Ending.the-variants.{Unsound, WrongBuffers, WrongRange, ClockOver}
 use Rattle.calls.specs.Run.{Run, runOf, stateAfter, wordsAfter}
 use Rattle.calls.specs.Turn.{System, decoderOf, turnOf}
-use Rattle.calls.specs.Take.{Call, CallResult, offered, lent, refused, buffersFit, rangeFits, clockFits, takenOf, takeOf}
+use Rattle.calls.specs.Take.{Call, CallResult, offered, lent, refused, buffersFit, clockFits, takenOf, takeOf}
 use Rattle.calls.specs.Calls.{Part, bitsTaken, callOf, resultOf, systemAfter, carriedBits, carriedWords, carriedSystem}
 use Rattle.calls.proofs.RunFaithful.{run-faithful, state-append, words-append}
 

@@ -1,4 +1,3 @@
-pub mod Ranges
 pub mod RunFaithful
 pub mod RunEndings
 pub mod CallLists

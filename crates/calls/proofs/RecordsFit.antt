@@ -10,6 +10,7 @@ use lib.Dec.{T, ltb, leb, eqb, ltb→lt, leb→le, eqb→eq}
 use lib.ListN.{length, take}
 use borrow.Author.Tests.{leb-true, not-false}
 use Rattle.bits.specs.Bits.{bitOf, bitsOf}
+use Rattle.bits.specs.Range.{rangeFits}
 use Rattle.bits.proofs.Truth.{choice, cond-case, and-left, and-right, or-case}
 use Rattle.recogniser.specs.declared.Phase.{Phase}
 use Rattle.recogniser.specs.declared.Phase.the-variants.{Hunt, Body, Field3, Field4, Field5}
@@ -33,7 +34,7 @@ use Rattle.controller.proofs.EffectKeeps.{model-fits}
 use Rattle.controller.proofs.RecordsFit.{act-words-fit}
 use Rattle.calls.specs.Run.{stateAfter, wordsAfter}
 use Rattle.calls.specs.Turn.{System, decoderOf, transitionOf, turnOf}
-use Rattle.calls.specs.Take.{Call, CallResult, offered, lent, buffersFit, rangeFits, clockFits, takenOf, takeOf}
+use Rattle.calls.specs.Take.{Call, CallResult, offered, lent, buffersFit, clockFits, takenOf, takeOf}
 use Rattle.calls.specs.Calls.{bitsTaken, wordsStanding, allWords}
 use Rattle.calls.proofs.CallLists.{call-kept}
 use Rattle.calls.proofs.SoundnessKept.{turn-sound, take-sound}

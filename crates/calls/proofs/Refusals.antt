@@ -7,6 +7,7 @@ use native.Mathlib.Omega.{arith}
 use lib.Dec.{eqb, leb}
 use lib.ListN.{length}
 use borrow.Author.Tests.{le-leb, lt-leb, leb-true, eqb-true}
+use Rattle.bits.specs.Range.{rangeFits}
 use Rattle.bits.proofs.Truth.{both}
 use Rattle.decoder.specs.declared.Decoder.{Decoder}
 use Rattle.limits.specs.Limits.{clockLimit, storeLength, trayLength, inputLimit}
@@ -14,7 +15,7 @@ use Rattle.decoder.specs.Sound.{soundOf}
 use Rattle.decoder.proofs.Soundness.{sound-parts}
 use Rattle.calls.specs.declared.Ending.{Ending}
 use Rattle.calls.specs.declared.Ending.the-variants.{Unsound, WrongBuffers, WrongRange, ClockOver}
-use Rattle.calls.specs.Take.{Call, CallResult, refused, buffersFit, rangeFits, clockFits, takenOf, takeOf}
+use Rattle.calls.specs.Take.{Call, CallResult, refused, buffersFit, clockFits, takenOf, takeOf}
 
 -- The tests of a call.
 abbrev pub buffers : Call → Bool

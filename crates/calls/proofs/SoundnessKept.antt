@@ -10,6 +10,7 @@ use lib.Dec.{T, leb}
 use lib.ListN.{length, take}
 use borrow.Author.Tests.{leb-true, leb-false, not-false}
 use Rattle.bits.specs.Bits.{bitOf, bitsOf}
+use Rattle.bits.specs.Range.{rangeFits}
 use Rattle.bits.proofs.Truth.{choice}
 use Rattle.recogniser.specs.declared.Request.the-variants.{Slow}
 use Rattle.recogniser.specs.declared.SlowRequest.the-variants.{LeaveRunMode}
@@ -30,7 +31,7 @@ use Rattle.decoder.proofs.StepsFit.{start-fits, step-fits}
 use Rattle.decoder.proofs.Soundness.{sound, sound-parts}
 use Rattle.calls.specs.Run.{runOf, stateAfter}
 use Rattle.calls.specs.Turn.{System, decoderOf, transitionOf, turnOf}
-use Rattle.calls.specs.Take.{Call, CallResult, offered, lent, buffersFit, rangeFits, clockFits, takenOf, takeOf}
+use Rattle.calls.specs.Take.{Call, CallResult, offered, lent, buffersFit, clockFits, takenOf, takeOf}
 use Rattle.calls.proofs.RunFaithful.{run-faithful}
 use Rattle.calls.proofs.SlowSteps.{Steps, over, begins, goes-on, slow-steps}
 

@@ -7,6 +7,7 @@ use lib.Dec.{leb, eqb}
 use lib.ListN.{length}
 use lib.Seq.{sets}
 use Rattle.bits.specs.Bits.{bitsOf}
+use Rattle.bits.specs.Range.{rangeFitsWithin}
 use Rattle.recogniser.specs.declared.Recogniser.{Recogniser}
 use Rattle.registers.specs.declared.Model.{Model}
 use Rattle.decoder.specs.declared.Decoder.{Decoder}
@@ -39,10 +40,6 @@ offered c = bitsOf (c .input) (c .first) (c .count)
 -- Number 4 does not apply, by the lengths of store, tray and list, and the first free word: it is not past the list's end.
 abbrev pub buffersFit : ℕ → ℕ → ℕ → ℕ → Bool
 buffersFit store tray list free = eqb store storeLength && (eqb tray trayLength && leb free list)
-
--- Number 5 does not apply, by the input's length and the range.
-abbrev pub rangeFits : ℕ → ℕ → ℕ → Bool
-rangeFits input first count = leb input inputLimit && leb (first + count) (8 * input)
 
 -- Number 6 does not apply, by the next cycle and the count.
 abbrev pub clockFits : ℕ → ℕ → Bool
@@ -84,14 +81,17 @@ lent d c = systemOf d (c .store) (c .tray)
 unfoldable pub takenOf : Decoder → Call → CallResult
 takenOf d c = finished 0 0 (c .list) (c .free) (runOf turnOf (offered c) (lent d c) (length (c .list) - c .free))
 
--- "The lowest number wins".
-unfoldable pub takeOf : Decoder → Call → CallResult
-takeOf d c =
+-- "The lowest number wins". The bytes that an input may have are a parameter here, so that a promise can speak of another limit.
+abbrev pub takeWithin : ℕ → Decoder → Call → CallResult
+takeWithin limit d c =
     cond (not (soundOf d)) (refused d c Unsound)
     (cond (not (buffersFit (length (c .store)) (length (c .tray)) (length (c .list)) (c .free))) (refused d c WrongBuffers)
-    (cond (not (rangeFits (length (c .input)) (c .first) (c .count))) (refused d c WrongRange)
+    (cond (not (rangeFitsWithin limit (length (c .input)) (c .first) (c .count))) (refused d c WrongRange)
     (cond (not (clockFits (d .next) (c .count))) (refused d c ClockOver)
     (takenOf d c))))
+
+unfoldable pub takeOf : Decoder → Call → CallResult
+takeOf = takeWithin inputLimit
 
 -- The refusal number of each ending; 0 is none.
 abbrev pub endingNumber : Ending → ℕ

@@ -7,7 +7,7 @@ ghost use Rattle.limits.specs.Limits.{clockLimit, storeLength, listUnit};
 ghost use Rattle.controller.specs.Records.{headOf};
 ghost use Rattle.controller.specs.Requests.{requestFits};
 ghost use Rattle.calls.specs.Perform.{performResult, performedWith, performOf};
-ghost use Rattle.calls.specs.Take.{takenWith, decoderAfter, buffersFit, rangeFits, endingNumber};
+ghost use Rattle.calls.specs.Take.{takenWith, decoderAfter, buffersFit, endingNumber};
 use controller::Cycle;
 use controller::Record;
 use decoder::Decoder;
@@ -73,20 +73,6 @@ pub fn buffers_fit(store: &[u32], tray: &[u8], list: &[u64], free: usize) -> boo
     let store_fits = store.len() == Decoder::STORE_LENGTH;
     let tray_fits = tray.len() == Decoder::TRAY_LENGTH;
     store_fits & (tray_fits & (free <= list.len()))
-}
-
-// Whether the input is not too long and the range ends within it; no sum here can wrap.
-pub fn range_fits(input: &[u8], first: usize, count: usize) -> bool
-    ensures { λ r. ⌜ r ≡ rangeFits (length (now (input .entry))) first count ⌝ }
-{
-    if Decoder::INPUT_LIMIT < input.len() {
-        return false;
-    }
-    let end = 8 * input.len();
-    if end < first {
-        return false;
-    }
-    count <= end - first
 }
 
 impl Taken {

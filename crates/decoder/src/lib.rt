@@ -148,7 +148,7 @@ impl Decoder {
     // The words of a record in the list.
     pub const LIST_UNIT: usize = 2;
     // The longest input of a call, in bytes.
-    pub const INPUT_LIMIT: usize = 65536;
+    pub const INPUT_LIMIT: usize = bits::INPUT_LIMIT;
 
     // The start state of a plan at a cycle.
     fn opened_at(plan: Plan, cycle: u64) -> Decoder

@@ -60,13 +60,17 @@ answered image result l =
 abbrev pub soundImage : List ℕ → Bool
 soundImage image = imageFits image && soundOf (stateOf image)
 
--- Number 3 also for an image that is malformed, number 4 also where the result has no three words.
-unfoldable pub takeResultOf : List ℕ → List ℕ → Call → TakeResult
-takeResultOf image result c =
+-- Number 3 also for an image that is malformed, number 4 also where the result has no three words. The call on the state is a parameter here, so that a
+-- promise can speak of another.
+abbrev pub takeResultBy : (Decoder → Call → CallResult) → List ℕ → List ℕ → Call → TakeResult
+takeResultBy take image result c =
     cond (soundImage image)
-    (cond (eqb (length result) resultLength) (answered image result (takeOf (stateOf image) c))
+    (cond (eqb (length result) resultLength) (answered image result (take (stateOf image) c))
     (refusedCall 4 image result c))
     (refusedCall 3 image result c)
+
+unfoldable pub takeResultOf : List ℕ → List ℕ → Call → TakeResult
+takeResultOf = takeResultBy takeOf
 
 -- The words are an image that reads as the state, and that the next call takes.
 pub record Holds (image : List ℕ) (d : Decoder) : Type 0 where

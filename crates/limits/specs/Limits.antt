@@ -17,6 +17,6 @@ trayLength = 8192
 abbrev pub listUnit : ℕ
 listUnit = 2
 
--- The longest input of a call, in bytes.
+-- "Inputs up to 1,048,576 bytes" (document 02, F-6): the longest input of a call, for every number 5.
 abbrev pub inputLimit : ℕ
-inputLimit = 65536
+inputLimit = 1048576

@@ -17,8 +17,8 @@ use Rattle.image.specs.Image.{imageLength, imageOf, stateOf, Widths}
 use Rattle.image.proofs.RoundTrip.{image-fits, read-back}
 use Rattle.image.proofs.WellFormed.{formed, formed-fits}
 use Rattle.kernelstill.specs.Open.{emptyPlan, openResultOf}
-use Rattle.kernelstill.specs.Take.{TakeResult, resultLength, refusedCall, answered, soundImage, takeResultOf}
-use Rattle.promises.specs.Hosts.{RoundTrip, SameOpening, Unchanged, HostPromise}
+use Rattle.kernelstill.specs.Take.{TakeResult, resultLength, refusedCall, answered, soundImage, takeResultBy, takeResultOf}
+use Rattle.promises.specs.Hosts.{RoundTrip, SameOpening, Unchanged, HostAsBefore, HostPromise}
 use Rattle.promises.proofs.Refusals.{first-demand}
 
 round-trip : (d : Decoder) → Widths d → RoundTrip d
@@ -56,6 +56,10 @@ module _ (image result : List ℕ) (c : Call) where
   unchanged-by true false e f = λ some. rw (e, f)
   unchanged-by true true e f = subst Kept (sym (whole e f)) (handed-kept (stateOf image))
 
+  as-before : HostAsBefore image result c
+  unfolding takeResultOf
+  as-before h = ap (λ (l : CallResult). takeResultBy (λ _ _. l) image result c) (first-demand .as-before (stateOf image) c h)
+
 module _ (mask csr feen cnt cycle : ℕ) (image : List ℕ) (long : length image ≡ imageLength) where
   same-opening : SameOpening mask csr feen cnt cycle image
   unfolding openResultOf
@@ -76,4 +80,5 @@ host-promise = record {
   empty-refused = empty-refused;
   same-call = λ d w result long c. same-by d w result long c (soundOf d) refl;
   unchanged = λ image result c. unchanged-by image result c (soundImage image) (eqb (length result) resultLength) refl refl;
+  as-before = as-before;
 }

@@ -26,7 +26,7 @@ use Rattle.hexlines.specs.Digits.{isDigit, allDigits, bytesOf}
 use Rattle.hexlines.specs.Line as lines
 use Rattle.hexlines.specs.Line.{LineMeaning, Read, countFits, lineMeaning, readOf, readInto}
 use Rattle.promises.specs.Refusals.{firstOf, threeInMask, threeDiffer, takingRows, wrongCharacter, someWrong, hexRows, readingRows, readAs}
-use Rattle.promises.specs.Refusals.{Opens, Takes, LineMeans, ReadsLine, FirstDemand}
+use Rattle.promises.specs.Refusals.{Opens, Takes, AsBefore, LineMeans, ReadsLine, FirstDemand}
 
 -- tests turned round
 not-leb-by : (a b : ℕ) (t : Bool) → ltb b a ≡ t → not (leb a b) ≡ ltb b a
@@ -125,6 +125,11 @@ module _ (d : Decoder) (c : Call) where
         through = λ h. t .through (rows ∙ h);
       }
 
+-- Up to the old limit neither limit is passed.
+as-before : (d : Decoder) (c : Call) → AsBefore d c
+unfolding takeOf
+as-before d c h = rw (le-leb (length (c .input)) inputLimit (omega (arith, h)), le-leb (length (c .input)) 65536 h)
+
 -- A line's rows, by its two tests.
 digits-row : (line : List ℕ) → not (allDigits line) ≡ someWrong line
 digits-row [] = refl
@@ -214,6 +219,7 @@ first-demand = record {
   limits = record { clock = refl; store = refl; tray = refl; input = refl; unit = refl };
   opens = opens;
   takes = takes;
+  as-before = as-before;
   means = means;
   reads = reads;
 }

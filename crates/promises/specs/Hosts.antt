@@ -3,16 +3,16 @@
 use mathlib.Core.Path.{_≡_}
 use mathlib.Core.Bool.{true, false}
 use mathlib.Core.List.{List, _∷_, _++_}
-use Prim.Native.Nat.{ℕ}
+use Prim.Native.Nat.{ℕ, _≤_}
 use lib.ListN.{length, replicate}
 use Rattle.registers.specs.Plan.{planFits}
 use Rattle.decoder.specs.declared.Decoder.{Decoder}
 use Rattle.decoder.specs.Opening.{openOf, openingNumber}
-use Rattle.calls.specs.Take.{Call, takeOf}
+use Rattle.calls.specs.Take.{Call, takeWithin, takeOf}
 use Rattle.image.specs.Fields.{whole, bits, upTo}
 use Rattle.image.specs.Image.{layout, wordLimits, imageLength, imageOf, stateOf, imageFits, Widths, Formed}
 use Rattle.kernelstill.specs.Open.{emptyPlan, planOf, openResultOf}
-use Rattle.kernelstill.specs.Take.{resultLength, refusedCall, answered, takeResultOf}
+use Rattle.kernelstill.specs.Take.{resultLength, refusedCall, answered, takeResultBy, takeResultOf}
 
 -- The image of a state is well-formed, and read back it is that state.
 pub record RoundTrip (d : Decoder) : Type 0 where
@@ -36,6 +36,10 @@ Unchanged image result c =
     let after = takeResultOf image result c in
     (after .number ≡ 0 → ⊥) → after ≡ refusedCall (after .number) image result c
 
+-- "A call with at most 65,536 bytes answers as before" (document 02, F-6), whatever words the image and the result have.
+abbrev pub HostAsBefore : List ℕ → List ℕ → Call → Type 0
+HostAsBefore image result c = length (c .input) ≤ 65536 → takeResultOf image result c ≡ takeResultBy (takeWithin 65536) image result c
+
 -- What is well-formed by the round trip is well-formed by widths, and the other way round.
 pub record ByWidths (image : List ℕ) : Type 0 where
   pub only : imageFits image ≡ true → Formed image
@@ -58,3 +62,4 @@ pub record HostPromise : Type 0 where
   pub empty-refused : planFits emptyPlan ≡ false
   pub same-call : (d : Decoder) → Widths d → SameCall d
   pub unchanged : (image result : List ℕ) (c : Call) → Unchanged image result c
+  pub as-before : (image result : List ℕ) (c : Call) → HostAsBefore image result c

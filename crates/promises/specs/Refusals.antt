@@ -4,7 +4,7 @@ use mathlib.Core.Path.{_≡_}
 use mathlib.Core.Bool.{Bool, false, cond, not, _&&_, _||_}
 use mathlib.Core.List.{List, [], _∷_}
 use Prim.Native.Char.{code}
-use Prim.Native.Nat.{ℕ, _+_, _*_, _%_, _^_}
+use Prim.Native.Nat.{ℕ, _+_, _*_, _%_, _^_, _≤_}
 use lib.Dec.{leb, ltb, eqb}
 use lib.ListN.{length}
 use lib.Seq.{sets}
@@ -15,7 +15,7 @@ use Rattle.decoder.specs.declared.Decoder.{Decoder}
 use Rattle.decoder.specs.Opening.{openedAt, openOf, openingNumber}
 use Rattle.decoder.specs.Sound.{soundOf}
 use Rattle.calls.specs.declared.Ending.{Ending}
-use Rattle.calls.specs.Take.{Call, refused, takenOf, takeOf, endingNumber}
+use Rattle.calls.specs.Take.{Call, refused, takenOf, takeWithin, takeOf, endingNumber}
 use Rattle.hexlines.specs.Digits.{bytesOf}
 use Rattle.hexlines.specs.Line.{Read, lineMeaning, readInto}
 
@@ -32,12 +32,12 @@ abbrev pub firstOf : List Row → ℕ
 firstOf [] = 0
 firstOf (r ∷ rs) = cond (r .applies) (r .number) (firstOf rs)
 
--- The limits of document 01, in numbers.
+-- The limits of document 01, that of the input by document 02, F-6, in numbers.
 pub record Limits : Type 0 where
   pub clock : clockLimit ≡ 2 ^ 48
   pub store : storeLength ≡ 2048
   pub tray : trayLength ≡ 8192
-  pub input : inputLimit ≡ 65536
+  pub input : inputLimit ≡ 1048576
   pub unit : listUnit ≡ 2
 
 -- The rows checked at an opening.
@@ -93,6 +93,10 @@ pub record Takes (d : Decoder) (c : Call) : Type 0 where
   pub rejected : eqb (firstOf (takingRows d c)) 0 ≡ false → (ending : Ending) × (takeOf d c ≡ refused d c ending)
   pub through : firstOf (takingRows d c) ≡ 0 → takeOf d c ≡ takenOf d c
 
+-- "A call with at most 65,536 bytes answers as before" (document 02, F-6): answer and buffers are those of the call with that limit in F-6's place.
+abbrev pub AsBefore : Decoder → Call → Type 0
+AsBefore d c = length (c .input) ≤ 65536 → takeOf d c ≡ takeWithin 65536 d c
+
 -- The rows of a call that reads a line into a lent buffer: number 4 where the buffer has fewer bytes than the longest line (ours: document 01 names no
 -- buffer for a line), then the line's own.
 abbrev pub readingRows : List ℕ → List ℕ → List Row
@@ -119,5 +123,6 @@ pub record FirstDemand : Type 0 where
   pub limits : Limits
   pub opens : (plan : Plan) (cycle : ℕ) → Opens plan cycle
   pub takes : (d : Decoder) (c : Call) → Takes d c
+  pub as-before : (d : Decoder) (c : Call) → AsBefore d c
   pub means : (line : List ℕ) → LineMeans line
   pub reads : (line buffer : List ℕ) → ReadsLine line buffer

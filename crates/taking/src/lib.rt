@@ -75,7 +75,7 @@ pub fn take(
     if !calls::buffers_fit(store, tray, list, free) {
         return Taken::refused(decoder, Ending::WrongBuffers);
     }
-    if !calls::range_fits(input, first, count) {
+    if !bits::range_fits(input, first, count) {
         return Taken::refused(decoder, Ending::WrongRange);
     }
     if Decoder::CLOCK_LIMIT - decoder.next < count as u64 {

@@ -23,4 +23,5 @@ taking-examples =
       commands-give = record { counted = refl; given = refl };
       sound-gives = record { counted = refl; given = refl };
       calls-give = record { counted = refl; given = refl };
+      ranges-give = record { counted = refl; given = refl };
     }

@@ -79,14 +79,14 @@ table =
     ∷ callRow running (lent lv1s 0 5 2048 8191 sevens 0) (refused 4) sevens
     ∷ callRow running (lent lv1s 0 5 2048 8193 sevens 0) (refused 4) sevens
     ∷ callRow running (lent lv1s 0 5 2048 8192 sevens 6) (refused 4) sevens
-    -- number 5: "input is over 65,536 bytes, or the range passes its end"
+    -- number 5, "the range passes its end"; inputs at their limit are in `RangeTable`
     ∷ callRow running (lent lv1s 0 16 2048 8192 sevens 1) (full 10 2) (7 ∷ 0x040105 ∷ 0x0004 ∷ 0x090105 ∷ 0x0109 ∷ [])
     ∷ callRow running (lent lv1s 0 17 2048 8192 sevens 1) (refused 5) sevens
     ∷ callRow running (lent lv1s 7 10 2048 8192 sevens 1) (refused 5) sevens
     ∷ callRow running (lent lv1s 17 0 2048 8192 sevens 1) (refused 5) sevens
     ∷ callRow running (lent (replicate 65536 0) 524288 0 2048 8192 sevens 0) (done 0 0) sevens
     ∷ callRow running (lent (replicate 65536 0) 524287 2 2048 8192 sevens 0) (refused 5) sevens
-    ∷ callRow running (lent (replicate 65537 0) 0 1 2048 8192 sevens 0) (refused 5) sevens
+    ∷ callRow running (lent (replicate 65537 0) 0 1 2048 8192 sevens 0) (done 1 0) sevens
     -- number 6, "next cycle + count exceeds 2^48": "From cycle 2^48 - 1 one bit is taken; two are number 6."
     ∷ callRow (next 0xFFFFFFFFFFFF ∷ []) (lent lv1s 0 1 2048 8192 sevens 0) (done 1 0) sevens
     ∷ callRow (next 0xFFFFFFFFFFFF ∷ []) (lent lv1s 0 2 2048 8192 sevens 0) (refused 6) sevens

@@ -7,4 +7,5 @@ pub mod ChipTable
 pub mod CommandTable
 pub mod SoundTable
 pub mod CallTable
+pub mod RangeTable
 pub mod WorkedExamples

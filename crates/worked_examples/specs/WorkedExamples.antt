@@ -7,6 +7,7 @@ use Rattle.worked_examples.specs.ChipTable as chip
 use Rattle.worked_examples.specs.CommandTable as commands
 use Rattle.worked_examples.specs.SoundTable as sound
 use Rattle.worked_examples.specs.CallTable as calls
+use Rattle.worked_examples.specs.RangeTable as ranges
 
 -- The marked streams, all rows together.
 abbrev pub MarkedStreams : Type 0
@@ -19,3 +20,4 @@ pub record TakingExamples : Type 0 where
   pub commands-give : Gives 26 commands.table
   pub sound-gives : Gives 101 sound.table
   pub calls-give : Table calls.callShown calls.callExpected 28 calls.table
+  pub ranges-give : Table ranges.rangeShown ranges.rangeExpected 18 ranges.table

@@ -1,9 +1,9 @@
 -- `range_fits` is the definition's test, with no sum that could wrap.
 -- Assumes nothing.
 use borrow.Author.Needs.{needs}
-use Rattle.calls.proofs.Ranges.{too-long, past-end, within}
-use Rattle.calls.proofs.range_fits.Statement.{statement}
-use Rattle.calls.proofs.range_fits.Tie as tie
+use Rattle.bits.proofs.Ranges.{too-long, past-end, within}
+use Rattle.bits.proofs.range_fits.Statement.{statement}
+use Rattle.bits.proofs.range_fits.Tie as tie
 
 returns : tie.Need-returns
 returns c = too-long _ _ _ (c .if1 .taken)

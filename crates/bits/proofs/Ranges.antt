@@ -6,18 +6,19 @@ use Prim.Native.Nat.{ℕ, _+_, _*_, _-_, _<_, _≤_}
 use native.Mathlib.Omega.{arith}
 use lib.Dec.{leb}
 use borrow.Author.Tests.{le-leb, lt-leb, leb-true, leb-false}
-use Rattle.calls.specs.Take.{rangeFits}
+use Rattle.limits.specs.Limits.{inputLimit}
+use Rattle.bits.specs.Range.{rangeFits}
 
 module _ (input first count : ℕ) where
-  pub too-long : 65536 < input → false ≡ rangeFits input first count
-  too-long h = simp (lt-leb input 65536 h)
+  pub too-long : inputLimit < input → false ≡ rangeFits input first count
+  too-long h = simp (lt-leb input inputLimit h)
 
-  pub past-end : input ≤ 65536 → 8 * input < first → false ≡ rangeFits input first count
-  past-end h g = simp (le-leb input 65536 h, lt-leb (first + count) (8 * input) (omega arith))
+  pub past-end : input ≤ inputLimit → 8 * input < first → false ≡ rangeFits input first count
+  past-end h g = simp (le-leb input inputLimit h, lt-leb (first + count) (8 * input) (omega arith))
 
   same-test : (b : Bool) → leb count (8 * input - first) ≡ b → first ≤ 8 * input → leb (first + count) (8 * input) ≡ b
   same-test true e h = le-leb (first + count) (8 * input) (let g = leb-true count (8 * input - first) e in omega arith)
   same-test false e h = lt-leb (first + count) (8 * input) (let g = leb-false count (8 * input - first) e in omega arith)
 
-  pub within : input ≤ 65536 → first ≤ 8 * input → leb count (8 * input - first) ≡ rangeFits input first count
-  within h g = simp (le-leb input 65536 h, same-test (leb count (8 * input - first)) refl g)
+  pub within : input ≤ inputLimit → first ≤ 8 * input → leb count (8 * input - first) ≡ rangeFits input first count
+  within h g = simp (le-leb input inputLimit h, same-test (leb count (8 * input - first)) refl g)
