@@ -15,7 +15,7 @@ use Rattle.decoder.specs.Sound.{soundOf}
 use Rattle.decoder.proofs.Soundness.{sound-parts}
 use Rattle.calls.specs.declared.Ending.{Ending}
 use Rattle.calls.specs.declared.Ending.the-variants.{Unsound, WrongBuffers, WrongRange, ClockOver}
-use Rattle.calls.specs.Take.{Call, CallResult, refused, buffersFit, clockFits, takenOf, takeOf}
+use Rattle.calls.specs.Take.{Call, CallResult, refused, buffersFit, clockFits, takenOf, takeWithin, takeOf}
 
 -- The tests of a call.
 abbrev pub buffers : Call → Bool
@@ -56,6 +56,10 @@ module _ (d : Decoder) (c : Call) where
 
         pub taken : clockFits (d .next) (c .count) ≡ true → takeOf d c ≡ takenOf d c
         taken k = fit-so-far ∙ passed-where (clockFits (d .next) (c .count)) ClockOver (takenOf d c) k
+
+-- a limit of the input that is not passed does not matter
+pub limits-agree : (d : Decoder) (c : Call) (a b : ℕ) → length (c .input) ≤ a → length (c .input) ≤ b → takeWithin a d c ≡ takeWithin b d c
+limits-agree d c a b h g = rw (le-leb (length (c .input)) a h, le-leb (length (c .input)) b g)
 
 -- the clock's test without a sum that could wrap
 pub clock-short : (next count : ℕ) → next ≤ clockLimit → clockLimit - next < count → clockFits next count ≡ false

@@ -21,7 +21,7 @@ use Rattle.calls.specs.declared.Ending.the-variants.{Unsound, WrongBuffers, Wro
 use Rattle.calls.specs.Turn.{turnOf}
 use Rattle.calls.specs.Take.{Call, CallResult, offered, lent, refused, clockFits, takenOf, takeOf, endingNumber}
 use Rattle.calls.proofs.RunEndings.{run-ended}
-use Rattle.calls.proofs.Refusals.{buffers, range, unsound, wrong-buffers, wrong-range, clock-over, taken}
+use Rattle.calls.proofs.Refusals.{buffers, range, unsound, wrong-buffers, wrong-range, clock-over, taken, limits-agree}
 use Rattle.hexlines.specs.Digits.{isDigit, allDigits, bytesOf}
 use Rattle.hexlines.specs.Line as lines
 use Rattle.hexlines.specs.Line.{LineMeaning, Read, countFits, lineMeaning, readOf, readInto}
@@ -128,7 +128,7 @@ module _ (d : Decoder) (c : Call) where
 -- Up to the old limit neither limit is passed.
 as-before : (d : Decoder) (c : Call) → AsBefore d c
 unfolding takeOf
-as-before d c h = rw (le-leb (length (c .input)) inputLimit (omega (arith, h)), le-leb (length (c .input)) 65536 h)
+as-before d c h = limits-agree d c inputLimit _ (omega (arith, h)) h
 
 -- A line's rows, by its two tests.
 digits-row : (line : List ℕ) → not (allDigits line) ≡ someWrong line
