@@ -40,7 +40,7 @@ extern "C" {
 #define KERNELSTILL_STORE_WORDS 2048     /* the FIFO words, exactly */
 #define KERNELSTILL_TRAY_BYTES 8192      /* the frame bits, exactly */
 #define KERNELSTILL_RESULT_WORDS 3       /* the result of a taking call, exactly */
-#define KERNELSTILL_INPUT_BYTES 65536    /* the input of a call, at most */
+#define KERNELSTILL_INPUT_BYTES 1048576  /* the input of a call, at most */
 #define KERNELSTILL_RECORD_WORDS 2       /* a record in the list */
 #define KERNELSTILL_RECORD_LINE_BYTES 28 /* a record's line, with its line feed */
 #define KERNELSTILL_LINE_BYTES 32        /* the bytes of a hexadecimal line, at most */
@@ -58,7 +58,7 @@ extern "C" {
 #define KERNELSTILL_WRONG_CYCLE 2     /* the opening cycle is 2^48 or more */
 #define KERNELSTILL_UNSOUND 3         /* the image has another length, is malformed, or its state is unsound */
 #define KERNELSTILL_WRONG_BUFFERS 4   /* a slice does not have the length asked for, or the first free word is past the list's end */
-#define KERNELSTILL_WRONG_RANGE 5     /* the input is too long, or the range passes its end */
+#define KERNELSTILL_WRONG_RANGE 5     /* the input is over 1,048,576 bytes, or the range passes its end */
 #define KERNELSTILL_CLOCK_OVER 6      /* next cycle + count exceeds 2^48 */
 #define KERNELSTILL_WRONG_CHARACTER 7 /* a character of a hexadecimal line is not 0-9 or A-F */
 #define KERNELSTILL_WRONG_LENGTH 8    /* its digits are odd in number, or above 64 */

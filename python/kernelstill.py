@@ -44,7 +44,7 @@ digits are in lower case, and then a bit is asked for that is not there:
 ...     decoder.take(b"", 0, 1)
 ... except Refused as refused:
 ...     print(refused.number, "-", refused)
-5 - refused with 5: the input is too long, or the range passes its end
+5 - refused with 5: the input is over 1,048,576 bytes, or the range passes its end
 
 The library is the file that KERNELSTILL_LIBRARY names, or else
 lib/libkernelstill.so beside this module's folder, where host/build puts it.
@@ -81,7 +81,7 @@ __version__ = "1.1.0"
 
 # As kernelstill.h has them.
 CLOCK_LIMIT = 1 << 48
-INPUT_BYTES = 65_536
+INPUT_BYTES = 1_048_576
 _LAYOUT = 1
 _IMAGE_WORDS = 68
 _STORE_WORDS = 2_048
@@ -96,6 +96,10 @@ _FIFO_WORDS = _STORE_WORDS // _FIFOS
 
 # Records that one call of the library can write; fewer only cost more calls.
 _LIST_RECORDS = 512
+
+# What `read` takes at once. It holds a block's records until they are asked
+# for, and a mebibyte can bring 1.7 million.
+_BLOCK_BYTES = 65_536
 
 # The image's words, the store's words and the tray.
 _SAVED = struct.Struct(f"<{_IMAGE_WORDS}Q{_STORE_WORDS}I{_TRAY_BYTES}s")
@@ -125,7 +129,7 @@ REFUSALS = {
     2: "the opening cycle is 2^48 or more",
     3: "the image has another length, is malformed, or its state is unsound",
     4: "a slice has another length, or the first free word is past the list's end",
-    5: "the input is too long, or the range passes its end",
+    5: f"the input is over {INPUT_BYTES:,} bytes, or the range passes its end",
     6: "next cycle + count exceeds 2^48",
     7: "a character is not 0-9 or A-F",
     8: "the count of digits is odd, or above 64",
@@ -441,7 +445,7 @@ class Decoder:
         """Takes `count` bits from bit `first` on, or all from there, the
         highest of each byte first, and gives their records.
 
-        At most 65,536 bytes; `read` takes more. Refused with 5 or 6.
+        At most 1,048,576 bytes; `read` takes more. Refused with 5 or 6.
         """
         first = _unsigned(first, "first")
         if count is not None:
@@ -508,7 +512,7 @@ class Decoder:
         taken.
         """
         block = getattr(file, "read1", file.read)
-        for data in iter(lambda: block(INPUT_BYTES), b""):
+        for data in iter(lambda: block(_BLOCK_BYTES), b""):
             yield from self.take(data)
 
     @property

@@ -181,7 +181,7 @@ class Cuts(unittest.TestCase):
 
     def test_file(self):
         self.assertEqual(listing(Decoder().read(io.BytesIO(CAPTURE))), LISTING)
-        size = 3 * INPUT_BYTES + 7
+        size = 3 * kernelstill._BLOCK_BYTES + 7
         data = random.Random(1).getrandbits(8 * size).to_bytes(size, "big")
         decoder, by_blocks = Decoder(), Decoder()
         taken = [r for at in range(0, len(data), 999) for r in decoder.take(data[at : at + 999])]
@@ -306,9 +306,28 @@ class Refusals(unittest.TestCase):
         self.unchanged(decoder, 5, CAPTURE, 1, 8 * len(CAPTURE))
         self.unchanged(decoder, 5, CAPTURE, 8 * len(CAPTURE) + 1, 0)
         self.unchanged(decoder, 5, CAPTURE, 2**64 - 1, 2**64 - 1)
-        self.unchanged(decoder, 5, bytes(INPUT_BYTES + 1), 0, 1)
-        self.assertEqual(decoder.take(bytes(INPUT_BYTES), 8 * INPUT_BYTES), [])
+        for size in (65_536, 65_537, INPUT_BYTES - 1, INPUT_BYTES):
+            self.assertEqual(decoder.take(bytes(size), 8 * size), [])
+            self.unchanged(decoder, 5, bytes(size), 8 * size, 1)
+            self.unchanged(decoder, 5, bytes(size), 8 * size + 1, 0)
+            self.unchanged(decoder, 5, bytes(size), 8 * size - 1, 2)
+            self.unchanged(decoder, 5, bytes(size), 1, 2**64 - 1)
         self.assertEqual(decoder.state.next_cycle, 1000)
+        for size in (INPUT_BYTES + 1, INPUT_BYTES + 2):
+            self.unchanged(decoder, 5, bytes(size), 0, 1)
+            self.unchanged(decoder, 5, bytes(size), 0, 0)
+
+    def test_longest_input(self):
+        # A mebibyte at once and in parts; the refusal of a longer one says how long it may be.
+        data = random.Random(6).getrandbits(8 * INPUT_BYTES).to_bytes(INPUT_BYTES, "big")
+        whole, parts = Decoder(), Decoder()
+        records = whole.take(data)
+        self.assertEqual(whole.state.next_cycle, 8 * INPUT_BYTES)
+        taken = [r for at in range(0, len(data), 65_536) for r in parts.take(data[at : at + 65_536])]
+        self.assertEqual(records, taken)
+        self.assertEqual(whole.save(), parts.save())
+        with self.assertRaisesRegex(Refused, "over 1,048,576 bytes"):
+            whole.take(data + b"\0")
 
     def test_clock(self):
         decoder = Decoder(cycle=CLOCK_LIMIT - 1)
@@ -328,8 +347,9 @@ class Refusals(unittest.TestCase):
 
     def test_clock_within_a_file(self):
         # The second block has one bit too many.
-        decoder = Decoder(cycle=CLOCK_LIMIT - 8 * (INPUT_BYTES + len(CAPTURE)) + 1)
-        data = CAPTURE + bytes(INPUT_BYTES - len(CAPTURE)) + CAPTURE
+        block = kernelstill._BLOCK_BYTES
+        decoder = Decoder(cycle=CLOCK_LIMIT - 8 * (block + len(CAPTURE)) + 1)
+        data = CAPTURE + bytes(block - len(CAPTURE)) + CAPTURE
         taken = []
         with self.assertRaises(Refused) as caught:
             for record in decoder.read(io.BytesIO(data)):

@@ -1,6 +1,6 @@
 //! The proved taking call against plain Rust readers that go bit by bit: one
-//! mebibyte each of zeros, dense commands and long frames, in turns in one run. Prints
-//! nanoseconds a bit (the fastest turn of each) and the ratios.
+//! mebibyte each of zeros and of dense commands in one call, and of long frames, in
+//! turns in one run. Prints nanoseconds a bit (the fastest turn of each) and the ratios.
 
 mod plain;
 mod streams;
@@ -9,7 +9,6 @@ use bench::{take_fresh, Buffers};
 use reader::{open, take, Plan};
 use std::time::Instant;
 
-const CALL: usize = 65_536;
 const TURNS: usize = 40;
 
 fn proved(input: &[u8], b: &mut Buffers) -> usize {
@@ -48,7 +47,7 @@ fn buffers() -> Buffers {
     Buffers {
         store: vec![0; 2048],
         tray: vec![0; 8192],
-        list: vec![0; 4 * CALL],
+        list: vec![0; 4 * streams::BYTES],
     }
 }
 

@@ -1,17 +1,17 @@
 //! The benchmark's inputs, each as the inputs of its calls.
 
-const BYTES: usize = 1 << 20;
-const CALL: usize = 65_536;
+/// The longest input of a call.
+pub const BYTES: usize = 1 << 20;
 
-/// One mebibyte of idle line.
+/// One mebibyte of idle line, in one call.
 pub fn zeros() -> Vec<Vec<u8>> {
-    vec![vec![0; CALL]; BYTES / CALL]
+    vec![vec![0; BYTES]]
 }
 
-/// One mebibyte of commands as dense as the timing table allows; each call's
-/// part begins with an EnDataTake, so that they are acted on.
+/// One mebibyte of commands as dense as the timing table allows, in one call;
+/// it begins with an EnDataTake, so that they are acted on.
 pub fn dense() -> Vec<Vec<u8>> {
-    vec![dense_call(); BYTES / CALL]
+    vec![dense_call()]
 }
 
 /// About one mebibyte of the longest front-end frames, CNT FFFF, one a call:
@@ -58,13 +58,13 @@ fn dense_call() -> Vec<u8> {
     ];
     'fill: loop {
         for c in commands {
-            if bits.len() + c.len() > 8 * CALL {
+            if bits.len() + c.len() > 8 * BYTES {
                 break 'fill;
             }
             bits.extend(digits(c));
         }
     }
-    bits.resize(8 * CALL, 0);
+    bits.resize(8 * BYTES, 0);
     packed(&mut bits)
 }
 
