@@ -44,11 +44,13 @@ pub fn commands_at(at: Addresses, random: &mut Random, count: usize) -> Stream {
     stream
 }
 
-/// So many bits of commands with random zeros between them, of every kind
-/// but the frames, at which a call would stop. The last one may be cut.
+/// So many bits: whole commands of every kind but the frames, at which a call
+/// would stop, with random zeros between them and zeros at the end.
 pub fn without_frames(random: &mut Random, count: usize) -> Stream {
-    let mut stream = Stream::new().en_data_take();
-    while stream.bits.len() < count {
+    // A gap and a command have fewer bits.
+    const MOST: usize = 80;
+    let mut stream = Stream::new();
+    while stream.bits.len() + MOST <= count {
         stream = stream.zeros(gap(random));
         stream = match random.below(24) {
             0..=7 => stream.lv1(),
@@ -59,8 +61,8 @@ pub fn without_frames(random: &mut Random, count: usize) -> Stream {
             _ => slow_without_frame(stream, random),
         };
     }
-    stream.bits.truncate(count);
-    stream
+    let rest = count - stream.bits.len();
+    stream.zeros(rest)
 }
 
 /// An LV1 with each of its bits inverted.
