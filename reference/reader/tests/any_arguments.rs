@@ -3,7 +3,8 @@
 
 use cases::Random;
 use reader::group::Group;
-use reader::{frame_part, open, sound, take, Ending, Plan, Recogniser, State, Warnings};
+use reader::{frame_part, open, sound, take};
+use reader::{Answer, Ending, Plan, Recogniser, State, Warnings};
 
 const EDGES: [u64; 16] = [
     0,
@@ -151,6 +152,27 @@ impl Part {
     }
 }
 
+/// What holds of every answer, with a list whose words were 7.
+fn check_answer(state: &State, part: &Part, list: &[u64], first_free: u64, answer: &Answer) {
+    if let Ending::Refused(number) = answer.ending {
+        assert_eq!(sound(state), number != 3);
+        assert!(number < 5 || part.fits() == (number == 6));
+        assert_eq!(&answer.state, state);
+        assert_eq!((answer.bits_taken, answer.records_written), (0, 0));
+        assert!(list.iter().all(|&word| word == 7));
+        return;
+    }
+    assert!(sound(state) && sound(&answer.state) && part.fits());
+    assert_eq!(
+        answer.state.next_cycle,
+        state.next_cycle + answer.bits_taken
+    );
+    let used = first_free..first_free + 2 * answer.records_written;
+    for (place, &word) in (0..).zip(list) {
+        assert!(used.contains(&place) || word == 7);
+    }
+}
+
 #[test]
 fn any_call() {
     let mut random = Random::new(5);
@@ -178,25 +200,12 @@ fn any_call() {
             &mut list,
             first_free,
         );
+        check_answer(&state, &part, &list, first_free, &answer);
         if let Ending::Refused(number) = answer.ending {
             refused[usize::from(number)] += 1;
-            assert_eq!(sound(&state), number != 3);
-            assert!(number < 5 || part.fits() == (number == 6));
-            assert_eq!(answer.state, state);
-            assert_eq!((answer.bits_taken, answer.records_written), (0, 0));
-            assert!(list.iter().all(|&word| word == 7));
-            continue;
-        }
-        accepted += 1;
-        long += u32::from(part.bytes > 65_536);
-        assert!(sound(&state) && sound(&answer.state) && part.fits());
-        assert_eq!(
-            answer.state.next_cycle,
-            state.next_cycle + answer.bits_taken
-        );
-        let used = first_free..first_free + 2 * answer.records_written;
-        for (place, &word) in (0..).zip(&list) {
-            assert!(used.contains(&place) || word == 7);
+        } else {
+            accepted += 1;
+            long += u32::from(part.bytes > 65_536);
         }
     }
     assert!(accepted > 10_000 && long > 1_000, "{accepted} {long}");
