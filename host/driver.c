@@ -30,7 +30,7 @@ _Static_assert(__BYTE_ORDER__ == __ORDER_LITTLE_ENDIAN__, "words stand lowest by
 enum function { OPEN = 1, TAKE, FRAME_BITS, FRAME_PART, HEX_LINE, RECORD_LINE };
 
 #define MOST_SLICES 6
-#define MOST_ELEMENTS (UINT64_C(1) << 20) /* a request beyond it is malformed */
+#define MOST_ELEMENTS (UINT64_C(1) << 22) /* a request beyond it is malformed */
 #define CALL_SECONDS 60                   /* a call that takes longer ends the driver */
 #define BUFFER_BYTES (1 << 20)
 #define AHEAD 0xA5 /* what stands ahead of a slice in its first page */

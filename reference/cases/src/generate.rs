@@ -44,6 +44,44 @@ pub fn commands_at(at: Addresses, random: &mut Random, count: usize) -> Stream {
     stream
 }
 
+/// So many bits: whole commands of every kind but the frames, at which a call
+/// would stop, with random zeros between them and zeros at the end.
+pub fn without_frames(random: &mut Random, count: usize) -> Stream {
+    // A gap and a command have fewer bits.
+    const MOST: usize = 80;
+    let mut stream = Stream::new();
+    while stream.bits.len() + MOST <= count {
+        stream = stream.zeros(gap(random));
+        stream = match random.below(24) {
+            0..=7 => stream.lv1(),
+            8..=11 => stream.fast([BCR, ECR, CAL, SYNC][random.below(4) as usize]),
+            12 => stream.fast(bad_body(random)),
+            13 | 14 => stream.pattern(FLIPPED[random.below(5) as usize]),
+            15..=17 => stream.en_data_take(),
+            _ => slow_without_frame(stream, random),
+        };
+    }
+    let rest = count - stream.bits.len();
+    stream.zeros(rest)
+}
+
+/// An LV1 with each of its bits inverted.
+const FLIPPED: [&str; 5] = ["01101", "10101", "11001", "11111", "11100"];
+
+fn slow_without_frame(stream: Stream, random: &mut Random) -> Stream {
+    let nibble = random.below(16) as u8;
+    match random.below(8) {
+        0 | 1 => stream.wr_register(nibble, random.word() as u16),
+        2 => stream.rd_register(nibble),
+        3 | 4 => stream.wr_fifo(random.word() as u32),
+        5 => stream.rd_fifo(nibble),
+        6 => stream.reset_fe(nibble),
+        _ if random.one_in(8) => stream.reset_mcc(),
+        // A bad Slow.
+        _ => stream.slow(nibble | 11, nibble),
+    }
+}
+
 /// A body that is neither a Fast nor the Slow header's.
 fn bad_body(random: &mut Random) -> u8 {
     [0, 3, 5, 6, 7, 9, 10, 12, 13, 14, 15][random.below(11) as usize]

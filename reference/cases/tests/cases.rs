@@ -1,6 +1,7 @@
 //! The cases: names, repeatability, and what they cover.
 
-use cases::{fixed, generated, Case};
+use cases::generate::without_frames;
+use cases::{fixed, generated, Case, Random};
 use std::collections::HashSet;
 
 #[test]
@@ -21,6 +22,14 @@ fn names_serve_as_file_names() {
 fn generated_cases_repeat() {
     let inputs = |count| generated(count).into_iter().map(|case| case.input);
     assert!(inputs(20).eq(inputs(40).take(20)));
+}
+
+#[test]
+fn a_stream_without_frames_has_its_count_of_bits() {
+    for count in [0, 1, 79, 80, 81, 1_000, 99_999] {
+        let stream = without_frames(&mut Random::new(1), count);
+        assert_eq!(stream.bits.len(), count);
+    }
 }
 
 #[test]

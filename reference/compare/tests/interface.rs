@@ -9,14 +9,14 @@ use compare::interface::image::{first_is_unspecified, image, state, uses};
 use compare::interface::layout::{self, at, largest, IMAGE_WORDS, LAYOUT, RECOGNISER};
 use compare::interface::states::{random_cycle, random_state, PLANS};
 use compare::interface::streams::addresses;
-use compare::interface::{checker, fit, prefilled};
+use compare::interface::{checker, fit, large, prefilled};
 use compare::tally::Tally;
 use reader::limits::{input_fits, CLOCK_LIMIT, RECORD_WORDS, STORE_WORDS, TRAY_BYTES};
 use reader::listing::push_record;
 use reader::record::{flag, kind};
 use reader::{hex_line, open, recogniser, slow, sound, take};
 use reader::{Ending, Plan, Recogniser, Record, State};
-use std::collections::BTreeMap;
+use std::collections::{BTreeMap, BTreeSet};
 use std::path::Path;
 
 /// The C header of the repository.
@@ -336,6 +336,69 @@ fn an_image_of_which_no_bit_is_taken_stays_word_for_word() {
             assert_eq!(expected.unspecified, [], "{name}");
         }
     }
+}
+
+/// The records of a capture that is lent whole from cycle 0, with room for
+/// all of them, and in how many calls they came.
+fn read_whole(capture: &[u8]) -> (Vec<Record>, usize) {
+    let mut state = State::start(Plan::DEFAULT, 0);
+    let (mut store, mut tray) = (vec![0; STORE_WORDS], vec![0; TRAY_BYTES]);
+    let mut list = vec![0; 2 * capture.len()];
+    let (mut first, mut free, mut calls) = (0, 0, 0);
+    loop {
+        let count = 8 * capture.len() as u64 - first;
+        let answer = take(
+            state, capture, first, count, &mut store, &mut tray, &mut list, free,
+        );
+        calls += 1;
+        state = answer.state;
+        first += answer.bits_taken;
+        free += RECORD_WORDS as u64 * answer.records_written;
+        match answer.ending {
+            Ending::Frame => {}
+            Ending::Done => break,
+            other => panic!("{other:?}"),
+        }
+    }
+    let words = list[..free as usize].chunks_exact(RECORD_WORDS);
+    let record = |words: &[u64]| Record::from_words([words[0], words[1]]);
+    (words.map(record).collect(), calls)
+}
+
+#[test]
+fn one_call_takes_the_large_capture_of_every_kind_but_frames() {
+    let capture = large::commands(&mut Random::new(80)).bytes();
+    assert_eq!(capture.len(), layout::INPUT_BYTES);
+    let (records, calls) = read_whole(&capture);
+    assert_eq!(calls, 1);
+    let seen: BTreeSet<u8> = records.iter().map(|record| record.kind).collect();
+    for (name, kind) in kinds() {
+        let is_frame = (0x24..=0x26).contains(&kind);
+        assert_eq!(seen.contains(&kind), !is_frame, "{name}");
+    }
+    let flags = records.iter().fold(0, |all, record| all | record.flags);
+    let all = flag::ACTED_ON | flag::FLIP | flag::SENT | flag::MISSING;
+    assert_eq!(flags, all);
+    let last = records.last().expect("records");
+    assert_eq!((last.time, last.kind), (large::BITS as u64 - 1, kind::LV1));
+}
+
+#[test]
+fn the_frames_of_the_large_capture_lie_where_they_are_meant_to() {
+    let capture = large::with_frames(&mut Random::new(81)).bytes();
+    assert_eq!(capture.len(), layout::INPUT_BYTES);
+    let (records, calls) = read_whole(&capture);
+    assert_eq!(calls, 4);
+    let frames = records
+        .iter()
+        .filter_map(|record| Some((record.kind, record.frame_bits()?, record.time)));
+    let end = large::BITS as u64;
+    let expected = [
+        (0x24, 8_247, 8 * 65_536 + 998),
+        (0x25, 8_247, end / 2 + 4_320),
+        (0x26, 65_528, end - 1),
+    ];
+    assert_eq!(frames.collect::<Vec<_>>(), expected);
 }
 
 /// A taking call as it is expected to be afterwards.

@@ -3,7 +3,8 @@
 //! library, and knows nothing of the reader that is compared with it.
 //!
 //! "Document 01" is the paper that decides; comments cite its section names,
-//! and the code stays close to its words.
+//! and the code stays close to its words. "Document 02" holds the requests
+//! that change it, cited by their numbers.
 
 #![forbid(unsafe_code)]
 

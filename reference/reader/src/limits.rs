@@ -20,7 +20,9 @@ pub const RECORD_WORDS: usize = 2;
 pub const FIFO_WORD_BITS: u32 = 27;
 pub const FIFO_WORD_MASK: u32 = (1 << FIFO_WORD_BITS) - 1;
 
-const INPUT_BYTES: usize = 65_536;
+/// The longest input: a mebibyte (document 02, F-6). Number 5 of document 01
+/// began at 65,537 bytes.
+const INPUT_BYTES: usize = 1_048_576;
 
 /// Number 5's rule on the input's length alone.
 pub fn input_fits(bytes: usize) -> bool {

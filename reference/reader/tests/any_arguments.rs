@@ -3,7 +3,8 @@
 
 use cases::Random;
 use reader::group::Group;
-use reader::{frame_part, open, sound, take, Ending, Plan, Recogniser, State, Warnings};
+use reader::{frame_part, open, sound, take};
+use reader::{Answer, Ending, Plan, Recogniser, State, Warnings};
 
 const EDGES: [u64; 16] = [
     0,
@@ -23,6 +24,9 @@ const EDGES: [u64; 16] = [
     1 << 48,
     u64::MAX,
 ];
+
+/// The longest input (document 02, F-6).
+const LONGEST: usize = 1_048_576;
 
 /// Often an edge, sometimes anything.
 fn edge(random: &mut Random) -> u64 {
@@ -109,56 +113,102 @@ fn any_state(random: &mut Random) -> State {
     state
 }
 
+/// An input's length and a range.
+struct Part {
+    bytes: usize,
+    first_bit: u64,
+    count: u64,
+}
+
+impl Part {
+    /// A short input or one about a limit. The range is somewhere at its
+    /// start, about its end, or anything, also with a sum that would wrap.
+    fn any(random: &mut Random) -> Part {
+        let bytes = match random.below(8) {
+            0 => 65_535 + random.below(3) as usize,
+            1 => LONGEST - 1 + random.below(4) as usize,
+            _ => 200,
+        };
+        let bits = 8 * bytes as u64;
+        let far = [0, 1, bits, bits + 1, u64::MAX - bits, u64::MAX - 7];
+        let far = |random: &mut Random| far[random.below(6) as usize];
+        let (first_bit, count) = match random.below(8) {
+            0 => (edge(random), edge(random)),
+            1 => (far(random), far(random)),
+            2 => (bits - random.below(40), random.below(41)),
+            _ => (random.below(800), random.below(801)),
+        };
+        Part {
+            bytes,
+            first_bit,
+            count,
+        }
+    }
+
+    /// Whether number 5 does not apply.
+    fn fits(&self) -> bool {
+        let end = u128::from(self.first_bit) + u128::from(self.count);
+        self.bytes <= LONGEST && end <= 8 * self.bytes as u128
+    }
+}
+
+/// What holds of every answer, with a list whose words were 7.
+fn check_answer(state: &State, part: &Part, list: &[u64], first_free: u64, answer: &Answer) {
+    if let Ending::Refused(number) = answer.ending {
+        assert_eq!(sound(state), number != 3);
+        assert!(number < 5 || part.fits() == (number == 6));
+        assert_eq!(&answer.state, state);
+        assert_eq!((answer.bits_taken, answer.records_written), (0, 0));
+        assert!(list.iter().all(|&word| word == 7));
+        return;
+    }
+    assert!(sound(state) && sound(&answer.state) && part.fits());
+    assert_eq!(
+        answer.state.next_cycle,
+        state.next_cycle + answer.bits_taken
+    );
+    let used = first_free..first_free + 2 * answer.records_written;
+    for (place, &word) in (0..).zip(list) {
+        assert!(used.contains(&place) || word == 7);
+    }
+}
+
 #[test]
 fn any_call() {
     let mut random = Random::new(5);
-    let (mut accepted, mut refused) = (0, [0; 7]);
-    let input: Vec<u8> = (0..200).map(|_| random.word() as u8).collect();
+    let (mut accepted, mut long, mut refused) = (0, 0, [0; 7]);
+    let room: Vec<u8> = (0..LONGEST + 2).map(|_| random.word() as u8).collect();
     let mut store: Vec<u32> = (0..2_049).map(|_| random.word() as u32).collect();
     let mut tray: Vec<u8> = (0..8_193).map(|_| random.word() as u8).collect();
-    for _ in 0..200_000 {
+    for _ in 0..300_000 {
         let state = any_state(&mut random);
         let mut list = vec![7; random.below(12) as usize];
         let store_length = 2_048 + usize::from(random.one_in(50));
         let tray_length = 8_192 - usize::from(random.one_in(50));
-        let (first_bit, count) = match random.below(4) {
-            0 => (edge(&mut random), edge(&mut random)),
-            _ => (random.below(800), random.below(801)),
-        };
+        let part = Part::any(&mut random);
         let first_free = match random.below(8) {
             0 => edge(&mut random),
             _ => random.below(list.len() as u64 + 1),
         };
         let answer = take(
             state.clone(),
-            &input,
-            first_bit,
-            count,
+            &room[..part.bytes],
+            part.first_bit,
+            part.count,
             &mut store[..store_length],
             &mut tray[..tray_length],
             &mut list,
             first_free,
         );
+        check_answer(&state, &part, &list, first_free, &answer);
         if let Ending::Refused(number) = answer.ending {
             refused[usize::from(number)] += 1;
-            assert_eq!(sound(&state), number != 3);
-            assert_eq!(answer.state, state);
-            assert_eq!((answer.bits_taken, answer.records_written), (0, 0));
-            assert!(list.iter().all(|&word| word == 7));
-            continue;
-        }
-        accepted += 1;
-        assert!(sound(&state) && sound(&answer.state));
-        assert_eq!(
-            answer.state.next_cycle,
-            state.next_cycle + answer.bits_taken
-        );
-        let used = first_free..first_free + 2 * answer.records_written;
-        for (place, &word) in (0..).zip(&list) {
-            assert!(used.contains(&place) || word == 7);
+        } else {
+            accepted += 1;
+            long += u32::from(part.bytes > 65_536);
         }
     }
-    assert!(accepted > 10_000, "{accepted}");
+    assert!(accepted > 10_000 && long > 1_000, "{accepted} {long}");
     assert!(refused[3..].iter().all(|&count| count > 100), "{refused:?}");
 }
 

@@ -104,6 +104,59 @@ fn other_inputs_with_the_same_bits() {
     }
 }
 
+/// The longest input, in bits (document 02, F-6), and document 01's.
+const LONGEST: usize = 8 * 1_048_576;
+const OLD_LONGEST: usize = 8 * 65_536;
+
+/// The same bits anywhere in an input of a mebibyte, also across the end of
+/// document 01's longest one and up to the very end.
+#[test]
+fn the_same_bits_within_a_mebibyte() {
+    let mut random = Random::new(3);
+    let noise = Stream::new().raw(&generate::bits(&mut random, LONGEST as u32));
+    for round in 0..6 {
+        let stream = random_stream(&mut random, round % 3);
+        let start = random_start(&mut random);
+        let mut alone = start.clone();
+        let records = alone.read(&stream);
+        let count = stream.bits.len();
+        let across = OLD_LONGEST - random.below(count as u64) as usize;
+        for place in [0, 1, across, OLD_LONGEST, LONGEST - count] {
+            let mut longer = noise.clone();
+            longer.bits[place..place + count].copy_from_slice(&stream.bits);
+            let mut reader = start.clone();
+            let within = reader.read_part(&longer.bytes(), place as u64, count as u64, 1_000);
+            assert_eq!((&within, &reader), (&records, &alone), "from bit {place}");
+        }
+    }
+}
+
+/// A mebibyte of commands in one call, in calls of document 01's longest
+/// input, and cut at random places.
+#[test]
+fn a_mebibyte_at_once_and_in_parts() {
+    let mut random = Random::new(4);
+    let stream = generate::without_frames(&mut random, LONGEST - 5).lv1();
+    let start = random_start(&mut random);
+    let mut whole = start.clone();
+    let room = LONGEST / 8;
+    let records = whole.read_part(&stream.bytes(), 0, LONGEST as u64, room);
+    // One call: neither was the list filled, nor was there a frame.
+    let one_call = records.len() < room && whole.frames.is_empty();
+    assert!(one_call && records.len() > 400_000, "{}", records.len());
+
+    let mut reader = start.clone();
+    let mut parts = Vec::new();
+    for part in stream.bytes().chunks(OLD_LONGEST / 8) {
+        parts.extend(reader.read_part(part, 0, OLD_LONGEST as u64, 1_000));
+    }
+    assert!(parts == records && reader == whole, "in 16 calls");
+
+    let mut reader = start;
+    let cut = read_cut(&mut reader, &stream, &mut random, 100_000, 1_000);
+    assert!(cut == records && reader == whole, "at random places");
+}
+
 /// Cut at each place of a stream that has every command.
 #[test]
 fn one_cut_at_every_place() {

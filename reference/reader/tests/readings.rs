@@ -604,3 +604,37 @@ fn the_last_cycle_has_a_record() {
     assert_eq!(records[0].words(), [0xFFFF_FFFF_FFFF_0105, 0xFF]);
     assert_eq!(reader.state.next_cycle, CLOCK_LIMIT);
 }
+
+/// Document 02, F-6: one call takes a mebibyte. One LV1 lies across the end
+/// of document 01's longest input, one at the very end.
+#[test]
+fn a_mebibyte_in_one_call() {
+    const OLD_BITS: usize = 8 * 65_536;
+    const BITS: usize = 8 * 1_048_576;
+    let stream = Stream::new().en_data_take();
+    let across = stream.zeros(OLD_BITS - 2 - 17).lv1();
+    let stream = across.zeros(BITS - 5 - (OLD_BITS + 3)).lv1();
+    let bytes = stream.bytes();
+    assert_eq!(bytes.len(), 1_048_576);
+    let mut lent = Reader::opened();
+    let mut list = [0; 8];
+    let answer = take(
+        lent.state,
+        &bytes,
+        0,
+        BITS as u64,
+        &mut lent.store,
+        &mut lent.tray,
+        &mut list,
+        0,
+    );
+    let taken = (answer.bits_taken, answer.records_written, answer.ending);
+    assert_eq!(taken, (BITS as u64, 3, Ending::Done));
+    let records = [
+        rec(16, 0x28, 0x01, 0),
+        rec(OLD_BITS as u64 + 2, 0x01, 0x05, 0x0002),
+        rec(BITS as u64 - 1, 0x01, 0x05, 0x01FF),
+    ];
+    assert_eq!(list[..6], records.map(|record| record.words()).concat());
+    assert_eq!(answer.state.next_cycle, BITS as u64);
+}

@@ -1,5 +1,6 @@
 //! The refusal table of "A taking call": each number just inside and just
-//! outside, the order of numbers, and that a refusal changes nothing.
+//! outside, the order of numbers, and that a refusal changes nothing. Number
+//! 5 has the limit of document 02, F-6.
 
 mod common;
 
@@ -9,6 +10,10 @@ use reader::limits::CLOCK_LIMIT;
 use reader::{hex_line, open, take, Ending, Plan, State};
 
 const DEFAULT: Plan = Plan::DEFAULT;
+
+/// The longest input, in bytes: by document 01, and by document 02, F-6.
+const OLD_LIMIT: usize = 65_536;
+const LIMIT: usize = 1_048_576;
 
 #[test]
 fn number_1() {
@@ -167,7 +172,7 @@ const UNFIT: [(u8, Change); 22] = [
     (4, |call| call.tray.clear()),
     (4, |call| call.first_free = 7),
     (4, |call| call.first_free = u64::MAX),
-    (5, |call| call.input = vec![0; 65_537]),
+    (5, |call| call.input = vec![0; LIMIT + 1]),
     (5, |call| call.input.clear()),
     (5, |call| call.first_bit = 1),
     (5, |call| call.first_bit = 9),
@@ -193,11 +198,8 @@ const FIT: [(Ending, Change); 12] = [
         (call.list, call.first_free) = (vec![], 0)
     }),
     (Ending::Done, |call| (call.first_bit, call.count) = (8, 0)),
-    (Ending::Done, |call| call.input = vec![0; 65_536]),
-    (Ending::Done, |call| {
-        call.input = vec![0; 65_536];
-        call.count = 8 * 65_536;
-    }),
+    (Ending::Done, |call| call.input = vec![0; OLD_LIMIT + 1]),
+    (Ending::Done, |call| call.input = vec![0; LIMIT]),
     (Ending::Done, |call| call.state.next_cycle = CLOCK_LIMIT - 8),
     (Ending::Done, |call| {
         call.state.next_cycle = CLOCK_LIMIT;
@@ -223,6 +225,59 @@ fn numbers_3_to_6_just_inside() {
     for (place, (ending, change)) in FIT.into_iter().enumerate() {
         assert_eq!(Call::good().with(change).ending(), ending, "change {place}");
     }
+}
+
+/// Number 5 in document 01's words, by a limit on the input's bytes: it "is
+/// over" the limit, "or the range passes its end". No sum here can wrap.
+fn number_5(limit: usize, bytes: usize, first_bit: u64, count: u64) -> bool {
+    bytes > limit || u128::from(first_bit) + u128::from(count) > 8 * bytes as u128
+}
+
+/// Ranges that end at the last bit, one past it and beyond all numbers, with
+/// sums of first bit and count that would wrap to a small number.
+fn ranges(bits: u64) -> Vec<(u64, u64)> {
+    const FAR: u64 = u64::MAX;
+    let before = bits.saturating_sub(1);
+    let mut ranges = Vec::new();
+    for first in [0, 1, before, bits, bits + 1, bits + 8, FAR - 7, FAR] {
+        let rest = bits.saturating_sub(first);
+        let to_zero = first.wrapping_neg();
+        let wrapping = [0, 1, bits].map(|sum| to_zero.wrapping_add(sum));
+        let counts = [0, 1, rest, rest + 1, FAR - 7, FAR].into_iter();
+        ranges.extend(counts.chain(wrapping).map(|count| (first, count)));
+    }
+    ranges.sort_unstable();
+    ranges.dedup();
+    ranges
+}
+
+/// Holds inputs of these lengths, with all their ranges, to a limit.
+fn check_lengths(limit: usize, lengths: &[usize]) {
+    for &bytes in lengths {
+        let mut call = Call::good().with(|call| call.input = vec![0; bytes]);
+        for (first_bit, count) in ranges(8 * bytes as u64) {
+            (call.first_bit, call.count) = (first_bit, count);
+            let expected = match number_5(limit, bytes, first_bit, count) {
+                true => Ending::Refused(5),
+                false => Ending::Done,
+            };
+            let range = format!("{count} bits from {first_bit} of {bytes} bytes");
+            assert_eq!(call.ending(), expected, "{range}");
+        }
+    }
+}
+
+#[test]
+fn number_5_begins_past_a_mebibyte() {
+    let longer = [OLD_LIMIT + 1, LIMIT - 1, LIMIT, LIMIT + 1, LIMIT + 2];
+    check_lengths(LIMIT, &longer);
+}
+
+/// Document 02, F-6: "a call with at most 65,536 bytes answers as before", so
+/// the rule with document 01's limit still decides for it.
+#[test]
+fn up_to_65_536_bytes_number_5_is_as_before() {
+    check_lengths(OLD_LIMIT, &[0, 1, 40, OLD_LIMIT - 1, OLD_LIMIT]);
 }
 
 #[test]

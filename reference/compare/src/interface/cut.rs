@@ -29,6 +29,17 @@ pub struct Outcome {
     tray: Vec<u8>,
 }
 
+impl Outcome {
+    pub fn of(records: Vec<[u64; 2]>, carried: Carried) -> Outcome {
+        Outcome {
+            records,
+            image: state(&carried.image).map(|state| image(&state)),
+            store: carried.store,
+            tray: carried.tray,
+        }
+    }
+}
+
 /// Takes all bits, or all that the clock has cycles for.
 pub fn run(
     checker: &mut Checker,
@@ -51,12 +62,7 @@ pub fn run(
         runner.piece(piece, random)?;
         place += length;
     }
-    Ok(Outcome {
-        records: runner.records,
-        image: state(&runner.carried.image).map(|state| image(&state)),
-        store: runner.carried.store,
-        tray: runner.carried.tray,
-    })
+    Ok(Outcome::of(runner.records, runner.carried))
 }
 
 /// Often short, now and then 0; long ones too, as frames are long.

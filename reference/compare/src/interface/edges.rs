@@ -19,13 +19,27 @@ pub fn check(checker: &mut Checker) -> io::Result<()> {
         let fit = fit::call(&image(&state), &mut random);
         let mut edges = buffers(&fit);
         edges.extend(lists(&fit, &mut random));
-        edges.extend(inputs(&fit, &mut random));
         edges.extend(ranges(&fit));
         edges.extend(clocks(&fit));
-        for (name, number, take) in edges {
-            let name = format!("edge, {phase}, {name}");
-            checker.check_number(name, number, &Call::Take(take))?;
+        for length in [INPUT_BYTES, INPUT_BYTES + 1] {
+            edges.extend(inputs(&fit, length, &mut random));
         }
+        check_all(checker, &phase, edges)?;
+    }
+    // In one state only, as they take long.
+    let fit = fit::call(&fit::hunting(), &mut random);
+    for length in long_lengths() {
+        let mut edges = inputs(&fit, length, &mut random);
+        edges.extend(past(&fit, length, &mut random));
+        check_all(checker, "any length", edges)?;
+    }
+    Ok(())
+}
+
+fn check_all(checker: &mut Checker, phase: &str, edges: Vec<Edge>) -> io::Result<()> {
+    for (name, number, take) in edges {
+        let name = format!("edge, {phase}, {name}");
+        checker.check_number(name, number, &Call::Take(take))?;
     }
     Ok(())
 }
@@ -82,36 +96,74 @@ fn lists(fit: &Take, random: &mut Random) -> Vec<Edge> {
     edges
 }
 
-/// The longest inputs, with ranges at their start and at their end. Where
-/// all bits are 0, a list of few words takes the whole of one.
-fn inputs(fit: &Take, random: &mut Random) -> Vec<Edge> {
-    let mut edges = Vec::new();
-    for length in INPUT_BYTES - 1..=INPUT_BYTES + 2 {
-        let bits = length as u64 * 8;
-        let number = if length <= INPUT_BYTES {
-            OK
-        } else {
-            WRONG_RANGE
-        };
-        let ends = [(0, 0), (0, 9), (3, 100), (bits - 100, 100), (bits, 0)];
-        let zeros = vec![0; length];
-        let mut add = |input: &[u8], first, count| {
-            let take = changed(fit, |take| {
-                (take.input, take.first, take.count) = (input.to_vec(), first, count);
-            });
-            let name = format!("{count} bits from {first} of {length} bytes");
-            edges.push((name, number, take));
-        };
-        for (first, count) in ends {
-            add(&prefilled::bytes(random, length), first, count);
-        }
-        add(&zeros, 0, bits);
-        add(&zeros, 7, bits - 7);
+/// By the input's bytes and the range, in numbers that no sum leaves.
+fn range_number(length: usize, first: u64, count: u64) -> u64 {
+    let end = u128::from(first) + u128::from(count);
+    if length <= INPUT_BYTES && end <= 8 * length as u128 {
+        OK
+    } else {
+        WRONG_RANGE
     }
-    edges
 }
 
-/// Ranges that end at the last bit, one past it and beyond all numbers.
+/// A call with another input and range.
+fn range(fit: &Take, input: &[u8], first: u64, count: u64) -> Edge {
+    let take = changed(fit, |take| {
+        (take.input, take.first, take.count) = (input.to_vec(), first, count);
+    });
+    let length = input.len();
+    let name = format!("{count} bits from {first} of {length} bytes");
+    (name, range_number(length, first, count), take)
+}
+
+/// A long input, with ranges at its start and at its end. Where all bits are
+/// 0, a list of few words takes the whole of one.
+fn inputs(fit: &Take, length: usize, random: &mut Random) -> Vec<Edge> {
+    let bits = length as u64 * 8;
+    let input = prefilled::bytes(random, length);
+    let zeros = vec![0; length];
+    let ends = [(0, 0), (0, 9), (3, 100), (bits - 100, 100), (bits, 0)];
+    let some = ends.map(|(first, count)| range(fit, &input, first, count));
+    let whole = [(0, bits), (7, bits - 7)];
+    let whole = whole.map(|(first, count)| range(fit, &zeros, first, count));
+    some.into_iter().chain(whole).collect()
+}
+
+/// Lengths about the limit, and about the one of document 01, up to which
+/// calls answer as before document 02, F-6.
+fn long_lengths() -> impl Iterator<Item = usize> {
+    (65_535..=65_537).chain(INPUT_BYTES - 1..=INPUT_BYTES + 2)
+}
+
+/// A long input, with ranges past its end by one bit and by far.
+fn past(fit: &Take, length: usize, random: &mut Random) -> Vec<Edge> {
+    let bits = length as u64 * 8;
+    let input = prefilled::bytes(random, length);
+    let by_one = [(0, bits + 1), (bits - 100, 101), (bits, 1), (bits + 1, 0)];
+    let past = by_one.into_iter().chain(far(bits));
+    past.map(|(first, count)| range(fit, &input, first, count))
+        .collect()
+}
+
+/// A first bit or a count near 2^64. Most sums would wrap to 0, or to the
+/// input's end.
+fn far(bits: u64) -> [(u64, u64); 9] {
+    const FAR: u64 = u64::MAX;
+    [
+        (0, FAR),
+        (1, FAR),
+        (8, FAR - 7),
+        (bits, bits.wrapping_neg()),
+        (FAR, 0),
+        (FAR, 1),
+        (FAR, FAR),
+        (FAR - 7, 8),
+        (FAR - 7, bits + 8),
+    ]
+}
+
+/// Ranges of short inputs that end at the last bit, one past it and beyond
+/// all numbers.
 fn ranges(fit: &Take) -> Vec<Edge> {
     let mut edges = Vec::new();
     for length in [0_usize, 1, 40] {
@@ -123,18 +175,7 @@ fn ranges(fit: &Take) -> Vec<Edge> {
             let wraps = first.wrapping_neg();
             let counts = [0, 1, rest, rest + 1, wraps, wraps.wrapping_add(bits)];
             for count in counts.into_iter().chain([1 << 61, 1 << 63, u64::MAX]) {
-                let take = changed(fit, |take| {
-                    take.input.truncate(length);
-                    (take.first, take.count) = (first, count);
-                });
-                let end = u128::from(first) + u128::from(count);
-                let number = if end <= u128::from(bits) {
-                    OK
-                } else {
-                    WRONG_RANGE
-                };
-                let name = format!("{count} bits from {first} of {bits}");
-                edges.push((name, number, take));
+                edges.push(range(fit, &fit.input[..length], first, count));
             }
         }
     }

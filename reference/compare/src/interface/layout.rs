@@ -6,7 +6,7 @@ pub const IMAGE_WORDS: usize = 68;
 pub const RESULT_WORDS: usize = 3;
 pub const RECORD_LINE_BYTES: usize = 28;
 pub const LINE_BYTES: usize = 32;
-pub const INPUT_BYTES: usize = 65_536;
+pub const INPUT_BYTES: usize = 1_048_576;
 pub const LAYOUT: u64 = 1;
 
 // The header's lengths are the papers'.

@@ -13,6 +13,7 @@ pub mod expected;
 pub mod fit;
 pub mod frames;
 pub mod image;
+pub mod large;
 pub mod layout;
 pub mod lines;
 pub mod malformed;
@@ -37,6 +38,7 @@ pub fn compare(driver: &Path, tally: &mut Tally) -> io::Result<()> {
         soundness::check(checker)?;
         malformed::check(checker)?;
         precedence::check(checker)?;
-        streams::check(checker)
+        streams::check(checker)?;
+        large::check(checker)
     })
 }
