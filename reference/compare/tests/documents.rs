@@ -51,7 +51,7 @@ fn quoted(text: &str) -> Vec<&str> {
         .collect()
 }
 
-/// A name such as `taking/specs/Take` or `taking/proofs/take`: a file of a
+/// A name such as `calls/specs/Take` or `taking/proofs/take`: a file of a
 /// crate, or the folder of a function's proof.
 fn names_a_file(word: &str) -> bool {
     let parts: Vec<&str> = word.split('/').collect();
@@ -74,7 +74,7 @@ fn file_is_there(word: &str) -> bool {
             .any(|e| path.with_extension(e).exists())
 }
 
-/// The names that follow a file's in a line: those in it, "`taking/specs/Take`:
+/// The names that follow a file's in a line: those in it, "`calls/specs/Take`:
 /// `takeOf`, `refused`", or other files of its folder, "`taking/proofs/take`,
 /// `run`".
 struct Named<'a> {
@@ -241,8 +241,8 @@ fn every_named_must_fail_edit_is_there() {
 
 #[test]
 fn a_file_that_is_not_there_is_found() {
-    assert!(names_a_file("taking/specs/Take") && file_is_there("taking/specs/Take"));
-    assert!(names_a_file("taking/specs/Taken") && !file_is_there("taking/specs/Taken"));
+    assert!(names_a_file("calls/specs/Take") && file_is_there("calls/specs/Take"));
+    assert!(names_a_file("calls/specs/Taken") && !file_is_there("calls/specs/Taken"));
     assert_eq!(
         edits("| a | b | c | d | taking: `time`, `idles`; image: `phases` |").len(),
         3
@@ -251,15 +251,15 @@ fn a_file_that_is_not_there_is_found() {
 
 #[test]
 fn a_name_in_another_file_is_found() {
-    let line = "| a | `taking/specs/Take`: `takeOf`, `runOf`, and `Call`, with `b`; `taking/proofs/take`, `run`, over `c` |";
+    let line = "| a | `calls/specs/Take`: `takeOf`, `runOf`, and `Call`, with `b`; `taking/proofs/take`, `run`, over `c` |";
     let of_files = named(line);
     assert_eq!(of_files.len(), 2);
     assert_eq!(of_files[0].inside, ["takeOf", "runOf", "Call"]);
     assert_eq!(of_files[1].beside, ["run"]);
     assert!(of_files[0].beside.is_empty() && of_files[1].inside.is_empty());
-    assert!(is_declared("taking/specs/Take", "takeOf") && is_declared("taking/specs/Take", "Call"));
+    assert!(is_declared("calls/specs/Take", "takeOf") && is_declared("calls/specs/Take", "Call"));
     // It is declared in another file, and used here.
-    assert!(is_declared("taking/specs/Run", "runOf") && !is_declared("taking/specs/Take", "runOf"));
+    assert!(is_declared("calls/specs/Run", "runOf") && !is_declared("calls/specs/Take", "runOf"));
 }
 
 #[test]
