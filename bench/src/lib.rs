@@ -39,9 +39,16 @@ pub struct Buffers {
     pub list: Vec<u64>,
 }
 
+/// What a call answers: both are 0 where it is refused.
+#[derive(Clone, Copy, PartialEq, Debug)]
+pub struct Taken {
+    pub bits: usize,
+    pub records: usize,
+}
+
 /// Opens with the default plan at cycle 0 and takes `count` bits from bit
-/// `first` on; answers the records written, 0 where the call is refused.
-pub fn take_fresh(input: &[u8], first: usize, count: usize, b: &mut Buffers, free: usize) -> usize {
+/// `first` on.
+pub fn take_fresh(input: &[u8], first: usize, count: usize, b: &mut Buffers, free: usize) -> Taken {
     let mut image = [0; 68];
     let mut result = [0; 3];
     // Each slice is lent for its call only, and no two overlap.
@@ -66,5 +73,8 @@ pub fn take_fresh(input: &[u8], first: usize, count: usize, b: &mut Buffers, fre
             result.len(),
         )
     };
-    result[1] as usize
+    Taken {
+        bits: result[0] as usize,
+        records: result[1] as usize,
+    }
 }

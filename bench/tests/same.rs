@@ -124,9 +124,13 @@ fn every_call_is_the_separate_readers() {
             &mut theirs.list,
             free,
         );
-        assert_eq!(written as u64, answer.records_written, "case {case}");
+        assert_eq!(written.bits as u64, answer.bits_taken, "case {case}");
+        assert_eq!(
+            written.records as u64, answer.records_written,
+            "case {case}"
+        );
         assert!(ours == theirs, "case {case}: buffers differ");
-        records += written;
+        records += written.records;
     }
     assert!(records > 100_000);
 }

@@ -1,7 +1,7 @@
 // What a taking call is made of: its refusals, its answer, and a request performed within it. The call itself, a loop over the bits, is in `taking`.
 ghost use mathlib.Core.Path.{_≡_};
 ghost use mathlib.Core.Bool.{true, false};
-ghost use Prim.Native.Nat.{_+_, _*_, _-_, _/_, _<_, _≤_};
+ghost use Prim.Native.Nat.{_+_, _-_, _/_, _<_, _≤_};
 ghost use lib.ListN.{length, set};
 ghost use Rattle.limits.specs.Limits.{clockLimit, storeLength, listUnit};
 ghost use Rattle.controller.specs.Records.{headOf};

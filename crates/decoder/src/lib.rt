@@ -147,8 +147,6 @@ impl Decoder {
     pub const TRAY_LENGTH: usize = 8192;
     // The words of a record in the list.
     pub const LIST_UNIT: usize = 2;
-    // The longest input of a call, in bytes.
-    pub const INPUT_LIMIT: usize = bits::INPUT_LIMIT;
 
     // The start state of a plan at a cycle.
     fn opened_at(plan: Plan, cycle: u64) -> Decoder

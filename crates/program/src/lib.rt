@@ -6,7 +6,7 @@ ghost use lib.ListN.{length};
 ghost use Rattle.limits.specs.Limits.{storeLength};
 ghost use Rattle.output.specs.Block.{blockLength, block, putAll};
 ghost use Rattle.program.specs.Listing.{stateLines};
-ghost use Rattle.program.specs.RunState.{start, snapshot, workLeft, canStep, WellFormed, StepReady, AfterTake, EndsLine, ScansLine, AfterSteps};
+ghost use Rattle.program.specs.RunState.{start, canStep, EndsLine, ScansLine};
 ghost use Rattle.program.specs.RunState.{messageOf, clockNumber, wantsInput, receivedOf, receivedBlock};
 use decoder::Decoder;
 use hexlines::LineSoFar;

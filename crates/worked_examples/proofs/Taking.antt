@@ -24,4 +24,5 @@ taking-examples =
       sound-gives = record { counted = refl; given = refl };
       calls-give = record { counted = refl; given = refl };
       ranges-give = record { counted = refl; given = refl };
+      before-gives = record { counted = refl; given = refl };
     }

@@ -4,7 +4,7 @@
 use mathlib.Core.Bool.{Bool, true, false}
 use mathlib.Core.List.{List, [], _∷_}
 use Prim.Native.Nat.{ℕ}
-use Rattle.bits.specs.Range.{rangeFits}
+use Rattle.bits.specs.Range.{rangeFitsWithin, rangeFits}
 
 -- A row: the input's bytes, the range's first bit and count of bits, and whether it is fit.
 pub record RangeRow : Type 0 where
@@ -21,6 +21,20 @@ rangeShown r = rangeFits (r .input) (r .first) (r .count)
 
 abbrev pub rangeExpected : RangeRow → Bool
 rangeExpected r = r .fits
+
+-- The same with the limit before F-6, which a promise compares with.
+abbrev pub beforeShown : RangeRow → Bool
+beforeShown r = rangeFitsWithin 65536 (r .input) (r .first) (r .count)
+
+abbrev pub beforeTable : List RangeRow
+beforeTable =
+    range 65535 0 524280 true
+    ∷ range 65536 0 524288 true
+    ∷ range 65536 524288 0 true
+    ∷ range 65536 0 524289 false
+    ∷ range 65537 0 0 false
+    ∷ range 1048576 0 1 false
+    ∷ []
 
 abbrev pub table : List RangeRow
 table =

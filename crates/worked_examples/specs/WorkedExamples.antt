@@ -21,3 +21,4 @@ pub record TakingExamples : Type 0 where
   pub sound-gives : Gives 101 sound.table
   pub calls-give : Table calls.callShown calls.callExpected 28 calls.table
   pub ranges-give : Table ranges.rangeShown ranges.rangeExpected 18 ranges.table
+  pub before-gives : Table ranges.beforeShown ranges.rangeExpected 6 ranges.beforeTable
