@@ -445,7 +445,8 @@ class Decoder:
         """Takes `count` bits from bit `first` on, or all from there, the
         highest of each byte first, and gives their records.
 
-        At most 1,048,576 bytes; `read` takes more. Refused with 5 or 6.
+        At most 1,048,576 bytes, which can bring 1.7 million records; for a
+        file, `read` takes less at once and holds fewer. Refused with 5 or 6.
         """
         first = _unsigned(first, "first")
         if count is not None:
