@@ -9,5 +9,6 @@ use Rattle.limits.specs.Limits.{inputLimit}
 abbrev pub rangeFitsWithin : ℕ → ℕ → ℕ → ℕ → Bool
 rangeFitsWithin limit input first count = leb input limit && leb (first + count) (8 * input)
 
+-- With the limit of F-6.
 abbrev pub rangeFits : ℕ → ℕ → ℕ → Bool
 rangeFits = rangeFitsWithin inputLimit

@@ -90,6 +90,7 @@ takeWithin limit d c =
     (cond (not (clockFits (d .next) (c .count))) (refused d c ClockOver)
     (takenOf d c))))
 
+-- The taking call, with the limit of document 02, F-6.
 unfoldable pub takeOf : Decoder → Call → CallResult
 takeOf = takeWithin inputLimit
 

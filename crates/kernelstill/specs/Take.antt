@@ -69,6 +69,7 @@ takeResultBy take image result c =
     (refusedCall 4 image result c))
     (refusedCall 3 image result c)
 
+-- On the taking call.
 unfoldable pub takeResultOf : List ℕ → List ℕ → Call → TakeResult
 takeResultOf = takeResultBy takeOf
 

@@ -1,4 +1,4 @@
--- The limits that "belong to the decoder itself" (document 01, "One cycle, one bit" and "A taking call").
+-- The limits of document 01 ("One cycle, one bit" and "A taking call") and, for the input, of document 02, F-6.
 -- Assumes nothing.
 use Prim.Native.Nat.{ℕ, _^_}
 

@@ -180,7 +180,7 @@ fn any_call() {
     let room: Vec<u8> = (0..LONGEST + 2).map(|_| random.word() as u8).collect();
     let mut store: Vec<u32> = (0..2_049).map(|_| random.word() as u32).collect();
     let mut tray: Vec<u8> = (0..8_193).map(|_| random.word() as u8).collect();
-    for _ in 0..300_000 {
+    for _ in 0..400_000 {
         let state = any_state(&mut random);
         let mut list = vec![7; random.below(12) as usize];
         let store_length = 2_048 + usize::from(random.one_in(50));

@@ -21,17 +21,16 @@ pub fn check(checker: &mut Checker) -> io::Result<()> {
         edges.extend(lists(&fit, &mut random));
         edges.extend(ranges(&fit));
         edges.extend(clocks(&fit));
-        for length in [INPUT_BYTES, INPUT_BYTES + 1] {
-            edges.extend(inputs(&fit, length, &mut random));
-        }
         check_all(checker, &phase, edges)?;
+        // A length at a time: they take much room.
+        for length in long_lengths() {
+            check_all(checker, &phase, inputs(&fit, length, &mut random))?;
+        }
     }
     // In one state only, as they take long.
     let fit = fit::call(&fit::hunting(), &mut random);
     for length in long_lengths() {
-        let mut edges = inputs(&fit, length, &mut random);
-        edges.extend(past(&fit, length, &mut random));
-        check_all(checker, "any length", edges)?;
+        check_all(checker, "any length", past(&fit, length, &mut random))?;
     }
     Ok(())
 }
@@ -120,10 +119,12 @@ fn range(fit: &Take, input: &[u8], first: u64, count: u64) -> Edge {
 /// 0, a list of few words takes the whole of one.
 fn inputs(fit: &Take, length: usize, random: &mut Random) -> Vec<Edge> {
     let bits = length as u64 * 8;
-    let input = prefilled::bytes(random, length);
     let zeros = vec![0; length];
     let ends = [(0, 0), (0, 9), (3, 100), (bits - 100, 100), (bits, 0)];
-    let some = ends.map(|(first, count)| range(fit, &input, first, count));
+    let some = ends.map(|(first, count)| {
+        let input = prefilled::bytes(random, length);
+        range(fit, &input, first, count)
+    });
     let whole = [(0, bits), (7, bits - 7)];
     let whole = whole.map(|(first, count)| range(fit, &zeros, first, count));
     some.into_iter().chain(whole).collect()
