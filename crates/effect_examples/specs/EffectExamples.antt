@@ -8,9 +8,9 @@ use Rattle.effect_examples.specs.FrameTable as frames
 use Rattle.effect_examples.specs.EffectTable as effects
 
 pub record EffectExamples : Type 0 where
-  pub registers-give : Gives 16 registers.table
+  pub registers-give : Gives 20 registers.table
   pub fifos-give : Gives 12 fifos.table
   pub counters-give : Gives 12 counters.table
   pub frames-give : Gives 17 frames.table
-  pub effects-give : Gives 28 effects.table
+  pub effects-give : Gives 29 effects.table
   pub parts-give : frames.FrameParts

@@ -11,10 +11,13 @@ use Rattle.worked_examples.specs.Example.{Row, row, done, frame}
 abbrev controller : List ℕ → List ℕ → List ℕ → List ℕ → List ℕ → List Cell
 controller counters warnings registers writes reads = wordsFrom 14 (counters ++ (warnings ++ (registers ++ (writes ++ reads))))
 
--- The registers of the default plan: CSR lets triggers be sent, FEEN is FIFOs 1 and 15, CNT is 8 control bits, or 8 bits of a WrReceiver. Those that are
--- missing hold 0.
+-- Registers 7 to 15 of the default plan: those that are missing, 11 to 15, hold 0.
+abbrev fromSeven : List ℕ
+fromSeven = 0x7777 ∷ 0x8888 ∷ 0x9999 ∷ 0xAAAA ∷ replicate 5 0
+
+-- All 16: CSR lets triggers be sent, FEEN is FIFOs 1 and 15, CNT is 8 control bits, or 8 bits of a WrReceiver.
 abbrev regs : List ℕ
-regs = 0x8081 ∷ 0x1111 ∷ 0x8002 ∷ 0x3333 ∷ 0x4444 ∷ 0x0001 ∷ 0x6666 ∷ replicate 9 0
+regs = 0x8081 ∷ 0x1111 ∷ 0x8002 ∷ 0x3333 ∷ 0x4444 ∷ 0x0001 ∷ 0x6666 ∷ fromSeven
 
 abbrev writes : List ℕ
 writes = 11 ∷ 12 ∷ 13 ∷ 14 ∷ 15 ∷ 16 ∷ 17 ∷ 18 ∷ 19 ∷ 20 ∷ 21 ∷ 22 ∷ 23 ∷ 24 ∷ 25 ∷ 26 ∷ []
@@ -75,10 +78,14 @@ table =
     ∷ from stopped ones (slow "1001" 0b1111 []) (done 17 1) (0x1102901 ∷ 0 ∷ []) (controller (0 ∷ 0 ∷ 0x110 ∷ []) (0 ∷ 0 ∷ 0 ∷ []) zeros zeros zeros)
     -- WrRegister: its register alone; to CSR it leaves the warnings; to a missing address, and RdRegister: nothing
     ∷ from running ones (wrRegister 3 0xABCD) (done 33 1) (0x1202001 ∷ 0x0003ABCD ∷ [])
-    (controller stopped ones (0x8081 ∷ 0x1111 ∷ 0x8002 ∷ 0xABCD ∷ 0x4444 ∷ 0x0001 ∷ 0x6666 ∷ replicate 9 0) writes reads)
+    (controller stopped ones (0x8081 ∷ 0x1111 ∷ 0x8002 ∷ 0xABCD ∷ 0x4444 ∷ 0x0001 ∷ 0x6666 ∷ fromSeven) writes reads)
     ∷ from running ones (wrRegister 0 0) (done 33 1) (0x1202001 ∷ 0 ∷ [])
-    (controller stopped ones (0 ∷ 0x1111 ∷ 0x8002 ∷ 0x3333 ∷ 0x4444 ∷ 0x0001 ∷ 0x6666 ∷ replicate 9 0) writes reads)
-    ∷ from running ones (wrRegister 9 0xABCD) (done 33 1) (0x1202008 ∷ 0x0009ABCD ∷ []) (controller stopped ones regs writes reads)
+    (controller stopped ones (0 ∷ 0x1111 ∷ 0x8002 ∷ 0x3333 ∷ 0x4444 ∷ 0x0001 ∷ 0x6666 ∷ fromSeven) writes reads)
+    ∷ from running ones (wrRegister 9 0xABCD) (done 33 1) (0x1202001 ∷ 0x0009ABCD ∷ [])
+    (controller stopped ones
+    (0x8081 ∷ 0x1111 ∷ 0x8002 ∷ 0x3333 ∷ 0x4444 ∷ 0x0001 ∷ 0x6666 ∷ 0x7777 ∷ 0x8888 ∷ 0xABCD ∷ 0xAAAA ∷ replicate 5 0)
+    writes reads)
+    ∷ from running ones (wrRegister 12 0xABCD) (done 33 1) (0x1202008 ∷ 0x000CABCD ∷ []) (controller stopped ones regs writes reads)
     ∷ from running ones (rdRegister 3) (done 33 1) (0x1202101 ∷ 0x00033333 ∷ []) (controller stopped ones regs writes reads)
     -- WrFifo: the write pointers of FIFOs 1 and 15; RdFifo: the read pointer of its FIFO
     ∷ from running ones (wrFifo 7) (done 44 1) (0x12B2201 ∷ 7 ∷ [])

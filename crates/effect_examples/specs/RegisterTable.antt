@@ -12,7 +12,7 @@ allSixteen =
     (0x10A0 ∷ 0x10A1 ∷ 0x10A2 ∷ 0x10A3 ∷ 0x10A4 ∷ 0x10A5 ∷ 0x10A6 ∷ 0x10A7
     ∷ 0x10A8 ∷ 0x10A9 ∷ 0x10AA ∷ 0x10AB ∷ 0x10AC ∷ 0x10AD ∷ 0x10AE ∷ 0x10AF ∷ [])
 
--- The default plan is mask 007F, CSR 0, FEEN 2, CNT 5.
+-- The default plan is mask 07FF, CSR 0, FEEN 2, CNT 5 (document 02, F-9).
 abbrev pub table : List Row
 table =
     -- WrRegister, kind 20, "address × 65,536 + the 16 bits that arrived"; RdRegister, kind 21, those that "were read"
@@ -26,10 +26,24 @@ table =
     ∷ row (register 3 0x00FF ∷ []) (wrRegister 1 0xEEEE ++ slow "0001" 3 (field 16 0xEEEE)) (done 66 2)
     (0x202001 ∷ 0x0001EEEE ∷ 0x412101 ∷ 0x000300FF ∷ [])
     (register 1 0xEEEE ∷ register 3 0x00FF ∷ [])
-    -- "WrRegister to a missing address changes nothing; RdRegister of one gives 0": flags 08 alone, for 7 and 15
-    ∷ row [] (wrRegister 7 0x1234 ++ rdRegister 7) (done 66 2)
+    -- "Most buyers now have registers 7 to 10" (document 02, F-9)
+    ∷ row [] (wrRegister 7 0x1234 ++ (wrRegister 8 0x2345 ++ (wrRegister 9 0x3456 ++ wrRegister 10 0x4567))) (done 132 4)
+    (0x202001 ∷ 0x00071234 ∷ 0x412001 ∷ 0x00082345 ∷ 0x622001 ∷ 0x00093456 ∷ 0x832001 ∷ 0x000A4567 ∷ [])
+    (register 7 0x1234 ∷ register 8 0x2345 ∷ register 9 0x3456 ∷ register 10 0x4567 ∷ [])
+    ∷ row (register 7 0x1234 ∷ register 8 0x2345 ∷ register 9 0x3456 ∷ register 10 0x4567 ∷ [])
+    (rdRegister 7 ++ (rdRegister 8 ++ (rdRegister 9 ++ rdRegister 10))) (done 132 4)
+    (0x202101 ∷ 0x00071234 ∷ 0x412101 ∷ 0x00082345 ∷ 0x622101 ∷ 0x00093456 ∷ 0x832101 ∷ 0x000A4567 ∷ [])
+    []
+    -- "WrRegister to a missing address changes nothing; RdRegister of one gives 0": flags 08 alone, for 11 and 15; with 007F by name, for 7 and 10
+    ∷ row [] (wrRegister 11 0x1234 ++ rdRegister 11) (done 66 2)
+    (0x202008 ∷ 0x000B1234 ∷ 0x412108 ∷ 0x000B0000 ∷ [])
+    (register 11 0 ∷ [])
+    ∷ row (mask 0x007F ∷ []) (wrRegister 7 0x1234 ++ rdRegister 7) (done 66 2)
     (0x202008 ∷ 0x00071234 ∷ 0x412108 ∷ 0x00070000 ∷ [])
     (register 7 0 ∷ [])
+    ∷ row (mask 0x007F ∷ []) (wrRegister 10 0x1234 ++ rdRegister 10) (done 66 2)
+    (0x202008 ∷ 0x000A1234 ∷ 0x412108 ∷ 0x000A0000 ∷ [])
+    (register 10 0 ∷ [])
     ∷ row [] (wrRegister 15 0xFFFF ++ rdRegister 15) (done 66 2)
     (0x202008 ∷ 0x000FFFFF ∷ 0x412108 ∷ 0x000F0000 ∷ [])
     (register 15 0 ∷ [])

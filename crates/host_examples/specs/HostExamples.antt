@@ -8,7 +8,7 @@ use Rattle.host_examples.specs.TextTable as texts
 
 -- Openings: the plans and cycles that are accepted, and those turned away.
 pub record OpeningExamples : Type 0 where
-  pub openings-give : Table openings.openingShown openings.openingExpected 17 openings.table
+  pub openings-give : Table openings.openingShown openings.openingExpected 18 openings.table
 
 -- The library for hosts: taking calls on an image, the image word by word, and buffers of other lengths.
 pub record HostExamples : Type 0 where

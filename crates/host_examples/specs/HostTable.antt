@@ -95,8 +95,8 @@ table =
     ∷ hostRow start (wrFrontEnd [] ++ lv1) 22 4 nines 0 (17 ∷ 1 ∷ 1 ∷ [])
     ∷ hostRow start (enDataTake ++ lv1) 22 3 nines 0 (17 ∷ 1 ∷ 2 ∷ [])
     -- 3: an image of another length or layout, with a word beyond its width (RunMode, L1ID, register 1), or of an unsound state
-    ∷ hostRow (1 ∷ 0x007F ∷ 0 ∷ 2 ∷ 5 ∷ replicate 62 0) lv1 5 4 nines 3 nines
-    ∷ hostRow (1 ∷ 0x007F ∷ 0 ∷ 2 ∷ 5 ∷ replicate 64 0) lv1 5 4 nines 3 nines
+    ∷ hostRow (1 ∷ 0x07FF ∷ 0 ∷ 2 ∷ 5 ∷ replicate 62 0) lv1 5 4 nines 3 nines
+    ∷ hostRow (1 ∷ 0x07FF ∷ 0 ∷ 2 ∷ 5 ∷ replicate 64 0) lv1 5 4 nines 3 nines
     ∷ hostRow (set start 0 2) lv1 5 4 nines 3 nines
     ∷ hostRow (set start 14 2) lv1 5 4 nines 3 nines
     ∷ hostRow (set start 15 255) lv1 5 4 nines 0 (5 ∷ 1 ∷ 0 ∷ [])
@@ -113,8 +113,8 @@ table =
 -- Buffers of other lengths, and a line in and out.
 pub record HostBuffers : Type 0 where
   -- an image of 67 words: 3, or the opening's own number
-  pub open-length : openResultOf 0x007F 0 2 5 0 (replicate 67 9) ≡ openResult 3 (replicate 67 9)
-  pub open-number : openResultOf 0x007F 2 2 5 0 (replicate 67 9) ≡ openResult 1 (replicate 67 9)
+  pub open-length : openResultOf 0x07FF 0 2 5 0 (replicate 67 9) ≡ openResult 3 (replicate 67 9)
+  pub open-number : openResultOf 0x07FF 2 2 5 0 (replicate 67 9) ≡ openResult 1 (replicate 67 9)
   -- a hexadecimal line wants 32 bytes of room
   pub hex-room : hexResultOf (ascii "B5C0") (replicate 31 9) ≡ lineResult 4 (replicate 31 9)
   pub hex-read : hexResultOf (ascii "B5C0") (replicate 32 9) ≡ lineResult 0 (0xB5 ∷ 0xC0 ∷ replicate 30 9)

@@ -27,7 +27,7 @@ opens mask csr feen cnt cycle = record {
   image = 1 ∷ mask ∷ csr ∷ feen ∷ cnt ∷ cycle ∷ (replicate 10 0 ++ (cycle ∷ replicate 51 0));
 }
 
--- "A refused opening gives the default start state at cycle 0": mask 007F, CSR 0, FEEN 2, CNT 5.
+-- "A refused opening gives the default start state at cycle 0": mask 07FF, CSR 0, FEEN 2, CNT 5.
 abbrev rejects : ℕ → ℕ → ℕ → ℕ → ℕ → ℕ → OpeningRow
 rejects number mask csr feen cnt cycle = record {
   mask = mask;
@@ -36,7 +36,7 @@ rejects number mask csr feen cnt cycle = record {
   cnt = cnt;
   cycle = cycle;
   number = number;
-  image = 1 ∷ 0x007F ∷ 0 ∷ 2 ∷ 5 ∷ replicate 63 0;
+  image = 1 ∷ 0x07FF ∷ 0 ∷ 2 ∷ 5 ∷ replicate 63 0;
 }
 
 abbrev pub openingShown : OpeningRow → ℕ × List ℕ
@@ -50,8 +50,10 @@ openingExpected r = (r .number, r .image)
 abbrev pub table : List OpeningRow
 table =
     -- the default plan, at the first cycle and at the last
-    opens 0x007F 0 2 5 0
-    ∷ opens 0x007F 0 2 5 0xFFFFFFFFFFFF
+    opens 0x07FF 0 2 5 0
+    ∷ opens 0x07FF 0 2 5 0xFFFFFFFFFFFF
+    -- 007F by name (document 02, F-9)
+    ∷ opens 0x007F 0 2 5 0
     -- other plans, in any order of the three
     ∷ opens 0x8421 15 5 10 0x123456
     ∷ opens 0xFFFF 15 14 13 1

@@ -22,5 +22,6 @@ program-promise = record {
   as-read = λ prints store tray out input turns long wide o i. turns-print prints store tray out input long wide i o turns;
   listing = refl;
   to-the-end = refl;
+  default-plan = refl;
   refused = refl;
 }

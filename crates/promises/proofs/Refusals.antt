@@ -217,6 +217,7 @@ module _ (line buffer : List ℕ) where
 pub first-demand : FirstDemand
 first-demand = record {
   limits = record { clock = refl; store = refl; tray = refl; input = refl; unit = refl };
+  default = record { mask = refl; csr = refl; feen = refl; cnt = refl };
   opens = opens;
   takes = takes;
   as-before = as-before;

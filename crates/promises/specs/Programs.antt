@@ -38,6 +38,8 @@ pub record ProgramPromise : Type 0 where
       ≡ ascii "000000000010 28 01 00000000\n"
       ++ (ascii "000000000015 01 05 00000015\n" ++ (ascii "00000000001C 01 07 0000011C\n" ++ ascii "000000000028 11 01 00000000\n"))
   pub to-the-end : stationOn (ascii "B5C074\nE0B080\n") .refusal ≡ noRefusal
+  -- "The default plan grows .. It reaches the station program" (document 02, F-9): register 10 exists, and 11 does not.
+  pub default-plan : stationOn (ascii "B585091A5AC2C48D00\n") .text ≡ ascii "000000000020 20 01 000A1234\n" ++ ascii "000000000041 20 08 000B1234\n"
   -- "A refused line prints "!", the number in two digits, a space, the line's number from 1 in eight, and ends the run."
   pub refused : stationOn (ascii "B5C074\nE0b080\nE0B080\n") .text
       ≡ ascii "000000000010 28 01 00000000\n" ++ (ascii "000000000015 01 05 00000015\n" ++ ascii "!07 00000002\n")

@@ -40,6 +40,13 @@ pub record Limits : Type 0 where
   pub input : inputLimit ≡ 1048576
   pub unit : listUnit ≡ 2
 
+-- The default plan in numbers: the addresses of document 01, "The register plan", and the mask of document 02, F-9.
+pub record DefaultPlan : Type 0 where
+  pub mask : defaultPlan .mask ≡ 0x07FF
+  pub csr : defaultPlan .csr ≡ 0
+  pub feen : defaultPlan .feen ≡ 2
+  pub cnt : defaultPlan .cnt ≡ 5
+
 -- The rows checked at an opening.
 abbrev pub threeInMask : Plan → Bool
 threeInMask plan =
@@ -121,6 +128,7 @@ pub record ReadsLine (line buffer : List ℕ) : Type 0 where
 
 pub record FirstDemand : Type 0 where
   pub limits : Limits
+  pub default : DefaultPlan
   pub opens : (plan : Plan) (cycle : ℕ) → Opens plan cycle
   pub takes : (d : Decoder) (c : Call) → Takes d c
   pub as-before : (d : Decoder) (c : Call) → AsBefore d c

@@ -1,3 +1,4 @@
+pub mod DefaultPlan
 pub mod PlanAddresses
 pub mod TestLoop
 pub mod WriteLoop

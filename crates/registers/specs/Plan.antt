@@ -17,6 +17,6 @@ planFits plan =
     && (existsAt plan (plan .cnt)
     && (not (eqb (plan .csr) (plan .feen)) && (not (eqb (plan .csr) (plan .cnt)) && not (eqb (plan .feen) (plan .cnt))))))
 
--- "The default is mask hexadecimal 007F, CSR 0, FEEN 2, CNT 5."
+-- "The default is mask hexadecimal 007F, CSR 0, FEEN 2, CNT 5." The mask "becomes hexadecimal 07FF, with the same three addresses" (document 02, F-9).
 abbrev pub defaultPlan : Plan
-defaultPlan = record { mask = 0x007F; csr = 0; feen = 2; cnt = 5 }
+defaultPlan = record { mask = 0x07FF; csr = 0; feen = 2; cnt = 5 }

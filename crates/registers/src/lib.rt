@@ -116,7 +116,7 @@ impl Plan {
         ensures { λ r. ⌜ r ≡ defaultPlan ⌝ }
     {
         Plan {
-            mask: 0x007F,
+            mask: 0x07FF,
             csr: 0,
             feen: 2,
             cnt: 5,

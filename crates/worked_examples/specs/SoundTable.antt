@@ -40,10 +40,12 @@ table =
     ∷ unsound (readPointer 8 128 ∷ []) ∷ unsound (readPointer 9 128 ∷ []) ∷ unsound (readPointer 10 128 ∷ []) ∷ unsound (readPointer 11 128 ∷ [])
     ∷ unsound (readPointer 12 128 ∷ []) ∷ unsound (readPointer 13 128 ∷ []) ∷ unsound (readPointer 14 128 ∷ []) ∷ unsound (readPointer 15 128 ∷ [])
     -- "missing registers hold 0"
-    ∷ sound (wordsFrom 20 (replicate 7 0xFFFF))
-    ∷ unsound (register 7 1 ∷ []) ∷ unsound (register 8 1 ∷ []) ∷ unsound (register 9 1 ∷ []) ∷ unsound (register 10 1 ∷ [])
+    ∷ sound (wordsFrom 20 (replicate 11 0xFFFF))
     ∷ unsound (register 11 1 ∷ []) ∷ unsound (register 12 1 ∷ []) ∷ unsound (register 13 1 ∷ []) ∷ unsound (register 14 1 ∷ [])
     ∷ unsound (register 15 0x8000 ∷ [])
+    ∷ sound (mask 0x007F ∷ wordsFrom 20 (replicate 7 0xFFFF))
+    ∷ unsound (mask 0x007F ∷ register 7 1 ∷ []) ∷ unsound (mask 0x007F ∷ register 8 1 ∷ [])
+    ∷ unsound (mask 0x007F ∷ register 9 1 ∷ []) ∷ unsound (mask 0x007F ∷ register 10 1 ∷ [])
     -- "RunMode is off inside a Slow command"
     ∷ sound (runMode 1 ∷ [])
     ∷ sound (runMode 1 ∷ phase 1 ∷ [])

@@ -18,7 +18,7 @@ pub record TakingExamples : Type 0 where
   pub marked : MarkedStreams
   pub chip-gives : Gives 80 chip.table
   pub commands-give : Gives 26 commands.table
-  pub sound-gives : Gives 101 sound.table
+  pub sound-gives : Gives 102 sound.table
   pub calls-give : Table calls.callShown calls.callExpected 28 calls.table
   pub ranges-give : Table ranges.rangeShown ranges.rangeExpected 18 ranges.table
   pub before-gives : Table ranges.beforeShown ranges.rangeExpected 6 ranges.beforeTable
