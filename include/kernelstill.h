@@ -33,7 +33,7 @@ extern "C" {
 #endif
 
 /* The version; CHANGES.md says what each one holds. */
-#define KERNELSTILL_VERSION "1.2.0"
+#define KERNELSTILL_VERSION "1.3.0"
 
 /* The elements of each slice, and the limits of a call. */
 #define KERNELSTILL_IMAGE_WORDS 68       /* the state, exactly */
@@ -46,8 +46,8 @@ extern "C" {
 #define KERNELSTILL_LINE_BYTES 32        /* the bytes of a hexadecimal line, at most */
 #define KERNELSTILL_CLOCK_LIMIT (UINT64_C(1) << 48) /* cycles are below it */
 
-/* The default register plan: addresses 0 to 6 exist. */
-#define KERNELSTILL_DEFAULT_MASK 0x007F
+/* The default register plan: addresses 0 to 10 exist. */
+#define KERNELSTILL_DEFAULT_MASK 0x07FF
 #define KERNELSTILL_DEFAULT_CSR 0
 #define KERNELSTILL_DEFAULT_FEEN 2
 #define KERNELSTILL_DEFAULT_CNT 5

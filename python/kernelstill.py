@@ -77,7 +77,7 @@ __all__ = [
     "hex_line",
 ]
 
-__version__ = "1.2.0"
+__version__ = "1.3.0"
 
 # As kernelstill.h has them.
 CLOCK_LIMIT = 1 << 48
@@ -143,7 +143,7 @@ class Plan(NamedTuple):
     """The register plan: a mask of the addresses that exist (bit n for
     address n), and the addresses of CSR, FEEN and CNT."""
 
-    mask: int = 0x007F
+    mask: int = 0x07FF
     csr: int = 0
     feen: int = 2
     cnt: int = 5

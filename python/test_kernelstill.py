@@ -245,8 +245,9 @@ class Refusals(unittest.TestCase):
         self.assertEqual(decoder.save(), before)
 
     def test_plan(self):
-        for wrong in ({"csr": 2}, {"feen": 5}, {"cnt": 7}, {"cnt": 16}, {"csr": 256}, {"mask": 0}):
+        for wrong in ({"csr": 2}, {"feen": 5}, {"cnt": 11}, {"cnt": 16}, {"csr": 256}, {"mask": 0}):
             self.refused(1, Decoder, Plan(**wrong))
+        self.refused(1, Decoder, Plan(0x007F, cnt=7))
         self.refused(1, Decoder, Plan(csr=2), CLOCK_LIMIT)
         self.assertEqual(Decoder(Plan(0xE000, 13, 14, 15)).state.plan, (0xE000, 13, 14, 15))
 
@@ -281,9 +282,9 @@ class Refusals(unittest.TestCase):
     def test_unsound(self):
         saved = Decoder().save()
         # Layout, CSR's address that of FEEN, CNT's missing, next cycle, phase, window.
-        unsound = [(0, 2), (2, 2), (4, 9), (5, CLOCK_LIMIT + 1), (6, 5), (7, 32)]
+        unsound = [(0, 2), (2, 2), (4, 11), (5, CLOCK_LIMIT + 1), (6, 5), (7, 32)]
         # RunMode, L1ID, base, a missing register, a write and a read pointer.
-        unsound += [(14, 2), (15, 256), (16, 1), (27, 1), (36, 128), (67, 128)]
+        unsound += [(14, 2), (15, 256), (16, 1), (31, 1), (36, 128), (67, 128)]
         for place, word in unsound:
             image = bytearray(saved)
             struct.pack_into("<Q", image, 8 * place, word)
@@ -410,11 +411,11 @@ class Refusals(unittest.TestCase):
         self.assertEqual(decoder.state, Decoder().state)
 
     def test_plan_of_another_form(self):
-        for wrong in ((), (127, 0, 2), (127, 0, 2, 5, 99)):
+        for wrong in ((), (0x07FF, 0, 2), (0x07FF, 0, 2, 5, 99)):
             self.assertRaises(ValueError, Decoder, wrong)
-        for wrong in (None, 127, "plan", Plan()._asdict(), dict.fromkeys(Plan()), set(Plan())):
+        for wrong in (None, 0x07FF, "plan", Plan()._asdict(), dict.fromkeys(Plan()), set(Plan())):
             self.assertRaises(TypeError, Decoder, wrong)
-        self.assertEqual(Decoder([127, 0, 2, 5]).state, Decoder().state)
+        self.assertEqual(Decoder([0x07FF, 0, 2, 5]).state, Decoder().state)
 
     def test_input_of_another_type(self):
         for wrong in (None, 5, "B5", [1]):
@@ -486,6 +487,15 @@ class States(unittest.TestCase):
         self.assertEqual(state.warnings, (False, False, False))
         for sixteen in (state.registers, state.write_pointers, state.read_pointers):
             self.assertEqual(sixteen, (0,) * 16)
+
+    def test_registers_of_the_plan(self):
+        """The default plan has the registers 0 to 10; 007F, by name, 0 to 6."""
+        for plan, registers in ((Plan(), 11), (Plan(0x007F), 7)):
+            for address in range(16):
+                decoder, exists = Decoder(plan), address < registers
+                (record,) = decoder.take(*at_bit_0(wr_register(address, 0x1234)))
+                self.assertEqual((record.acted_on, record.missing), (exists, not exists))
+                self.assertEqual(decoder.state.register(address), 0x1234 if exists else 0)
 
     def test_phases(self):
         decoder, phases = Decoder(), []
