@@ -1,6 +1,8 @@
 //! The proved calls, linked from the archive that `rt staticlib kernelstill`
 //! writes; include/kernelstill.h says what each does.
 
+use reader::Plan;
+
 extern "C" {
     fn kernelstill_open(
         mask: u64,
@@ -51,8 +53,25 @@ pub struct Taken {
 pub fn take_fresh(input: &[u8], first: usize, count: usize, b: &mut Buffers, free: usize) -> Taken {
     let mut image = [0; 68];
     let mut result = [0; 3];
+    // The separate reader's, so that the two open alike.
+    let Plan {
+        mask,
+        csr,
+        feen,
+        cnt,
+    } = Plan::DEFAULT;
     // Each slice is lent for its call only, and no two overlap.
-    let opened = unsafe { kernelstill_open(0x007F, 0, 2, 5, 0, image.as_mut_ptr(), image.len()) };
+    let opened = unsafe {
+        kernelstill_open(
+            mask.into(),
+            csr.into(),
+            feen.into(),
+            cnt.into(),
+            0,
+            image.as_mut_ptr(),
+            image.len(),
+        )
+    };
     assert_eq!(opened, 0, "the opening is refused");
     unsafe {
         kernelstill_take(

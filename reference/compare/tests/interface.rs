@@ -228,7 +228,7 @@ fn take_bit(state: State, bytes: &[u8], bit: u64, store: &mut [u32], tray: &mut 
 fn images_of_states_from_streams_are_well_formed_and_lead_back() {
     let mut random = Random::new(71);
     let mut phases = [0; 5];
-    for _ in 0..150 {
+    for _ in 0..175 {
         for passed in states_of_a_stream(&mut random) {
             let image = image(&passed);
             phases[image[at::PHASE] as usize] += 1;
@@ -243,7 +243,7 @@ fn images_of_states_from_streams_are_well_formed_and_lead_back() {
 #[test]
 fn images_of_random_sound_states_lead_back() {
     let mut random = Random::new(72);
-    for number in 0..20_000 {
+    for number in 0..24_000 {
         let made = random_state(&mut random, PLANS[number % PLANS.len()]);
         assert!(sound(&made), "{made:?}");
         assert_eq!(state(&image(&made)), Some(made));
@@ -253,7 +253,7 @@ fn images_of_random_sound_states_lead_back() {
 #[test]
 fn words_that_the_phase_does_not_use_are_zero_and_not_looked_at() {
     let mut random = Random::new(73);
-    for number in 0..5_000 {
+    for number in 0..6_000 {
         let made = random_state(&mut random, PLANS[number % PLANS.len()]);
         let words = image(&made);
         let mut filled = words;
@@ -269,7 +269,7 @@ fn words_that_the_phase_does_not_use_are_zero_and_not_looked_at() {
 
 #[test]
 fn each_word_beyond_its_width_is_malformed() {
-    for (_, made) in fit::states() {
+    for (_, made) in fit::states_by_both_plans() {
         let words = image(&made);
         for place in 0..IMAGE_WORDS {
             let mut beyond = words;
@@ -304,9 +304,42 @@ fn the_first_bit_is_without_a_meaning_inside_a_wr_receiver_only() {
 #[test]
 fn the_calls_that_the_cases_change_are_fit() {
     let mut random = Random::new(74);
-    for (name, made) in fit::states() {
+    for (name, made) in fit::states_by_both_plans() {
         let take = fit::call(&image(&made), &mut random);
         assert_eq!(expected(&Call::Take(take)).answer, 0, "{name}");
+    }
+}
+
+/// Document 02, F-9: mask 07FF, whatever was asked for.
+#[test]
+fn a_refused_opening_gives_the_default_plans_image() {
+    let mut random = Random::new(82);
+    let refused = [
+        ([0x007F, 0, 0, 5, 9], layout::WRONG_PLAN),
+        ([0x007F, 0, 2, 7, 9], layout::WRONG_PLAN),
+        ([0x1_007F, 0, 2, 5, 9], layout::WRONG_PLAN),
+        ([0x007F, 0, 2, 5, CLOCK_LIMIT], layout::WRONG_CYCLE),
+        ([0xFFFF, 15, 14, 13, u64::MAX], layout::WRONG_CYCLE),
+    ];
+    let mut image = vec![0; IMAGE_WORDS];
+    image[at::LAYOUT] = LAYOUT;
+    image[at::MASK] = 0x07FF;
+    image[at::FEEN] = 2;
+    image[at::CNT] = 5;
+    for ([mask, csr, feen, cnt, cycle], number) in refused {
+        let expected = expected(&Call::Open(Open {
+            mask,
+            csr,
+            feen,
+            cnt,
+            cycle,
+            image: prefilled::words(&mut random, IMAGE_WORDS),
+        }));
+        assert_eq!(expected.answer, number, "{mask:X}");
+        match expected.after {
+            Call::Open(open) => assert_eq!(open.image, image, "{mask:X}"),
+            other => panic!("not an opening: {other:?}"),
+        }
     }
 }
 

@@ -12,8 +12,10 @@ pub struct Plan {
 }
 
 impl Plan {
+    /// Registers 0 to 10, by document 02, F-9; document 01 had mask 007F,
+    /// registers 0 to 6, and the same three addresses.
     pub const DEFAULT: Plan = Plan {
-        mask: 0x007F,
+        mask: 0x07FF,
         csr: 0,
         feen: 2,
         cnt: 5,

@@ -1,7 +1,10 @@
 //! Any arguments at all: no panic, refusals change nothing, and a sound
 //! state stays sound. Run without `--release`, overflows show too.
 
+mod common;
+
 use cases::Random;
+use common::PLAN_007F;
 use reader::group::Group;
 use reader::{frame_part, open, sound, take};
 use reader::{Answer, Ending, Plan, Recogniser, State, Warnings};
@@ -38,14 +41,15 @@ fn edge(random: &mut Random) -> u64 {
 }
 
 fn any_plan(random: &mut Random) -> Plan {
-    if random.one_in(2) {
-        return Plan::DEFAULT;
-    }
-    Plan {
-        mask: random.word() as u16,
-        csr: random.below(18) as u8,
-        feen: random.below(18) as u8,
-        cnt: edge(random) as u8,
+    match random.below(3) {
+        0 => Plan::DEFAULT,
+        1 => PLAN_007F,
+        _ => Plan {
+            mask: random.word() as u16,
+            csr: random.below(18) as u8,
+            feen: random.below(18) as u8,
+            cnt: edge(random) as u8,
+        },
     }
 }
 
@@ -180,7 +184,7 @@ fn any_call() {
     let room: Vec<u8> = (0..LONGEST + 2).map(|_| random.word() as u8).collect();
     let mut store: Vec<u32> = (0..2_049).map(|_| random.word() as u32).collect();
     let mut tray: Vec<u8> = (0..8_193).map(|_| random.word() as u8).collect();
-    for _ in 0..400_000 {
+    for _ in 0..600_000 {
         let state = any_state(&mut random);
         let mut list = vec![7; random.below(12) as usize];
         let store_length = 2_048 + usize::from(random.one_in(50));
@@ -215,7 +219,7 @@ fn any_call() {
 #[test]
 fn any_opening_and_any_frame_part() {
     let mut random = Random::new(6);
-    for _ in 0..100_000 {
+    for _ in 0..150_000 {
         let plan = any_plan(&mut random);
         let (number, state) = open(plan, edge(&mut random));
         assert!(sound(&state));

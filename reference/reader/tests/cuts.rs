@@ -6,8 +6,8 @@ mod common;
 use cases::generate;
 use cases::Random;
 use cases::Stream;
-use common::Reader;
-use reader::{Record, State};
+use common::{Reader, PLANS};
+use reader::{Plan, Record, State};
 
 /// Streams of whole commands, with flips, and of random bits.
 fn random_stream(random: &mut Random, kind: u64) -> Stream {
@@ -22,9 +22,10 @@ fn random_stream(random: &mut Random, kind: u64) -> Stream {
     }
 }
 
-fn random_start(random: &mut Random) -> Reader {
-    let mut reader = Reader::with_run_mode(random.bit());
+fn random_start(random: &mut Random, plan: Plan) -> Reader {
+    let mut reader = Reader::opened_by(plan);
     let state: &mut State = &mut reader.state;
+    state.run_mode = random.bit();
     state.next_cycle = random.below(1 << 40);
     state.base_cycle = random.below(state.next_cycle + 1);
     state.l1id = random.below(256) as u32;
@@ -59,14 +60,20 @@ fn read_cut(
     records
 }
 
+/// The default plan and mask 007F in turn.
+fn plan(turn: u64) -> Plan {
+    let (plan, _) = PLANS[turn as usize % PLANS.len()];
+    plan
+}
+
 #[test]
 fn random_cuts_and_short_lists() {
     let mut random = Random::new(1);
     let mut frames = 0;
     let mut total = 0;
-    for round in 0..900 {
+    for round in 0..1_800 {
         let stream = random_stream(&mut random, round % 3);
-        let start = random_start(&mut random);
+        let start = random_start(&mut random, plan(round / 3));
         let mut whole = start.clone();
         let bytes = stream.bytes();
         let records = whole.read_part(&bytes, 0, stream.bits.len() as u64, 5_000);
@@ -80,16 +87,16 @@ fn random_cuts_and_short_lists() {
         }
     }
     // The rounds must be about something.
-    assert!(total > 20_000 && frames > 500, "{total} {frames}");
+    assert!(total > 40_000 && frames > 1_000, "{total} {frames}");
 }
 
 /// The same bits lent as one byte a call, at shifting first bits.
 #[test]
 fn other_inputs_with_the_same_bits() {
     let mut random = Random::new(2);
-    for round in 0..60 {
+    for round in 0..120 {
         let stream = random_stream(&mut random, round % 3);
-        let start = random_start(&mut random);
+        let start = random_start(&mut random, plan(round / 3));
         let mut whole = start.clone();
         let records = whole.read(&stream);
         let mut reader = start;
@@ -114,9 +121,9 @@ const OLD_LONGEST: usize = 8 * 65_536;
 fn the_same_bits_within_a_mebibyte() {
     let mut random = Random::new(3);
     let noise = Stream::new().raw(&generate::bits(&mut random, LONGEST as u32));
-    for round in 0..6 {
+    for round in 0..12 {
         let stream = random_stream(&mut random, round % 3);
-        let start = random_start(&mut random);
+        let start = random_start(&mut random, plan(round / 3));
         let mut alone = start.clone();
         let records = alone.read(&stream);
         let count = stream.bits.len();
@@ -136,25 +143,27 @@ fn the_same_bits_within_a_mebibyte() {
 #[test]
 fn a_mebibyte_at_once_and_in_parts() {
     let mut random = Random::new(4);
-    let stream = generate::without_frames(&mut random, LONGEST - 5).lv1();
-    let start = random_start(&mut random);
-    let mut whole = start.clone();
-    let room = LONGEST / 8;
-    let records = whole.read_part(&stream.bytes(), 0, LONGEST as u64, room);
-    // One call: neither was the list filled, nor was there a frame.
-    let one_call = records.len() < room && whole.frames.is_empty();
-    assert!(one_call && records.len() > 400_000, "{}", records.len());
+    for (plan, _) in PLANS {
+        let stream = generate::without_frames(&mut random, LONGEST - 5).lv1();
+        let start = random_start(&mut random, plan);
+        let mut whole = start.clone();
+        let room = LONGEST / 8;
+        let records = whole.read_part(&stream.bytes(), 0, LONGEST as u64, room);
+        // One call: neither was the list filled, nor was there a frame.
+        let one_call = records.len() < room && whole.frames.is_empty();
+        assert!(one_call && records.len() > 400_000, "{}", records.len());
 
-    let mut reader = start.clone();
-    let mut parts = Vec::new();
-    for part in stream.bytes().chunks(OLD_LONGEST / 8) {
-        parts.extend(reader.read_part(part, 0, OLD_LONGEST as u64, 1_000));
+        let mut reader = start.clone();
+        let mut parts = Vec::new();
+        for part in stream.bytes().chunks(OLD_LONGEST / 8) {
+            parts.extend(reader.read_part(part, 0, OLD_LONGEST as u64, 1_000));
+        }
+        assert!(parts == records && reader == whole, "in 16 calls");
+
+        let mut reader = start;
+        let cut = read_cut(&mut reader, &stream, &mut random, 100_000, 1_000);
+        assert!(cut == records && reader == whole, "at random places");
     }
-    assert!(parts == records && reader == whole, "in 16 calls");
-
-    let mut reader = start;
-    let cut = read_cut(&mut reader, &stream, &mut random, 100_000, 1_000);
-    assert!(cut == records && reader == whole, "at random places");
 }
 
 /// Cut at each place of a stream that has every command.
@@ -166,6 +175,9 @@ fn one_cut_at_every_place() {
         .wr_fifo(0x0765_4321)
         .rd_fifo(15)
         .rd_register(2)
+        // One that exists by the default plan only.
+        .wr_register(9, 0x1234)
+        .rd_register(9)
         .front_end(
             4,
             &[
@@ -188,15 +200,17 @@ fn one_cut_at_every_place() {
         .reset_mcc();
     let bytes = stream.bytes();
     let count = stream.bits.len() as u64;
-    let mut whole = Reader::opened();
-    let records = whole.read(&stream);
-    assert_eq!(records.len(), 20);
-    for cut in 0..=count {
-        for room in [1, 100] {
-            let mut reader = Reader::opened();
-            let mut parts = reader.read_part(&bytes, 0, cut, room);
-            parts.extend(reader.read_part(&bytes, cut, count - cut, room));
-            assert_eq!((&parts, &reader), (&records, &whole), "cut at {cut}");
+    for (plan, _) in PLANS {
+        let mut whole = Reader::opened_by(plan);
+        let records = whole.read(&stream);
+        assert_eq!(records.len(), 22);
+        for cut in 0..=count {
+            for room in [1, 100] {
+                let mut reader = Reader::opened_by(plan);
+                let mut parts = reader.read_part(&bytes, 0, cut, room);
+                parts.extend(reader.read_part(&bytes, cut, count - cut, room));
+                assert_eq!((&parts, &reader), (&records, &whole), "cut at {cut}");
+            }
         }
     }
 }

@@ -206,6 +206,10 @@ fn the_model() {
         "register 4 0000",
         "register 5 0000",
         "register 6 00AB",
+        "register 7 0000",
+        "register 8 0000",
+        "register 9 0000",
+        "register A 0000",
         "l1id 01",
         "base 000000000105",
         "runmode 1",
@@ -221,6 +225,38 @@ fn the_model() {
         expected.push(format!("word {fifo} 01 00000005"));
     }
     assert_eq!(model, expected);
+}
+
+/// The programs open with the default plan (document 02, F-9): registers 0
+/// to 10 keep what is written, 11 to 15 are missing.
+#[test]
+fn the_registers_of_the_default_plan() {
+    let stream = (0..16).fold(Stream::new(), |stream, address| {
+        stream.wr_register(address, 0x4321).rd_register(address)
+    });
+    let mut records = String::new();
+    let mut time = 0;
+    for address in 0..16 {
+        let (flags, read) = match address {
+            // CSR bits 8 and 9 are not writable.
+            0 => ("01", "4021"),
+            1..=10 => ("01", "4321"),
+            _ => ("08", "0000"),
+        };
+        for (kind, value) in [("20", "4321"), ("21", read)] {
+            time += 33;
+            let last = time - 1;
+            records += &format!("{last:012X} {kind} {flags} {address:04X}{value}\n");
+        }
+    }
+    let input = stream.lines();
+    assert_eq!(run_station(&input), records);
+    assert_eq!(run_reading(&input), records);
+    let mut registers = "register 0 4021\n".to_string();
+    // FEEN and CNT among them.
+    registers.extend((1..=10).map(|address| format!("register {address:X} 4321\n")));
+    let expected = format!("{records}{registers}l1id 00\n");
+    assert!(run_model(&input).starts_with(&expected));
 }
 
 #[test]

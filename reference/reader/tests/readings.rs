@@ -3,7 +3,7 @@
 mod common;
 
 use cases::Stream;
-use common::{rec, stream, Reader};
+use common::{rec, stream, Reader, PLANS};
 use reader::limits::CLOCK_LIMIT;
 use reader::{frame_part, open, take, Ending, Plan, Recogniser, Record, Warnings};
 
@@ -81,24 +81,27 @@ fn csr_by_another_plan() {
 
 #[test]
 fn missing_registers() {
-    for address in 0..16 {
-        let records = read(
-            Stream::new()
-                .wr_register(address, 0xABCD)
-                .rd_register(address),
-        );
-        let high = u32::from(address) << 16;
-        let there = address < 7;
-        let flags = if there { 0x01 } else { 0x08 };
-        let kept = match address {
-            0 => 0xA8CD,
-            1..=6 => 0xABCD,
-            _ => 0,
-        };
-        assert_eq!(
-            records,
-            [(0x20, flags, high | 0xABCD), (0x21, flags, high | kept)]
-        );
+    for (plan, present) in PLANS {
+        for address in 0..16 {
+            let mut reader = Reader::opened_by(plan);
+            let stream = Stream::new().wr_register(address, 0xABCD);
+            let records = reader.read(&stream.rd_register(address));
+            let high = u32::from(address) << 16;
+            let flags = if address < present { 0x01 } else { 0x08 };
+            let kept = match address {
+                0 => 0xA8CD,
+                _ if address < present => 0xABCD,
+                _ => 0,
+            };
+            assert_eq!(
+                without_time(&records),
+                [(0x20, flags, high | 0xABCD), (0x21, flags, high | kept)],
+                "{plan:?}"
+            );
+            let mut registers = [0; 16];
+            registers[usize::from(address)] = kept as u16;
+            assert_eq!(reader.state.registers, registers, "{plan:?}");
+        }
     }
 }
 
@@ -192,24 +195,26 @@ fn ecr_clears_l1id_and_pointers_only_in_run_mode() {
 
 #[test]
 fn global_reset_mcc() {
-    let mut reader = Reader::opened();
-    reader.state.l1id = 77;
-    reader.state.write_pointers = [9; 16];
-    reader.state.read_pointers = [8; 16];
-    reader.state.registers = [1, 1, 1, 1, 1, 1, 1, 0, 0, 0, 0, 0, 0, 0, 0, 0];
-    reader.state.warnings = Warnings {
-        wlv1: true,
-        wfst: true,
-        wslw: true,
-    };
-    reader.store.fill(3);
-    let records = reader.read(&Stream::new().zeros(100).reset_mcc());
-    assert_eq!(records, [rec(116, 0x29, 0x01, 0)]);
-    let mut fresh = Reader::opened();
-    fresh.state.next_cycle = 117;
-    fresh.state.base_cycle = 116;
-    fresh.store.fill(3);
-    assert_eq!(reader, fresh);
+    for (plan, present) in PLANS {
+        let mut reader = Reader::opened_by(plan);
+        reader.state.l1id = 77;
+        reader.state.write_pointers = [9; 16];
+        reader.state.read_pointers = [8; 16];
+        reader.state.registers[..usize::from(present)].fill(1);
+        reader.state.warnings = Warnings {
+            wlv1: true,
+            wfst: true,
+            wslw: true,
+        };
+        reader.store.fill(3);
+        let records = reader.read(&Stream::new().zeros(100).reset_mcc());
+        assert_eq!(records, [rec(116, 0x29, 0x01, 0)]);
+        let mut fresh = Reader::opened_by(plan);
+        fresh.state.next_cycle = 117;
+        fresh.state.base_cycle = 116;
+        fresh.store.fill(3);
+        assert_eq!(reader, fresh);
+    }
 }
 
 #[test]

@@ -5,7 +5,7 @@
 mod common;
 
 use cases::Stream;
-use common::Reader;
+use common::{Reader, PLAN_007F};
 use reader::limits::CLOCK_LIMIT;
 use reader::{hex_line, open, take, Ending, Plan, State};
 
@@ -19,9 +19,28 @@ const LIMIT: usize = 1_048_576;
 fn number_1() {
     let bad = [
         Plan { mask: 0, ..DEFAULT },
-        Plan { csr: 7, ..DEFAULT },
-        Plan { feen: 7, ..DEFAULT },
-        Plan { cnt: 7, ..DEFAULT },
+        Plan { csr: 11, ..DEFAULT },
+        Plan {
+            feen: 11,
+            ..DEFAULT
+        },
+        Plan { cnt: 11, ..DEFAULT },
+        Plan {
+            csr: 7,
+            ..PLAN_007F
+        },
+        Plan {
+            feen: 7,
+            ..PLAN_007F
+        },
+        Plan {
+            cnt: 7,
+            ..PLAN_007F
+        },
+        Plan {
+            cnt: 10,
+            ..PLAN_007F
+        },
         Plan { csr: 2, ..DEFAULT },
         Plan { csr: 5, ..DEFAULT },
         Plan { feen: 5, ..DEFAULT },
@@ -52,6 +71,18 @@ fn number_1() {
             mask: 0x005F,
             ..DEFAULT
         },
+        Plan {
+            mask: 0x07FE,
+            ..DEFAULT
+        },
+        Plan {
+            mask: 0x07FB,
+            ..DEFAULT
+        },
+        Plan {
+            mask: 0x07DF,
+            ..DEFAULT
+        },
     ];
     for plan in bad {
         for cycle in [0, 77, CLOCK_LIMIT, u64::MAX] {
@@ -68,6 +99,14 @@ fn number_1() {
             feen: 0,
             cnt: 14,
             mask: 0xC001,
+        },
+        PLAN_007F,
+        DEFAULT,
+        Plan {
+            csr: 7,
+            feen: 8,
+            cnt: 10,
+            ..DEFAULT
         },
     ];
     for plan in good {
@@ -93,10 +132,9 @@ fn number_2() {
         mask: 0xFFFF,
         ..DEFAULT
     };
-    assert_eq!(
-        open(other, CLOCK_LIMIT),
-        (Some(2), State::start(DEFAULT, 0))
-    );
+    for plan in [other, PLAN_007F] {
+        assert_eq!(open(plan, CLOCK_LIMIT), (Some(2), State::start(DEFAULT, 0)));
+    }
 }
 
 /// A call's arguments, so that a test can change them one by one.

@@ -2,7 +2,7 @@
 
 mod common;
 
-use common::Reader;
+use common::{Reader, PLANS, PLAN_007F};
 use reader::group::Group;
 use reader::limits::CLOCK_LIMIT;
 use reader::{sound, Plan, Recogniser, State};
@@ -40,13 +40,26 @@ fn field5(field3: u8, held: u32, received: u32) -> Recogniser {
 fn the_plan_would_open() {
     assert!(changed(|_| {}));
     assert!(!changed(|state| state.plan.csr = 2));
-    assert!(!changed(|state| state.plan.csr = 7));
+    assert!(!changed(|state| state.plan.csr = 11));
     assert!(!changed(|state| state.plan.feen = 200));
     assert!(!changed(|state| state.plan.cnt = 15));
     assert!(!changed(|state| state.plan = Plan {
         mask: 0x005F,
         ..Plan::DEFAULT
     }));
+    assert!(!changed(|state| state.plan.mask = 0x07DF));
+    // Registers 7 to 10 may be any of the three, but not by mask 007F.
+    assert!(changed(|state| state.plan = PLAN_007F));
+    for address in 7..=10 {
+        for mask in [0x07FF, 0x007F] {
+            let answers = [
+                changed(|state| (state.plan.mask, state.plan.csr) = (mask, address)),
+                changed(|state| (state.plan.mask, state.plan.feen) = (mask, address)),
+                changed(|state| (state.plan.mask, state.plan.cnt) = (mask, address)),
+            ];
+            assert_eq!(answers, [mask == 0x07FF; 3], "{mask:04X} {address}");
+        }
+    }
 }
 
 #[test]
@@ -79,9 +92,15 @@ fn pointers() {
 
 #[test]
 fn missing_registers_hold_zero() {
-    for address in 0..16 {
-        let answer = changed(|state| state.registers[address] = 1);
-        assert_eq!(answer, address < 7, "{address}");
+    for (plan, present) in PLANS {
+        for address in 0..16 {
+            let answer = changed(|state| {
+                state.plan = plan;
+                state.registers[address] = 1;
+            });
+            let is_sound = address < usize::from(present);
+            assert_eq!(answer, is_sound, "{plan:?} {address}");
+        }
     }
 }
 

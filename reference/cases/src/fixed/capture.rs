@@ -60,8 +60,8 @@ fn registers() -> Stream {
         .zeros(6)
         .rd_register(2)
         .zeros(30)
-        // No such registers.
-        .wr_register(9, 0x1234)
+        // No such registers: the default plan ends at 10 (document 02, F-9).
+        .wr_register(11, 0x1234)
         .zeros(6)
         .rd_register(12)
         .zeros(40)

@@ -27,7 +27,9 @@ pub fn cases() -> Vec<Case> {
             add(format!("fast-{body:X}"), stream.fast(body));
         }
         for field3 in 0..16 {
-            for field4 in [0, 6, 15] {
+            // Registers ended at 6 by document 01's default plan, and end at
+            // 10 by document 02's, F-9.
+            for field4 in [0, 6, 7, 10, 11, 15] {
                 let stream = in_run_mode(run_mode).lv1().slow(field3, field4);
                 let stream = stream.pattern(field5(field3)).en_data_take();
                 add(format!("slow-{field3:X}-{field4:X}"), stream);

@@ -49,6 +49,8 @@ fn resets(reset: impl Fn(Stream) -> Stream) -> Stream {
         .rd_fifo(10)
 }
 
+/// Each address written, then each read: 0 to 10 exist, 11 to 15 are missing
+/// (document 02, F-9).
 fn registers() -> Stream {
     let stream = (0..16).fold(Stream::new(), |stream, address| {
         stream.wr_register(address, 0xF0F0 + u16::from(address))

@@ -4,7 +4,7 @@ use super::call::Take;
 use super::image::{image, Image};
 use super::layout::RESULT_WORDS;
 use super::prefilled;
-use super::states::WITH_FIELD5;
+use super::states::{PLAN_007F, WITH_FIELD5};
 use cases::Random;
 use reader::group::Group;
 use reader::{slow, Plan, Recogniser, State};
@@ -13,8 +13,20 @@ use reader::{slow, Plan, Recogniser, State};
 /// them as CNT without changing a length.
 pub const CNT: u16 = 0x0012;
 
+/// The states by the default plan and by mask 007F, for what goes by the
+/// registers that exist.
+pub fn states_by_both_plans() -> Vec<(String, State)> {
+    let before = states_by(PLAN_007F).into_iter();
+    let before = before.map(|(name, state)| (format!("{name}, mask 007F"), state));
+    states().into_iter().chain(before).collect()
+}
+
 /// A state of each phase, and within Field 5 of each command, sound.
 pub fn states() -> Vec<(String, State)> {
+    states_by(Plan::DEFAULT)
+}
+
+fn states_by(plan: Plan) -> Vec<(String, State)> {
     let (held, received) = (0b10, 2);
     let mut recognisers = vec![
         (
@@ -37,7 +49,7 @@ pub fn states() -> Vec<(String, State)> {
         let name = format!("in Field 5 of command {field3}");
         recognisers.push((name, in_field5(field3)));
     }
-    let state = |(name, recogniser)| (name, state(recogniser));
+    let state = |(name, recogniser)| (name, state(plan, recogniser));
     recognisers.into_iter().map(state).collect()
 }
 
@@ -52,8 +64,8 @@ fn in_field5(field3: u8) -> Recogniser {
     }
 }
 
-fn state(recogniser: Recogniser) -> State {
-    let mut state = State::start(Plan::DEFAULT, 1_000);
+fn state(plan: Plan, recogniser: Recogniser) -> State {
+    let mut state = State::start(plan, 1_000);
     state.base_cycle = 900;
     state.run_mode = matches!(
         recogniser,
@@ -71,7 +83,7 @@ fn state(recogniser: Recogniser) -> State {
 
 /// The image of a state hunting in RunMode.
 pub fn hunting() -> Image {
-    image(&state(Recogniser::IDLE))
+    image(&state(Plan::DEFAULT, Recogniser::IDLE))
 }
 
 /// A call that is fit if the image is. Its range neither starts nor ends at

@@ -10,7 +10,7 @@ use std::io;
 
 pub fn check(checker: &mut Checker) -> io::Result<()> {
     let mut random = Random::new(0x3A1F);
-    for (phase, state) in fit::states() {
+    for (phase, state) in fit::states_by_both_plans() {
         let image = image(&state);
         lengths(checker, &phase, &image, &mut random)?;
         widths(checker, &phase, &image, &mut random)?;

@@ -20,6 +20,7 @@ pub mod malformed;
 pub mod opening;
 pub mod precedence;
 pub mod prefilled;
+pub mod registers;
 pub mod soundness;
 pub mod states;
 pub mod streams;
@@ -32,6 +33,7 @@ use std::path::Path;
 pub fn compare(driver: &Path, tally: &mut Tally) -> io::Result<()> {
     checker::run(driver, tally, |checker| {
         opening::check(checker)?;
+        registers::check(checker)?;
         lines::check(checker)?;
         frames::check(checker)?;
         edges::check(checker)?;

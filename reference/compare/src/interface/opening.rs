@@ -11,9 +11,13 @@ use std::io;
 /// Mask, CSR, FEEN, CNT.
 type Numbers = [u64; 4];
 
-/// Plans that open.
-const FIT_PLANS: [Numbers; 7] = [
+/// Plans that open. The default has mask 07FF (document 02, F-9), and had 007F.
+const FIT_PLANS: [Numbers; 11] = [
+    [0x07FF, 0, 2, 5],
+    [0x07FF, 10, 9, 8],
+    [0x07FF, 0, 2, 7],
     [0x007F, 0, 2, 5],
+    [0x007F, 6, 4, 3],
     [0xFFFF, 15, 14, 13],
     [0x8005, 0, 2, 15],
     [0x0007, 2, 1, 0],
@@ -24,7 +28,20 @@ const FIT_PLANS: [Numbers; 7] = [
 
 /// Plans that do not: two addresses alike, one out of the mask or beyond
 /// it, or a mask of more than sixteen bits.
-const WRONG_PLANS: [Numbers; 24] = [
+const WRONG_PLANS: [Numbers; 38] = [
+    [0x07FF, 0, 0, 5],
+    [0x07FF, 0, 5, 5],
+    [0x07FF, 5, 2, 5],
+    [0x07FF, 3, 3, 3],
+    [0x07FF, 11, 2, 5],
+    [0x07FF, 0, 11, 5],
+    [0x07FF, 0, 2, 11],
+    [0x07FF, 0, 2, 15],
+    [0x07FE, 0, 2, 5],
+    [0x07FB, 0, 2, 5],
+    [0x07DF, 0, 2, 5],
+    [0x1_07FF, 0, 2, 5],
+    [(1 << 32) + 0x7FF, 0, 2, 5],
     [0x007F, 0, 0, 5],
     [0x007F, 0, 5, 5],
     [0x007F, 5, 2, 5],
@@ -32,6 +49,7 @@ const WRONG_PLANS: [Numbers; 24] = [
     [0x007F, 7, 2, 5],
     [0x007F, 0, 7, 5],
     [0x007F, 0, 2, 7],
+    [0x007F, 0, 2, 10],
     [0x007F, 0, 2, 15],
     [0x007E, 0, 2, 5],
     [0x007B, 0, 2, 5],
@@ -98,6 +116,8 @@ fn addresses(checker: &mut Checker, random: &mut Random) -> io::Result<()> {
         2,
         5,
         7,
+        10,
+        11,
         14,
         15,
         16,
@@ -108,7 +128,7 @@ fn addresses(checker: &mut Checker, random: &mut Random) -> io::Result<()> {
         (1 << 32) + 2,
         u64::MAX,
     ];
-    for mask in [0x007F, 0x8025, 0xFFFF] {
+    for mask in [0x007F, 0x07FF, 0x8025, 0xFFFF] {
         for csr in addresses {
             for feen in addresses {
                 for cnt in addresses {

@@ -7,7 +7,7 @@ use super::image::{image, Image};
 use super::layout::{at, phase, OK, UNSOUND};
 use cases::Random;
 use reader::limits::{CLOCK_LIMIT, FIFOS};
-use reader::{slow, Plan};
+use reader::slow;
 use std::io;
 
 /// An image, what is special about it and whether its state is sound.
@@ -15,7 +15,7 @@ type Clause = (String, bool, Image);
 
 pub fn check(checker: &mut Checker) -> io::Result<()> {
     let mut random = Random::new(0x50D);
-    for (phase, state) in fit::states() {
+    for (phase, state) in fit::states_by_both_plans() {
         let image = image(&state);
         let mut clauses = plans(&image);
         clauses.extend(cycles(&image));
@@ -53,13 +53,7 @@ fn clause(sound: bool, image: &Image, words: &[(usize, u64)]) -> Clause {
 /// Three different addresses in the mask, or not. Registers that a smaller
 /// mask leaves out hold 0, and the present CNT stays as it is.
 fn plans(image: &Image) -> Vec<Clause> {
-    let Plan {
-        mask,
-        csr,
-        feen,
-        cnt,
-    } = Plan::DEFAULT;
-    let [mask, csr, feen, cnt] = [u64::from(mask), csr.into(), feen.into(), cnt.into()];
+    let [mask, csr, feen, cnt] = [at::MASK, at::CSR, at::FEEN, at::CNT].map(|place| image[place]);
     let register = |address: u64| at::REGISTERS + address as usize;
     let without = |address: u64| [(at::MASK, mask & !(1 << address)), (register(address), 0)];
     let mut clauses = vec![
@@ -73,17 +67,21 @@ fn plans(image: &Image) -> Vec<Clause> {
         clause(false, image, &without(feen)),
         clause(true, image, &without(1)),
         clause(true, image, &without(6)),
+        clause(true, image, &without(10)),
         clause(true, image, &[(at::CSR, 6)]),
         clause(true, image, &[(at::FEEN, 6)]),
+        clause(true, image, &[(at::MASK, 0x007F)]),
+        clause(true, image, &[(at::MASK, 0x07FF)]),
         clause(true, image, &[(at::MASK, 0xFFFF)]),
         clause(true, image, &[(at::MASK, 0xFFFF), (at::CSR, 15)]),
         clause(true, image, &[(at::MASK, 0xFFFF), (at::FEEN, 15)]),
     ];
-    for missing in [7, 15, 16, 17, 18, 21, 32, 255] {
-        clauses.push(clause(false, image, &[(at::CSR, missing)]));
-        clauses.push(clause(false, image, &[(at::FEEN, missing)]));
+    for address in [7, 10, 11, 15, 16, 17, 18, 21, 32, 255] {
+        let exists = exists(image, address);
+        clauses.push(clause(exists, image, &[(at::CSR, address)]));
+        clauses.push(clause(exists, image, &[(at::FEEN, address)]));
         if !is_variable(image) {
-            clauses.push(clause(false, image, &[(at::CNT, missing)]));
+            clauses.push(clause(exists, image, &[(at::CNT, address)]));
         }
     }
     if !is_variable(image) {
@@ -91,6 +89,11 @@ fn plans(image: &Image) -> Vec<Clause> {
         clauses.push(clause(true, image, &[(at::CNT, 6)]));
     }
     clauses
+}
+
+/// Whether the mask has an address; none has one from 16 on.
+fn exists(image: &Image, address: u64) -> bool {
+    address < 16 && image[at::MASK] >> address & 1 == 1
 }
 
 /// Whether the phase has a length by CNT.
@@ -134,12 +137,11 @@ fn pointers(image: &Image) -> Vec<Clause> {
 /// a length goes by.
 fn registers(image: &Image) -> Vec<Clause> {
     let mut clauses = Vec::new();
-    for address in 0..16_u8 {
-        let place = at::REGISTERS + usize::from(address);
-        let missing = !Plan::DEFAULT.has(address);
+    for address in 0..16 {
+        let place = at::REGISTERS + address as usize;
         for word in [0, 1, 0x0700, 0x8000, 0xFFFF] {
-            if address != Plan::DEFAULT.cnt || !is_variable(image) {
-                let sound = word == 0 || !missing;
+            if address != image[at::CNT] || !is_variable(image) {
+                let sound = word == 0 || exists(image, address);
                 clauses.push(clause(sound, image, &[(place, word)]));
             }
         }
@@ -215,7 +217,7 @@ fn commands(image: &Image, allowed: impl Fn(u8) -> bool) -> Vec<Clause> {
 
 fn field5(image: &Image) -> Vec<Clause> {
     let mut clauses = commands(image, slow::has_field5);
-    for address in [0, 15, 16, 17, 128, 255] {
+    for address in [0, 6, 7, 10, 11, 15, 16, 17, 128, 255] {
         clauses.push(clause(address < 16, image, &[(at::ADDRESS, address)]));
     }
     clauses.extend(lengths(image));
@@ -235,7 +237,7 @@ fn field5(image: &Image) -> Vec<Clause> {
 /// The count just below the length and at it, by several CNT.
 fn lengths(image: &Image) -> Vec<Clause> {
     let command = image[at::COMMAND] as u8;
-    let place = at::REGISTERS + usize::from(Plan::DEFAULT.cnt);
+    let place = at::REGISTERS + image[at::CNT] as usize;
     let mut clauses = Vec::new();
     for cnt in [0, 1, 7, 8, 0x0012, 0x1FFF, 0x2000, 0xE000, 0xE001, 0xFFFF] {
         let length = u64::from(slow::field5_cycles(command, cnt).unwrap_or(0));

@@ -5,9 +5,14 @@ use reader::group::Group;
 use reader::limits::CLOCK_LIMIT;
 use reader::{slow, Plan, Recogniser, State, Warnings};
 
+/// Registers 0 to 6: the default up to document 02, F-9. Addresses 7 to 10
+/// are missing by it, and exist by the default.
+pub const PLAN_007F: Plan = plan(0x007F, 0, 2, 5);
+
 /// Plans with few and many addresses, the highest one too.
-pub const PLANS: [Plan; 6] = [
+pub const PLANS: [Plan; 7] = [
     Plan::DEFAULT,
+    PLAN_007F,
     plan(0xFFFF, 15, 0, 7),
     plan(0x8421, 15, 10, 0),
     plan(0x0007, 2, 1, 0),

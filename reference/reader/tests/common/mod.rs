@@ -5,6 +5,19 @@ use cases::Stream;
 use reader::limits::{STORE_WORDS, TRAY_BYTES};
 use reader::{frame_part, open, take, Ending, Plan, Record, State};
 
+/// Registers 0 to 6: the default up to document 02, F-9. Who counts on flag
+/// 08 for addresses 7 to 10 opens with it.
+pub const PLAN_007F: Plan = Plan {
+    mask: 0x007F,
+    csr: 0,
+    feen: 2,
+    cnt: 5,
+};
+
+/// The default plan and the one before it, each with how many registers
+/// exist, which are those from address 0 on.
+pub const PLANS: [(Plan, u8); 2] = [(Plan::DEFAULT, 11), (PLAN_007F, 7)];
+
 #[derive(Clone, Debug, PartialEq)]
 pub struct Reader {
     pub state: State,
@@ -25,7 +38,13 @@ impl Reader {
     }
 
     pub fn opened() -> Reader {
-        Reader::new(open(Plan::DEFAULT, 0).1)
+        Reader::opened_by(Plan::DEFAULT)
+    }
+
+    pub fn opened_by(plan: Plan) -> Reader {
+        let (number, state) = open(plan, 0);
+        assert_eq!(number, None, "{plan:?}");
+        Reader::new(state)
     }
 
     /// Cycle 0, window 00000, RunMode on.
