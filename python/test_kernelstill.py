@@ -493,9 +493,9 @@ class States(unittest.TestCase):
         for plan, registers in ((Plan(), 11), (Plan(0x007F), 7)):
             for address in range(16):
                 decoder, exists = Decoder(plan), address < registers
-                (record,) = decoder.take(*at_bit_0(wr_register(address, 0x1234)))
+                (record,) = decoder.take(*at_bit_0(wr_register(address, 0x5055)))
                 self.assertEqual((record.acted_on, record.missing), (exists, not exists))
-                self.assertEqual(decoder.state.register(address), 0x1234 if exists else 0)
+                self.assertEqual(decoder.state.register(address), 0x5055 if exists else 0)
 
     def test_phases(self):
         decoder, phases = Decoder(), []
