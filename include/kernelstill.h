@@ -46,7 +46,8 @@ extern "C" {
 #define KERNELSTILL_LINE_BYTES 32        /* the bytes of a hexadecimal line, at most */
 #define KERNELSTILL_CLOCK_LIMIT (UINT64_C(1) << 48) /* cycles are below it */
 
-/* The default register plan: addresses 0 to 10 exist. */
+/* The default register plan: addresses 0 to 10 exist. Where only 0 to 6 do,
+ * open with mask 0x007F. */
 #define KERNELSTILL_DEFAULT_MASK 0x07FF
 #define KERNELSTILL_DEFAULT_CSR 0
 #define KERNELSTILL_DEFAULT_FEEN 2

@@ -141,7 +141,8 @@ BytesLike = Union[bytes, bytearray, memoryview]
 
 class Plan(NamedTuple):
     """The register plan: a mask of the addresses that exist (bit n for
-    address n), and the addresses of CSR, FEEN and CNT."""
+    address n), and the addresses of CSR, FEEN and CNT. By default 0 to 10
+    exist; where only 0 to 6 do, open with `Plan(0x007F)`."""
 
     mask: int = 0x07FF
     csr: int = 0

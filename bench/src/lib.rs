@@ -54,19 +54,14 @@ pub fn take_fresh(input: &[u8], first: usize, count: usize, b: &mut Buffers, fre
     let mut image = [0; 68];
     let mut result = [0; 3];
     // The separate reader's, so that the two open alike.
-    let Plan {
-        mask,
-        csr,
-        feen,
-        cnt,
-    } = Plan::DEFAULT;
+    let plan = Plan::DEFAULT;
     // Each slice is lent for its call only, and no two overlap.
     let opened = unsafe {
         kernelstill_open(
-            mask.into(),
-            csr.into(),
-            feen.into(),
-            cnt.into(),
+            plan.mask.into(),
+            plan.csr.into(),
+            plan.feen.into(),
+            plan.cnt.into(),
             0,
             image.as_mut_ptr(),
             image.len(),

@@ -76,7 +76,7 @@ table =
     ∷ from stopped ones (slow "1010" 0b0110 (field 4 5)) (done 21 1) (0x1142A01 ∷ 11 ∷ []) (controller stopped ones regs writes reads)
     ∷ from running ones (slow "1001" 0 []) (done 17 1) (0x1102901 ∷ 0 ∷ []) (controller (0 ∷ 0 ∷ 0x110 ∷ []) (0 ∷ 0 ∷ 0 ∷ []) zeros zeros zeros)
     ∷ from stopped ones (slow "1001" 0b1111 []) (done 17 1) (0x1102901 ∷ 0 ∷ []) (controller (0 ∷ 0 ∷ 0x110 ∷ []) (0 ∷ 0 ∷ 0 ∷ []) zeros zeros zeros)
-    -- WrRegister: its register alone; to CSR it leaves the warnings; to a missing address, and RdRegister: nothing
+    -- WrRegister: its register alone, of 7 to 10 too; to CSR it leaves the warnings; to a missing address, and RdRegister: nothing
     ∷ from running ones (wrRegister 3 0xABCD) (done 33 1) (0x1202001 ∷ 0x0003ABCD ∷ [])
     (controller stopped ones (0x8081 ∷ 0x1111 ∷ 0x8002 ∷ 0xABCD ∷ 0x4444 ∷ 0x0001 ∷ 0x6666 ∷ fromSeven) writes reads)
     ∷ from running ones (wrRegister 0 0) (done 33 1) (0x1202001 ∷ 0 ∷ [])

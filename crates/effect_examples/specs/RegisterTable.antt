@@ -12,6 +12,10 @@ allSixteen =
     (0x10A0 ∷ 0x10A1 ∷ 0x10A2 ∷ 0x10A3 ∷ 0x10A4 ∷ 0x10A5 ∷ 0x10A6 ∷ 0x10A7
     ∷ 0x10A8 ∷ 0x10A9 ∷ 0x10AA ∷ 0x10AB ∷ 0x10AC ∷ 0x10AD ∷ 0x10AE ∷ 0x10AF ∷ [])
 
+-- Registers 7 to 10 with numbers.
+abbrev sevenToTen : List Cell
+sevenToTen = register 7 0x1234 ∷ register 8 0x2345 ∷ register 9 0x3456 ∷ register 10 0x4567 ∷ []
+
 -- The default plan is mask 07FF, CSR 0, FEEN 2, CNT 5 (document 02, F-9).
 abbrev pub table : List Row
 table =
@@ -29,9 +33,8 @@ table =
     -- "Most buyers now have registers 7 to 10" (document 02, F-9)
     ∷ row [] (wrRegister 7 0x1234 ++ (wrRegister 8 0x2345 ++ (wrRegister 9 0x3456 ++ wrRegister 10 0x4567))) (done 132 4)
     (0x202001 ∷ 0x00071234 ∷ 0x412001 ∷ 0x00082345 ∷ 0x622001 ∷ 0x00093456 ∷ 0x832001 ∷ 0x000A4567 ∷ [])
-    (register 7 0x1234 ∷ register 8 0x2345 ∷ register 9 0x3456 ∷ register 10 0x4567 ∷ [])
-    ∷ row (register 7 0x1234 ∷ register 8 0x2345 ∷ register 9 0x3456 ∷ register 10 0x4567 ∷ [])
-    (rdRegister 7 ++ (rdRegister 8 ++ (rdRegister 9 ++ rdRegister 10))) (done 132 4)
+    sevenToTen
+    ∷ row sevenToTen (rdRegister 7 ++ (rdRegister 8 ++ (rdRegister 9 ++ rdRegister 10))) (done 132 4)
     (0x202101 ∷ 0x00071234 ∷ 0x412101 ∷ 0x00082345 ∷ 0x622101 ∷ 0x00093456 ∷ 0x832101 ∷ 0x000A4567 ∷ [])
     []
     -- "WrRegister to a missing address changes nothing; RdRegister of one gives 0": flags 08 alone, for 11 and 15; with 007F by name, for 7 and 10

@@ -13,6 +13,7 @@ use Rattle.bits.proofs.Truth.{clash}
 use Rattle.limits.specs.Limits.{clockLimit, storeLength, trayLength, inputLimit}
 use Rattle.registers.specs.declared.Plan.{Plan}
 use Rattle.registers.specs.Plan.{existsAt, planFits}
+use Rattle.registers.proofs.DefaultPlan.{default-numbers}
 use Rattle.decoder.specs.declared.Decoder.{Decoder}
 use Rattle.decoder.specs.Opening.{openOf}
 use Rattle.decoder.specs.Sound.{soundOf}
@@ -217,7 +218,7 @@ module _ (line buffer : List ℕ) where
 pub first-demand : FirstDemand
 first-demand = record {
   limits = record { clock = refl; store = refl; tray = refl; input = refl; unit = refl };
-  default = record { mask = refl; csr = refl; feen = refl; cnt = refl };
+  default = default-numbers;
   opens = opens;
   takes = takes;
   as-before = as-before;

@@ -41,11 +41,8 @@ pub record Limits : Type 0 where
   pub unit : listUnit ≡ 2
 
 -- The default plan in numbers: the addresses of document 01, "The register plan", and the mask of document 02, F-9.
-pub record DefaultPlan : Type 0 where
-  pub mask : defaultPlan .mask ≡ 0x07FF
-  pub csr : defaultPlan .csr ≡ 0
-  pub feen : defaultPlan .feen ≡ 2
-  pub cnt : defaultPlan .cnt ≡ 5
+abbrev pub DefaultPlan : Type 0
+DefaultPlan = defaultPlan ≡ record { mask = 0x07FF; csr = 0; feen = 2; cnt = 5 }
 
 -- The rows checked at an opening.
 abbrev pub threeInMask : Plan → Bool

@@ -111,7 +111,7 @@ pub fn pointers_fit(pointers: [u8; 16]) -> bool
 }
 
 impl Plan {
-    // The plan of document 01 where the opener gives none.
+    // The plan where the opener gives none.
     pub fn default_plan() -> Plan
         ensures { λ r. ⌜ r ≡ defaultPlan ⌝ }
     {

@@ -11,19 +11,17 @@ use std::ops::RangeInclusive;
 
 #[test]
 fn the_default_plan() {
-    let Plan {
-        mask,
-        csr,
-        feen,
-        cnt,
-    } = Plan::DEFAULT;
-    assert_eq!((mask, csr, feen, cnt), (0x07FF, 0, 2, 5));
-    assert!(Plan::DEFAULT.opens());
+    let plan = Plan::DEFAULT;
+    assert_eq!(
+        (plan.mask, plan.csr, plan.feen, plan.cnt),
+        (0x07FF, 0, 2, 5)
+    );
+    assert!(plan.opens());
     for address in [0, 1, 2, 3, 4, 5, 6, 7, 8, 9, 10] {
-        assert!(Plan::DEFAULT.has(address), "{address}");
+        assert!(plan.has(address), "{address}");
     }
     for address in [11, 12, 13, 14, 15, 16, 255] {
-        assert!(!Plan::DEFAULT.has(address), "{address}");
+        assert!(!plan.has(address), "{address}");
     }
 }
 
