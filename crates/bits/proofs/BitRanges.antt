@@ -30,15 +30,6 @@ module _ (input : List ℕ) where
       let f : suc count - suc k ≡ count - k = omega arith in
       rw f (drop-bits (first + 1) count k (omega arith) ∙ ap (λ p. bitsOf input p (count - k)) e)
 
-  -- The same up to an end: where something is left, and where nothing is.
-  pub bits-left : (at end : ℕ) → at < end → bitsOf input at (end - at) ≡ bitOf input at ∷ bitsOf input (at + 1) (end - (at + 1))
-  bits-left at end h =
-      let k : end - at - 1 ≡ end - (at + 1) = omega arith in
-      first-bit at (end - at) (omega arith) ∙ ap (λ n. bitOf input at ∷ bitsOf input (at + 1) n) k
-
-  pub bits-over : (at end : ℕ) → end ≤ at → bitsOf input at (end - at) ≡ []
-  bits-over at end h = let k : end - at ≡ 0 = omega arith in rw k
-
 -- Each number is 0 or 1.
 abbrev pub binary : List ℕ → Bool
 binary [] = true

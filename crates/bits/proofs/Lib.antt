@@ -1,3 +1,4 @@
 pub mod Truth
 pub mod BitRanges
+pub mod Places
 pub mod Ranges

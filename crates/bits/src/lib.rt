@@ -1,20 +1,53 @@
 // The input as a stream of bits, one for each clock cycle.
 ghost use mathlib.Core.Path.{_≡_};
-ghost use Prim.Native.Nat.{_*_, _<_};
+ghost use Prim.Native.Nat.{_+_, _<_};
 ghost use lib.ListN.{length};
+ghost use Rattle.limits.specs.Limits.{inputLimit};
 ghost use Rattle.bits.specs.Bits.{bitOf};
+ghost use Rattle.bits.specs.Place.{cursorAt, placeUnder};
 ghost use Rattle.bits.specs.Range.{rangeFits};
 
 // The longest input of a call, in bytes.
 pub const INPUT_LIMIT: usize = 1048576;
 
-// The bit at a place of the input, counted from the highest bit of byte 0.
-pub fn bit_at(input: &[u8], place: usize) -> u8
-    requires { ⌜ place < 8 * length (now input) ⌝ }
-    ensures { λ r. ⌜ r ≡ bitOf (now (input .entry)) place ⌝ }
-{
-    let shift = 7 - place % 8;
-    (input[place / 8] >> shift) & 1
+// A place of the input that a reader keeps as it goes: the byte, and the bit in it, counted from its highest.
+pub struct Cursor {
+    pub byte: usize,
+    pub bit: usize,
+}
+
+impl Cursor {
+    // At a place counted in bits from the highest bit of byte 0.
+    pub fn at(place: usize) -> Self
+        ensures { λ r. ⌜ r ≡ cursorAt place ⌝ }
+    {
+        Cursor {
+            byte: place >> 3,
+            bit: place & 7,
+        }
+    }
+
+    // The bit under it.
+    pub fn read(self, input: &[u8]) -> u8
+        requires { ⌜ (self .bit < 8) × (self .byte < length (now input)) ⌝ }
+        ensures { λ r. ⌜ r ≡ bitOf (now (input .entry)) (placeUnder self) ⌝ }
+    {
+        let byte = self.byte;
+        let shift = 7 - self.bit;
+        (input[byte] >> shift) & 1
+    }
+
+    // One bit on.
+    pub fn next(self) -> Self
+        requires { ⌜ (self .bit < 8) × (self .byte < inputLimit) ⌝ }
+        ensures { λ r. ⌜ r ≡ cursorAt (placeUnder self + 1) ⌝ }
+    {
+        let on = self.bit + 1;
+        Cursor {
+            byte: self.byte + (on >> 3),
+            bit: on & 7,
+        }
+    }
 }
 
 // Whether the input is not too long and the range ends within it; no sum here can wrap.

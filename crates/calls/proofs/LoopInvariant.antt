@@ -158,12 +158,8 @@ module _ {d : Decoder} {c : Call} {store tray list : List ℕ} {r : Recogniser} 
         ∙ (rw first at (g .rest))
 
     -- a stretch of the input that is left, as single cycles
-    pub stretch-walks : (s : Stretch) → s ≡ stretchOf r cnt (bitsOf (c .input) (c .first + taken) (c .first + c .count - (c .first + taken)))
-        → Passes cnt r (left c taken) s
-    stretch-walks s walked =
-        let e : c .first + c .count - (c .first + taken) ≡ c .count - taken = omega arith in
-        let went : s ≡ stretchOf r cnt (left c taken) = rw e at walked in
-        rw (went, first) (stretch-passes r cnt _ _)
+    pub stretch-walks : (s : Stretch) → s ≡ stretchOf r cnt (left c taken) → Passes cnt r (left c taken) s
+    stretch-walks s walked = rw (walked, first) (stretch-passes r cnt _ _)
 
     -- after single cycles of which only the last asks for anything, however far they go
     module _ (room : 2 ≤ length list - at) (s : Stretch) (passes : Passes cnt r (left c taken) s) where

@@ -1,2 +1,3 @@
 pub mod StretchLoops
 pub mod SingleCycles
+pub mod Walks

@@ -1,11 +1,15 @@
 // Several clock cycles of the command line at once, as the taking loop walks them: a loop each for hunting and for a body; in any other phase one cycle.
 ghost use mathlib.Core.Path.{_≡_};
-ghost use Prim.Native.Nat.{_*_, _-_, _<_, _≤_};
+ghost use Prim.Native.Nat.{_+_, _*_, _<_, _≤_};
 ghost use lib.ListN.{length};
+ghost use Rattle.limits.specs.Limits.{inputLimit};
 ghost use Rattle.bits.specs.Bits.{bitsOf};
+ghost use Rattle.bits.specs.Place.{placeUnder};
 ghost use Rattle.recogniser.specs.Parts.{standing};
 ghost use Rattle.recogniser.specs.Hunting.{meaningOf};
 ghost use Rattle.stretches.specs.Stretch.{isQuiet, stretched, huntOn, bodyOn, stretchOf};
+ghost use Rattle.stretches.specs.Walk.{walkOf};
+use bits::Cursor;
 use recogniser::Event;
 use recogniser::Meaning;
 use recogniser::Phase;
@@ -35,6 +39,12 @@ impl Stretch {
     }
 }
 
+// A stretch of the input, and the place behind it.
+pub struct Walk {
+    pub stretch: Stretch,
+    pub behind: Cursor,
+}
+
 // Whether the window means nothing.
 fn is_quiet(window: u8) -> bool
     ensures { λ r. ⌜ r ≡ isQuiet (meaningOf window) ⌝ }
@@ -47,22 +57,31 @@ fn is_quiet(window: u8) -> bool
     }
 }
 
-// Hunting on with a window, up to the first that means something or to the end.
-fn hunt_on(shift: u8, input: &[u8], place: usize, end: usize) -> Stretch
-    requires { ⌜ (place < end) × (end ≤ 8 * length (now input)) ⌝ }
-    ensures { λ r. ⌜ r ≡ huntOn shift (bitsOf (now (input .entry)) place (end - place)) ⌝ }
+// Hunting on with a window over so many bits, up to the first that means something.
+fn hunt_on(shift: u8, input: &[u8], from: Cursor, count: usize) -> Walk
+    requires { ⌜ (0 < count) × (from .bit < 8) ⌝ }
+    requires { ⌜ (placeUnder from + count ≤ 8 * length (now input)) × (length (now input) ≤ inputLimit) ⌝ }
+    ensures { λ r. ⌜ r ≡ walkOf from (huntOn shift (bitsOf (now (input .entry)) (placeUnder from) count)) ⌝ }
 {
     let mut window = shift;
-    let mut at = place;
-    while at < end {
-        window = recogniser::window_with(window, bits::bit_at(input, at));
-        at = at + 1;
+    let mut at = from;
+    let mut taken: usize = 0;
+    while taken < count {
+        window = recogniser::window_with(window, at.read(input));
+        at = at.next();
+        taken = taken + 1;
         if is_quiet(window) {
             continue;
         }
-        return Stretch::of(at - place, Transition::hunted(window));
+        return Walk {
+            stretch: Stretch::of(taken, Transition::hunted(window)),
+            behind: at,
+        };
     }
-    Stretch::of(at - place, Transition::hunting(window, Request::Nothing))
+    Walk {
+        stretch: Stretch::of(taken, Transition::hunting(window, Request::Nothing)),
+        behind: at,
+    }
 }
 
 // The same phase, with these bits of it received.
@@ -74,39 +93,52 @@ fn standing(mut r: Recogniser, shift: u8, count: u32) -> Recogniser
     r
 }
 
-// A body, up to its fourth bit or to the end.
-fn body_on(r: Recogniser, input: &[u8], place: usize, end: usize) -> Stretch
-    requires { ⌜ (place < end) × (end ≤ 8 * length (now input)) ⌝ }
-    ensures { λ o. ⌜ o ≡ bodyOn r (bitsOf (now (input .entry)) place (end - place)) ⌝ }
+// A body over so many bits, up to its fourth.
+fn body_on(r: Recogniser, input: &[u8], from: Cursor, count: usize) -> Walk
+    requires { ⌜ (0 < count) × (from .bit < 8) ⌝ }
+    requires { ⌜ (placeUnder from + count ≤ 8 * length (now input)) × (length (now input) ≤ inputLimit) ⌝ }
+    ensures { λ o. ⌜ o ≡ walkOf from (bodyOn r (bitsOf (now (input .entry)) (placeUnder from) count)) ⌝ }
 {
     let mut nibble = r.shift;
-    let mut count = r.count;
-    let mut at = place;
-    while at < end {
-        let bit = bits::bit_at(input, at);
-        at = at + 1;
-        if 3 <= count {
-            return Stretch::of(at - place, standing(r, nibble, count).body(bit));
+    let mut received = r.count;
+    let mut at = from;
+    let mut taken: usize = 0;
+    while taken < count {
+        let bit = at.read(input);
+        at = at.next();
+        taken = taken + 1;
+        if 3 <= received {
+            return Walk {
+                stretch: Stretch::of(taken, standing(r, nibble, received).body(bit)),
+                behind: at,
+            };
         }
         nibble = recogniser::nibble_with(nibble, bit);
-        count = count + 1;
+        received = received + 1;
     }
-    Stretch {
-        taken: at - place,
-        next: standing(r, nibble, count),
-        event: Event::NOTHING,
+    Walk {
+        stretch: Stretch {
+            taken: taken,
+            next: standing(r, nibble, received),
+            event: Event::NOTHING,
+        },
+        behind: at,
     }
 }
 
-// One cycle or more of the input, up to the end at most, by the present contents of the CNT register; all but the last ask for nothing.
-pub fn advance(r: Recogniser, input: &[u8], place: usize, end: usize, cnt: u16) -> Stretch
-    requires { ⌜ (place < end) × (end ≤ 8 * length (now input)) ⌝ }
-    ensures { λ o. ⌜ o ≡ stretchOf r cnt (bitsOf (now (input .entry)) place (end - place)) ⌝ }
+// One cycle or more of so many bits of the input, by the present contents of the CNT register; all but the last ask for nothing.
+pub fn advance(r: Recogniser, input: &[u8], from: Cursor, count: usize, cnt: u16) -> Walk
+    requires { ⌜ (0 < count) × (from .bit < 8) ⌝ }
+    requires { ⌜ (placeUnder from + count ≤ 8 * length (now input)) × (length (now input) ≤ inputLimit) ⌝ }
+    ensures { λ o. ⌜ o ≡ walkOf from (stretchOf r cnt (bitsOf (now (input .entry)) (placeUnder from) count)) ⌝ }
 {
     let phase = r.phase;
     match phase {
-        Phase::Hunt => hunt_on(r.shift, input, place, end),
-        Phase::Body => body_on(r, input, place, end),
-        _ => Stretch::of(1, r.step(bits::bit_at(input, place), cnt)),
+        Phase::Hunt => hunt_on(r.shift, input, from, count),
+        Phase::Body => body_on(r, input, from, count),
+        _ => Walk {
+            stretch: Stretch::of(1, r.step(from.read(input), cnt)),
+            behind: from.next(),
+        },
     }
 }

@@ -4,6 +4,7 @@ ghost use Prim.Native.Nat.{_+_, _*_, _≤_};
 ghost use lib.ListN.{length};
 ghost use Rattle.limits.specs.Limits.{clockLimit, storeLength, inputLimit};
 ghost use Rattle.calls.specs.Take.{call, result, takenOf, takeOf};
+use bits::Cursor;
 use calls::Ending;
 use calls::Performed;
 use calls::Taken;
@@ -29,12 +30,15 @@ fn run(
     let plan = decoder.plan;
     let mut recogniser = decoder.recogniser;
     let mut done = Performed::nothing(decoder, free);
+    let mut cursor = Cursor::at(first);
     let mut taken: usize = 0;
     while taken < count {
         if list.len() - done.at < Decoder::LIST_UNIT {
             return Taken::ended(decoder, recogniser, done, taken, free, Ending::ListFull);
         }
-        let stretch = stretches::advance(recogniser, input, first + taken, first + count, done.cnt);
+        let walk = stretches::advance(recogniser, input, cursor, count - taken, done.cnt);
+        cursor = walk.behind;
+        let stretch = walk.stretch;
         let next = stretch.next;
         recogniser = next;
         taken = taken + stretch.taken;

@@ -2,40 +2,41 @@
 -- Assumes nothing.
 use Prim.Native.Nat.{_-_}
 use native.Mathlib.Omega.{arith}
+use borrow.Author.Needs.{needs}
 use Rattle.bits.specs.Bits.{bitsOf}
+use Rattle.bits.specs.Place.{placeUnder}
+use Rattle.bits.proofs.Places.{bits-over}
 use Rattle.recogniser.specs.Parts.{standing}
 use Rattle.stretches.specs.Stretch.{bodyOn}
-use Rattle.bits.proofs.BitRanges.{bits-over}
-use Rattle.stretches.proofs.StretchLoops.{Invariant, initially, again, over, body-left, body-last}
-use borrow.Author.Needs.{needs}
+use Rattle.stretches.proofs.StretchLoops.{Invariant, initially, again, over, last-cycle, body-left, body-last}
 use Rattle.stretches.proofs.body_on.Statement.{statement}
 use Rattle.stretches.proofs.body_on.Tie as tie
 
 abbrev Inv-loop : tie.InvT-loop
-Inv-loop self input place end nibble₀ count₀ at₀ nibble count at =
+Inv-loop self input count nibble₀ received₀ from taken₀ nibble received at taken =
     Invariant
-    (bodyOn self (bitsOf input place (end - place)))
-    (bodyOn (standing self nibble count) (bitsOf input at (end - at)))
-    place at end
+    (bodyOn self (bitsOf input (placeUnder from) count))
+    (bodyOn (standing self nibble received) (bitsOf input (placeUnder at) (count - taken)))
+    from at taken count
 
 abbrev μ-loop : tie.MeasureT-loop
-μ-loop self input place end nibble₀ count₀ at₀ nibble count at = end - at
+μ-loop self input count nibble₀ received₀ from taken₀ nibble received at taken = count - taken
 
 -- A turn's start, from where its bit is read.
-abbrev looped : tie.After-bit-at Inv-loop μ-loop → tie.At-loop Inv-loop μ-loop
+abbrev looped : tie.After-read Inv-loop μ-loop → tie.At-loop Inv-loop μ-loop
 looped b = b .before .before
 
 loop-holds : tie.Need-loop-holds Inv-loop μ-loop
-loop-holds c = initially _ _ _ (c .before .pre .0)
+loop-holds c = let s = c .before in initially (bodyOn (s .args .r)) _ _ _ (s .pre .0 .1)
 
-bit-at-requires : tie.Need-bit-at-requires Inv-loop μ-loop
-bit-at-requires c κs = search needs
+read-requires : tie.Need-read-requires Inv-loop μ-loop
+read-requires c κs = search needs
 
-add-at : tie.Need-add-at Inv-loop μ-loop
-add-at c = search needs
+next-requires : tie.Need-next-requires Inv-loop μ-loop
+next-requires c κs = search needs
 
-sub-of : tie.Need-sub-of Inv-loop μ-loop
-sub-of c = search needs
+add-taken : tie.Need-add-taken Inv-loop μ-loop
+add-taken c = search needs
 
 standing-requires : tie.Need-standing-requires Inv-loop μ-loop
 standing-requires c κs = search needs
@@ -48,42 +49,42 @@ of-requires c κs = search needs
 
 returns : tie.Need-returns Inv-loop μ-loop
 returns c =
-    let b = c .before .before .before .before in
+    let fourth = c .before .before .before in
+    let stepped = fourth .before in
+    let b = stepped .before in
     let l = looped b in
     rw (c .of .ensures, c .before .body .ensures, c .before .before .standing .ensures)
-    (over (l .loop .inv) _ 1 _
-    (body-last _ _ _ (l .before .before .args .r) _ _ _ (b .before .loop-test .taken) (b .bit-at .ensures) (c .before .before .before .if1 .taken))
-    (omega arith))
+    (last-cycle (l .loop .inv) _ _
+    (body-last _ _ _ _ _ (b .before .loop-test .taken) (stepped .next .ensures) _ (b .read .ensures) (l .before .before .args .r) _ _ (fourth .if1 .taken))
+    (stepped .next .ensures))
 
 nibble-with-requires : tie.Need-nibble-with-requires Inv-loop μ-loop
 nibble-with-requires c κs = search needs
 
-add-count : tie.Need-add-count Inv-loop μ-loop
-add-count c = search needs
+add-received : tie.Need-add-received Inv-loop μ-loop
+add-received c = search needs
 
 loop-less : tie.Need-loop-less Inv-loop μ-loop
 loop-less c = search needs
 
 loop-again : tie.Need-loop-again Inv-loop μ-loop
 loop-again c =
-    let b = c .before .before in
+    let stepped = c .before .before in
+    let b = stepped .before in
     let l = looped b in
     let e = b .before .loop-test .taken in
-    again (l .loop .inv) _
-    (body-left _ _ _ (l .before .before .args .r) _ _ _ e (b .bit-at .ensures) _ (c .nibble-with .ensures) (omega (arith, c .before .if1 .left)))
-    e
-
-sub-t13 : tie.Need-sub-t13 Inv-loop μ-loop
-sub-t13 c = search needs
+    again (l .loop .inv) _ _
+    (body-left _ _ _ _ _ e (stepped .next .ensures) _ (b .read .ensures) (l .before .before .args .r) _ _ _ (c .nibble-with .ensures)
+    (omega (arith, c .before .if1 .left)))
+    (stepped .next .ensures) e
 
 standing-requires-2 : tie.Need-standing-requires-2 Inv-loop μ-loop
 standing-requires-2 c κs = search needs
 
 returns-2 : tie.Need-returns-2 Inv-loop μ-loop
 returns-2 c =
-    let l = c .before .before in
-    rw (c .standing2 .ensures)
-    (over (l .loop .inv) _ 0 _ (rw (bits-over _ _ _ (c .before .loop-test .left))) (omega arith))
+    let l = c .before in
+    rw (c .standing2 .ensures) (over (l .before .loop .inv) _ (rw (bits-over _ _ _ _ (l .loop-test .left))))
 
 pub body-on-spec : {M : Type 1} → statement M
 body-on-spec =
@@ -92,17 +93,16 @@ body-on-spec =
     Inv-loop
     μ-loop
     loop-holds
-    bit-at-requires
-    add-at
-    sub-of
+    read-requires
+    next-requires
+    add-taken
     standing-requires
     body-requires
     of-requires
     returns
     nibble-with-requires
-    add-count
+    add-received
     loop-less
     loop-again
-    sub-t13
     standing-requires-2
     returns-2)

@@ -4,18 +4,23 @@ use mathlib.Core.Path.{refl, _∙_}
 use Prim.Native.Nat.{_+_, _-_, _≤_}
 use native.Mathlib.Omega.{arith}
 use borrow.Author.Needs.{needs}
+use Rattle.bits.proofs.Places.{Stands, stands}
+use Rattle.stretches.specs.declared.Stretch.{Stretch}
 use Rattle.stretches.proofs.SingleCycles.{Passes}
+use Rattle.stretches.proofs.Walks.{walk-stretch, walk-behind}
 use Rattle.calls.specs.Take.{Call, call}
 use Rattle.calls.proofs.LoopInvariant.{Invariant, left, initially, stretch-walks, done, full, quiet, performed, moved, stretched-fits}
 use Rattle.taking.proofs.run.Statement.{statement}
 use Rattle.taking.proofs.run.Tie as tie
 
+-- What the call's own invariant says, and that the cursor stands at the next bit.
 abbrev Inv-loop : tie.InvT-loop
-Inv-loop decoder input first count store₀ tray₀ list₀ free plan recogniser₀ done₀ taken₀ store tray list recogniser done taken =
+Inv-loop decoder input first count store₀ tray₀ list₀ free plan recogniser₀ done₀ cursor₀ taken₀ store tray list recogniser done cursor taken =
     Invariant decoder (call input first count store₀ tray₀ list₀ free) store tray list recogniser (done .model) (done .cnt) taken (done .at)
+    × Stands cursor (first + taken)
 
 abbrev μ-loop : tie.MeasureT-loop
-μ-loop decoder input first count store₀ tray₀ list₀ free plan recogniser₀ done₀ taken₀ store tray list recogniser done taken = count - taken
+μ-loop decoder input first count store₀ tray₀ list₀ free plan recogniser₀ done₀ cursor₀ taken₀ store tray list recogniser done cursor taken = count - taken
 
 -- The places that the proofs look back to, each by the one after it: the call, a turn's start, after a stretch, after its frame bit, after its request.
 abbrev Called : Type 0
@@ -39,7 +44,7 @@ begun n =
     k .before .before .before
 
 abbrev called : Turn → Called
-called l = begun (l .before)
+called l = begun (l .before .before)
 
 abbrev turn : Walked → Turn
 turn a = a .before .before .before .before
@@ -47,7 +52,7 @@ turn a = a .before .before .before .before
 abbrev walked : Kept → Walked
 walked k =
     let e = k .before .before .before .before in
-    e .before .before
+    e .before .before .before .before
 
 abbrev kept : Performed → Kept
 kept p =
@@ -66,20 +71,34 @@ asked s =
     let a = s .args in
     call (a .input .now) (a .first) (a .count) (a .store .now) (a .tray .now) (a .list .now) (a .free)
 
-walks : (a : Walked) → Passes (turn a .loop .done .cnt) (turn a .loop .recogniser) (left (asked (called (turn a))) (turn a .loop .taken)) (a .advance .result)
-walks a = stretch-walks (turn a .loop .inv) (a .before .before .before .loop-test .taken) (a .advance .result) (a .advance .ensures)
+abbrev stretch : Walked → Stretch
+stretch a = a .advance .result .stretch
 
--- A stretch moves on, and stays within the call.
-moves : (a : Walked) → (1 ≤ a .advance .result .taken) × (turn a .loop .taken + a .advance .result .taken ≤ called (turn a) .args .count)
-moves a = moved (turn a .loop .inv) (a .before .before .before .loop-test .taken) (a .before .if1 .left) (a .advance .result) (walks a)
+walks : (a : Walked) → Passes (turn a .loop .done .cnt) (turn a .loop .recogniser) (left (asked (called (turn a))) (turn a .loop .taken)) (stretch a)
+walks a =
+    let l = turn a .loop in
+    stretch-walks (l .inv .0) (a .before .before .before .loop-test .taken) (stretch a) (rw (l .inv .1 .under) at (walk-stretch (l .cursor) (a .advance .ensures)))
+
+-- A stretch moves on, and stays within the call; the cursor then stands behind it.
+moves : (a : Walked) → (1 ≤ stretch a .taken) × (turn a .loop .taken + stretch a .taken ≤ called (turn a) .args .count)
+moves a = moved (turn a .loop .inv .0) (a .before .before .before .loop-test .taken) (a .before .if1 .left) (stretch a) (walks a)
+
+goes-on : (a : Walked) → Stands (a .advance .result .behind) (called (turn a) .args .first + (turn a .loop .taken + stretch a .taken))
+goes-on a =
+    let b = walk-behind (turn a .loop .cursor) (a .advance .ensures) _ (turn a .loop .inv .1) in
+    record { inside = b .inside; under = omega (arith, b) }
 
 nothing-requires : tie.Need-nothing-requires Inv-loop μ-loop
 nothing-requires c κs = search needs
 
+at-requires : tie.Need-at-requires Inv-loop μ-loop
+at-requires c κs = search needs
+
 loop-holds : tie.Need-loop-holds Inv-loop μ-loop
 loop-holds c =
-    let s = begun c in
-    rw (c .nothing .ensures) (initially (s .args .decoder) _ _ (omega (arith, s)) refl)
+    let s = begun (c .before) in
+    let b = stands (c .at .ensures) in
+    (rw (c .before .nothing .ensures) (initially (s .args .decoder) _ _ (omega (arith, s)) refl), record { inside = b .inside; under = omega (arith, b) })
 
 sub-if1 : tie.Need-sub-if1 Inv-loop μ-loop
 sub-if1 c = search needs
@@ -88,31 +107,28 @@ ended-requires : tie.Need-ended-requires Inv-loop μ-loop
 ended-requires c κs = search needs
 
 same-length : tie.Need-same-length Inv-loop μ-loop
-same-length c = c .before .before .before .before .loop .inv .long
+same-length c = c .before .before .before .before .loop .inv .0 .long
 
 same-length-2 : tie.Need-same-length-2 Inv-loop μ-loop
-same-length-2 c = c .before .before .before .before .loop .inv .wide
+same-length-2 c = c .before .before .before .before .loop .inv .0 .wide
 
 same-length-3 : tie.Need-same-length-3 Inv-loop μ-loop
-same-length-3 c = c .before .before .before .before .loop .inv .same
+same-length-3 c = c .before .before .before .before .loop .inv .0 .same
 
 returns : tie.Need-returns Inv-loop μ-loop
 returns c =
     let l = c .before .before .before .before in
-    rw (c .ended .ensures) (full (l .loop .inv) (c .before .before .before .loop-test .taken) (c .before .if1 .taken))
+    rw (c .ended .ensures) (full (l .loop .inv .0) (c .before .before .before .loop-test .taken) (c .before .if1 .taken))
 
-add-advance : tie.Need-add-advance Inv-loop μ-loop
-add-advance c = search needs
-
-add-advance-2 : tie.Need-add-advance-2 Inv-loop μ-loop
-add-advance-2 c = search needs
+sub-advance : tie.Need-sub-advance Inv-loop μ-loop
+sub-advance c = search needs
 
 advance-requires : tie.Need-advance-requires Inv-loop μ-loop
 advance-requires c κs = search needs
 
 add-taken : tie.Need-add-taken Inv-loop μ-loop
 add-taken c =
-    let a = c .before .before in
+    let a = c .before .before .before .before in
     let m = moves a in
     omega (arith, turn a, called (turn a))
 
@@ -132,8 +148,8 @@ loop-again : tie.Need-loop-again Inv-loop μ-loop
 loop-again c =
     let k = c .before .before .before in
     let a = walked k in
-    quiet (turn a .loop .inv) (a .before .before .before .loop-test .taken) (a .before .if1 .left) (a .advance .result) (walks a)
-    _ (k .before .keep .ensures) (k .tray .given) (c .enum-told .given .1)
+    (quiet (turn a .loop .inv .0) (a .before .before .before .loop-test .taken) (a .before .if1 .left) (stretch a) (walks a)
+    _ (k .before .keep .ensures) (k .tray .given) (c .enum-told .given .1), goes-on a)
 
 add-time : tie.Need-add-time Inv-loop μ-loop
 add-time c =
@@ -153,8 +169,8 @@ perform-requires c κs =
     let a = walked (t .before .before) in
     let l = turn a in
     let m = moves a in
-    let fits = stretched-fits (l .loop .inv) (a .before .before .before .loop-test .taken) (a .before .if1 .left) (a .advance .result) (walks a) in
-    (omega (arith, l, called l), (l .loop .inv .long ∙ called l .pre .0 .1), fits, a .before .if1 .left)
+    let fits = stretched-fits (l .loop .inv .0) (a .before .before .before .loop-test .taken) (a .before .if1 .left) (stretch a) (walks a) in
+    (omega (arith, l, called l), (l .loop .inv .0 .long ∙ called l .pre .0 .1), fits, a .before .if1 .left)
 
 ended-requires-2 : tie.Need-ended-requires-2 Inv-loop μ-loop
 ended-requires-2 c κs =
@@ -163,31 +179,31 @@ ended-requires-2 c κs =
     let a = walked k in
     let l = turn a in
     let m = moves a in
-    let g = performed (l .loop .inv) (a .before .before .before .loop-test .taken) (a .before .if1 .left) (a .advance .result) (walks a)
+    let g = performed (l .loop .inv .0) (a .before .before .before .loop-test .taken) (a .before .if1 .left) (stretch a) (walks a)
     _ (k .before .keep .ensures) (k .tray .given) _ (p .before .perform .ensures) (p .store .given) in
     (omega (arith, l, called l), g .from)
 
 same-length-4 : tie.Need-same-length-4 Inv-loop μ-loop
 same-length-4 c =
     let p = stopped (c .before) in
-    p .store .given ∙ turn (walked (kept p)) .loop .inv .long
+    p .store .given ∙ turn (walked (kept p)) .loop .inv .0 .long
 
 same-length-5 : tie.Need-same-length-5 Inv-loop μ-loop
 same-length-5 c =
     let k = kept (stopped (c .before)) in
-    k .tray .given ∙ turn (walked k) .loop .inv .wide
+    k .tray .given ∙ turn (walked k) .loop .inv .0 .wide
 
 same-length-6 : tie.Need-same-length-6 Inv-loop μ-loop
 same-length-6 c =
     let w = c .before .before .before in
-    w .list .given ∙ turn (walked (kept (w .before .before))) .loop .inv .same
+    w .list .given ∙ turn (walked (kept (w .before .before))) .loop .inv .0 .same
 
 returns-2 : tie.Need-returns-2 Inv-loop μ-loop
 returns-2 c =
     let p = stopped (c .before) in
     let k = kept p in
     let a = walked k in
-    let g = performed (turn a .loop .inv) (a .before .before .before .loop-test .taken) (a .before .if1 .left) (a .advance .result) (walks a)
+    let g = performed (turn a .loop .inv .0) (a .before .before .before .loop-test .taken) (a .before .if1 .left) (stretch a) (walks a)
     _ (k .before .keep .ensures) (k .tray .given) _ (p .before .perform .ensures) (p .store .given) in
     rw (c .ended2 .ensures) (g .stopped (c .before .if2 .taken))
 
@@ -202,25 +218,25 @@ loop-again-2 c =
     let p = going-on c in
     let k = kept p in
     let a = walked k in
-    let g = performed (turn a .loop .inv) (a .before .before .before .loop-test .taken) (a .before .if1 .left) (a .advance .result) (walks a)
+    let g = performed (turn a .loop .inv .0) (a .before .before .before .loop-test .taken) (a .before .if1 .left) (stretch a) (walks a)
     _ (k .before .keep .ensures) (k .tray .given) _ (p .before .perform .ensures) (p .store .given) in
-    g .onwards (c .if2 .left)
+    (g .onwards (c .if2 .left), goes-on a)
 
 ended-requires-3 : tie.Need-ended-requires-3 Inv-loop μ-loop
 ended-requires-3 c κs = search needs
 
 same-length-7 : tie.Need-same-length-7 Inv-loop μ-loop
-same-length-7 c = c .before .before .loop .inv .long
+same-length-7 c = c .before .before .loop .inv .0 .long
 
 same-length-8 : tie.Need-same-length-8 Inv-loop μ-loop
-same-length-8 c = c .before .before .loop .inv .wide
+same-length-8 c = c .before .before .loop .inv .0 .wide
 
 same-length-9 : tie.Need-same-length-9 Inv-loop μ-loop
-same-length-9 c = c .before .before .loop .inv .same
+same-length-9 c = c .before .before .loop .inv .0 .same
 
 returns-3 : tie.Need-returns-3 Inv-loop μ-loop
 returns-3 c =
-    rw (c .ended3 .ensures) (done (c .before .before .loop .inv) (c .before .loop-test .left))
+    rw (c .ended3 .ensures) (done (c .before .before .loop .inv .0) (c .before .loop-test .left))
 
 pub run-spec : {M : Type 1} → statement M
 run-spec =
@@ -229,6 +245,7 @@ run-spec =
     Inv-loop
     μ-loop
     nothing-requires
+    at-requires
     loop-holds
     sub-if1
     ended-requires
@@ -236,8 +253,7 @@ run-spec =
     same-length-2
     same-length-3
     returns
-    add-advance
-    add-advance-2
+    sub-advance
     advance-requires
     add-taken
     keep-requires

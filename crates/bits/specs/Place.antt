@@ -1,0 +1,12 @@
+-- A place of the input as byte and bit (document 02, F-3).
+-- Assumes nothing.
+use Prim.Native.Nat.{ℕ, _+_, _*_, _/_, _%_}
+use Rattle.bits.specs.declared.Cursor.{Cursor}
+
+-- The cursor at a place.
+abbrev pub cursorAt : ℕ → Cursor
+cursorAt place = record { byte = place / 8; bit = place % 8 }
+
+-- The place that a cursor stands for.
+abbrev pub placeUnder : Cursor → ℕ
+placeUnder c = 8 * c .byte + c .bit
