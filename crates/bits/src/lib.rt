@@ -10,20 +10,20 @@ ghost use Rattle.bits.specs.Range.{rangeFits};
 // The longest input of a call, in bytes.
 pub const INPUT_LIMIT: usize = 1048576;
 
-// A place of the input that a reader keeps as it goes: the byte, and the bit in it, counted from its highest.
+// A place of the input, kept as a reader goes on: a byte, and a bit of it, 7 for the highest, which comes first.
 pub struct Cursor {
     pub byte: usize,
-    pub bit: usize,
+    pub bit: u32,
 }
 
 impl Cursor {
-    // At a place counted in bits from the highest bit of byte 0.
+    // At a place counted from the highest bit of byte 0.
     pub fn at(place: usize) -> Self
         ensures { λ r. ⌜ r ≡ cursorAt place ⌝ }
     {
         Cursor {
             byte: place >> 3,
-            bit: place & 7,
+            bit: 7 - (place & 7) as u32,
         }
     }
 
@@ -33,8 +33,7 @@ impl Cursor {
         ensures { λ r. ⌜ r ≡ bitOf (now (input .entry)) (placeUnder self) ⌝ }
     {
         let byte = self.byte;
-        let shift = 7 - self.bit;
-        (input[byte] >> shift) & 1
+        (input[byte] >> self.bit) & 1
     }
 
     // One bit on.
@@ -42,10 +41,10 @@ impl Cursor {
         requires { ⌜ (self .bit < 8) × (self .byte < inputLimit) ⌝ }
         ensures { λ r. ⌜ r ≡ cursorAt (placeUnder self + 1) ⌝ }
     {
-        let on = self.bit + 1;
+        let last = self.bit == 0;
         Cursor {
-            byte: self.byte + (on >> 3),
-            bit: on & 7,
+            byte: self.byte + last as usize,
+            bit: (self.bit + 7) & 7,
         }
     }
 }

@@ -29,52 +29,44 @@ cyclesAhead walked s = stretched (walked + s .taken) (transition (s .next) (s .e
 abbrev pub walked : Stretch → Cursor → Walk
 walked s behind = record { stretch = s; behind = behind }
 
--- Walked so many of a count of cycles: the whole stretch, what is left of it, and where the cursor stands.
-pub record Invariant (whole left : Stretch) (from at : Cursor) (taken count : ℕ) : Type 0 where
-  pub high : taken ≤ count
-  pub place : Stands at (placeUnder from + taken)
-  pub same : cyclesAhead taken left ≡ whole
+-- Walked all but so many of a count of cycles: the whole stretch, the rest of it, and where the cursor stands.
+pub record Invariant (whole rest : Stretch) (from at : Cursor) (left count : ℕ) : Type 0 where
+  pub high : left ≤ count
+  pub place : Stands at (placeUnder from + (count - left))
+  pub same : cyclesAhead (count - left) rest ≡ whole
 
-pub initially : (walks : List ℕ → Stretch) (input : List ℕ) (from : Cursor) (count : ℕ) → from .bit < 8
-    → Invariant (walks (bitsOf input (placeUnder from) count)) (walks (bitsOf input (placeUnder from) (count - 0))) from from 0 count
-initially walks input from count h =
-    let k : count - 0 ≡ count = omega arith in
-    let s : Stretch = walks (bitsOf input (placeUnder from) count) in
-    rw k (record {
-      high = omega arith;
-      place = record { inside = h; under = omega arith };
-      same = ap (λ (n : ℕ). stretched n (transition (s .next) (s .event))) (omega arith);
-    })
+pub initially : (s : Stretch) (from : Cursor) (count : ℕ) → from .bit < 8 → Invariant s s from from count count
+initially s from count h = record {
+  high = omega arith;
+  place = record { inside = h; under = omega arith };
+  same = ap (λ (k : ℕ). stretched k (transition (s .next) (s .event))) (omega arith);
+}
 
-module _ {whole left : Stretch} {from at : Cursor} {taken count : ℕ} (w : Invariant whole left from at taken count) where
-  -- so many cycles further on
-  behind : (more : ℕ) (next : Cursor) → Stands next (placeUnder at + more) → Stands next (placeUnder from + (taken + more))
-  behind more next s = record { inside = s .inside; under = omega (arith, w .place, s) }
+module _ {whole rest : Stretch} {from at : Cursor} {left count : ℕ} (w : Invariant whole rest from at left count) where
+  pub again : (further : Stretch) (next : Cursor) → rest ≡ oneMore further → next ≡ cursorAt (placeUnder at + 1) → 0 < left
+      → Invariant whole further from next (left - 1) count
+  again further next e n h =
+      let s = stands n in
+      record {
+        high = omega (arith, w);
+        place = record { inside = s .inside; under = omega (arith, w, w .place, s) };
+        same = ap (λ (k : ℕ). stretched k (transition (further .next) (further .event))) (omega (arith, w)) ∙ rw e at (w .same);
+      }
 
-  pub again : (rest : Stretch) (next : Cursor) → left ≡ oneMore rest → next ≡ cursorAt (placeUnder at + 1) → taken < count
-      → Invariant whole rest from next (taken + 1) count
-  again rest next e n h = record {
-    high = omega arith;
-    place = behind 1 next (stands n);
-    same = ap (λ (k : ℕ). stretched k (transition (rest .next) (rest .event))) (omega arith) ∙ rw e at (w .same);
-  }
-
-  -- the loop's end, with so many cycles beyond what was walked
-  ended : (more : ℕ) (next : Cursor) (last : Transition) → left ≡ stretched more last → Stands next (placeUnder at + more)
-      → walked (stretched (taken + more) last) next ≡ walkOf from whole
-  ended more next last e n =
-      let s : stretched (taken + more) last ≡ whole = rw e at (w .same) in
-      let p : next ≡ cursorAt (placeUnder from + (taken + more)) = stands-at (behind more next n) in
+  -- the loop's end, with so many cycles beyond those walked
+  ended : (taken more : ℕ) (next : Cursor) (last : Transition) → taken ≡ count - left + more → rest ≡ stretched more last
+      → Stands next (placeUnder at + more) → walked (stretched taken last) next ≡ walkOf from whole
+  ended taken more next last t e n =
+      let s : stretched taken last ≡ whole = rw t (rw e at (w .same)) in
+      let p : next ≡ cursorAt (placeUnder from + taken) = stands-at (record { inside = n .inside; under = omega (arith, w, w .place, n, t) }) in
       (λ i. walked (s i) (p i)) ∙ ap (λ (k : ℕ). walked whole (cursorAt (placeUnder from + k))) (ap (λ (q : Stretch). q .taken) s)
 
-  pub over : (last : Transition) → left ≡ stretched 0 last → walked (stretched taken last) at ≡ walkOf from whole
-  over last e =
-      let n : taken + 0 ≡ taken = omega arith in
-      rw n at (ended 0 at last e (record { inside = w .place .inside; under = omega arith }))
+  pub over : (last : Transition) → rest ≡ stretched 0 last → walked (stretched (count - left) last) at ≡ walkOf from whole
+  over last e = ended (count - left) 0 at last (omega arith) e (record { inside = w .place .inside; under = omega arith })
 
-  pub last-cycle : (last : Transition) (next : Cursor) → left ≡ stretched 1 last → next ≡ cursorAt (placeUnder at + 1)
-      → walked (stretched (taken + 1) last) next ≡ walkOf from whole
-  last-cycle last next e n = ended 1 next last e (stands n)
+  pub last-cycle : (last : Transition) (next : Cursor) → rest ≡ stretched 1 last → next ≡ cursorAt (placeUnder at + 1) → 0 < left
+      → walked (stretched (count - (left - 1)) last) next ≡ walkOf from whole
+  last-cycle last next e n h = ended (count - (left - 1)) 1 next last (omega (arith, w)) e (stands n)
 
 -- A window that means nothing, and one that means something.
 quiet-beyond : (v : ℕ) (m : Meaning) (s : Stretch) → isQuiet m ≡ true → huntBeyond v m s ≡ oneMore s
@@ -87,40 +79,36 @@ loud-beyond v Quiet s e = cc
 loud-beyond v (Trigger flip) s e = refl
 loud-beyond v Header s e = refl
 
-module _ (input : List ℕ) (at next : Cursor) (taken count : ℕ) (h : taken < count) (n : next ≡ cursorAt (placeUnder at + 1))
+module _ (input : List ℕ) (at next : Cursor) (left : ℕ) (h : 0 < left) (n : next ≡ cursorAt (placeUnder at + 1))
     (bit : ℕ) (b : bit ≡ bitOf input (placeUnder at)) where
   -- the bits that are left, and those after the first of them
-  abbrev left : List ℕ
-  left = bitsOf input (placeUnder at) (count - taken)
+  abbrev coming : List ℕ
+  coming = bitsOf input (placeUnder at) left
 
   abbrev beyond : List ℕ
-  beyond = bitsOf input (placeUnder next) (count - (taken + 1))
+  beyond = bitsOf input (placeUnder next) (left - 1)
 
-  first : left ≡ bit ∷ beyond
-  first = bits-left input at taken count next n h ∙ ap (λ (x : ℕ). x ∷ beyond) (sym b)
+  first : coming ≡ bit ∷ beyond
+  first = bits-left input at next left n h ∙ ap (λ (x : ℕ). x ∷ beyond) (sym b)
 
   -- One bit of a hunt.
   module _ (window v : ℕ) (e : v ≡ shifted 5 window bit) where
-    pub hunt-left : isQuiet (meaningOf v) ≡ true → huntOn window left ≡ oneMore (huntOn v beyond)
+    pub hunt-left : isQuiet (meaningOf v) ≡ true → huntOn window coming ≡ oneMore (huntOn v beyond)
     hunt-left q = rw (first, ← e) (quiet-beyond v (meaningOf v) _ q)
 
-    pub hunt-last : isQuiet (meaningOf v) ≡ false → huntOn window left ≡ stretched 1 (huntBy v (meaningOf v))
+    pub hunt-last : isQuiet (meaningOf v) ≡ false → huntOn window coming ≡ stretched 1 (huntBy v (meaningOf v))
     hunt-last q = rw (first, ← e) (loud-beyond v (meaningOf v) _ q)
 
   -- One bit of a body.
   module _ (r : Recogniser) (shift received : ℕ) where
     pub body-left : (nibble : ℕ) → nibble ≡ shifted 4 shift bit → received < 3 →
-        bodyOn (standing r shift received) left ≡ oneMore (bodyOn (standing r nibble (received + 1)) beyond)
+        bodyOn (standing r shift received) coming ≡ oneMore (bodyOn (standing r nibble (received + 1)) beyond)
     body-left nibble e l = rw (first, e) (simp (lt-ltb received 3 l))
 
-    pub body-last : 3 ≤ received → bodyOn (standing r shift received) left ≡ stretched 1 (bodyOf (standing r shift received) bit)
+    pub body-last : 3 ≤ received → bodyOn (standing r shift received) coming ≡ stretched 1 (bodyOf (standing r shift received) bit)
     body-last l = rw first (simp (le-ltb received 3 l))
 
--- One cycle.
-pub step-walks : (input : List ℕ) (from next : Cursor) (count bit : ℕ) → 0 < count → next ≡ cursorAt (placeUnder from + 1) →
-    bit ≡ bitOf input (placeUnder from) → (r : Recogniser) (cnt : ℕ) (last : Transition) → last ≡ stepOf r bit cnt →
-    walked (stretched 1 last) next ≡ walkOf from (stepOn r cnt (bitsOf input (placeUnder from) count))
-step-walks input from next count bit h n b r cnt last e =
-    let k : count - 0 ≡ count = omega arith in
-    let f : bitsOf input (placeUnder from) count ≡ bit ∷ beyond input from next 0 count h n bit b = rw k at (first input from next 0 count h n bit b) in
-    rw (f, e, n)
+  -- One cycle.
+  pub step-walks : (r : Recogniser) (cnt : ℕ) (last : Transition) → last ≡ stepOf r bit cnt →
+      walked (stretched 1 last) next ≡ walkOf at (stepOn r cnt coming)
+  step-walks r cnt last e = rw (first, e, n)

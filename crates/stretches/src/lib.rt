@@ -65,21 +65,21 @@ fn hunt_on(shift: u8, input: &[u8], from: Cursor, count: usize) -> Walk
 {
     let mut window = shift;
     let mut at = from;
-    let mut taken: usize = 0;
-    while taken < count {
+    let mut left = count;
+    while 0 < left {
         window = recogniser::window_with(window, at.read(input));
         at = at.next();
-        taken = taken + 1;
+        left = left - 1;
         if is_quiet(window) {
             continue;
         }
         return Walk {
-            stretch: Stretch::of(taken, Transition::hunted(window)),
+            stretch: Stretch::of(count - left, Transition::hunted(window)),
             behind: at,
         };
     }
     Walk {
-        stretch: Stretch::of(taken, Transition::hunting(window, Request::Nothing)),
+        stretch: Stretch::of(count - left, Transition::hunting(window, Request::Nothing)),
         behind: at,
     }
 }
@@ -102,14 +102,14 @@ fn body_on(r: Recogniser, input: &[u8], from: Cursor, count: usize) -> Walk
     let mut nibble = r.shift;
     let mut received = r.count;
     let mut at = from;
-    let mut taken: usize = 0;
-    while taken < count {
+    let mut left = count;
+    while 0 < left {
         let bit = at.read(input);
         at = at.next();
-        taken = taken + 1;
+        left = left - 1;
         if 3 <= received {
             return Walk {
-                stretch: Stretch::of(taken, standing(r, nibble, received).body(bit)),
+                stretch: Stretch::of(count - left, standing(r, nibble, received).body(bit)),
                 behind: at,
             };
         }
@@ -118,7 +118,7 @@ fn body_on(r: Recogniser, input: &[u8], from: Cursor, count: usize) -> Walk
     }
     Walk {
         stretch: Stretch {
-            taken: taken,
+            taken: count - left,
             next: standing(r, nibble, received),
             event: Event::NOTHING,
         },

@@ -1,6 +1,5 @@
 -- `body_on` is a body, bit by bit, up to its fourth or to the end.
 -- Assumes nothing.
-use Prim.Native.Nat.{_-_}
 use native.Mathlib.Omega.{arith}
 use borrow.Author.Needs.{needs}
 use Rattle.bits.specs.Bits.{bitsOf}
@@ -13,21 +12,21 @@ use Rattle.stretches.proofs.body_on.Statement.{statement}
 use Rattle.stretches.proofs.body_on.Tie as tie
 
 abbrev Inv-loop : tie.InvT-loop
-Inv-loop self input count nibble₀ received₀ from taken₀ nibble received at taken =
+Inv-loop self input count nibble₀ received₀ from left₀ nibble received at left =
     Invariant
     (bodyOn self (bitsOf input (placeUnder from) count))
-    (bodyOn (standing self nibble received) (bitsOf input (placeUnder at) (count - taken)))
-    from at taken count
+    (bodyOn (standing self nibble received) (bitsOf input (placeUnder at) left))
+    from at left count
 
 abbrev μ-loop : tie.MeasureT-loop
-μ-loop self input count nibble₀ received₀ from taken₀ nibble received at taken = count - taken
+μ-loop self input count nibble₀ received₀ from left₀ nibble received at left = left
 
 -- A turn's start, from where its bit is read.
 abbrev looped : tie.After-read Inv-loop μ-loop → tie.At-loop Inv-loop μ-loop
 looped b = b .before .before
 
 loop-holds : tie.Need-loop-holds Inv-loop μ-loop
-loop-holds c = let s = c .before in initially (bodyOn (s .args .r)) _ _ _ (s .pre .0 .1)
+loop-holds c = initially _ _ _ (c .before .pre .0 .1)
 
 read-requires : tie.Need-read-requires Inv-loop μ-loop
 read-requires c κs = search needs
@@ -35,8 +34,11 @@ read-requires c κs = search needs
 next-requires : tie.Need-next-requires Inv-loop μ-loop
 next-requires c κs = search needs
 
-add-taken : tie.Need-add-taken Inv-loop μ-loop
-add-taken c = search needs
+sub-left : tie.Need-sub-left Inv-loop μ-loop
+sub-left c = search needs
+
+sub-of : tie.Need-sub-of Inv-loop μ-loop
+sub-of c = search needs
 
 standing-requires : tie.Need-standing-requires Inv-loop μ-loop
 standing-requires c κs = search needs
@@ -55,8 +57,8 @@ returns c =
     let l = looped b in
     rw (c .of .ensures, c .before .body .ensures, c .before .before .standing .ensures)
     (last-cycle (l .loop .inv) _ _
-    (body-last _ _ _ _ _ (b .before .loop-test .taken) (stepped .next .ensures) _ (b .read .ensures) (l .before .before .args .r) _ _ (fourth .if1 .taken))
-    (stepped .next .ensures))
+    (body-last _ _ _ _ (b .before .loop-test .taken) (stepped .next .ensures) _ (b .read .ensures) (l .before .before .args .r) _ _ (fourth .if1 .taken))
+    (stepped .next .ensures) (b .before .loop-test .taken))
 
 nibble-with-requires : tie.Need-nibble-with-requires Inv-loop μ-loop
 nibble-with-requires c κs = search needs
@@ -74,9 +76,12 @@ loop-again c =
     let l = looped b in
     let e = b .before .loop-test .taken in
     again (l .loop .inv) _ _
-    (body-left _ _ _ _ _ e (stepped .next .ensures) _ (b .read .ensures) (l .before .before .args .r) _ _ _ (c .nibble-with .ensures)
+    (body-left _ _ _ _ e (stepped .next .ensures) _ (b .read .ensures) (l .before .before .args .r) _ _ _ (c .nibble-with .ensures)
     (omega (arith, c .before .if1 .left)))
     (stepped .next .ensures) e
+
+sub-t15 : tie.Need-sub-t15 Inv-loop μ-loop
+sub-t15 c = search needs
 
 standing-requires-2 : tie.Need-standing-requires-2 Inv-loop μ-loop
 standing-requires-2 c κs = search needs
@@ -84,7 +89,7 @@ standing-requires-2 c κs = search needs
 returns-2 : tie.Need-returns-2 Inv-loop μ-loop
 returns-2 c =
     let l = c .before in
-    rw (c .standing2 .ensures) (over (l .before .loop .inv) _ (rw (bits-over _ _ _ _ (l .loop-test .left))))
+    rw (c .standing2 .ensures) (over (l .before .loop .inv) _ (rw (bits-over _ _ (l .loop-test .left))))
 
 pub body-on-spec : {M : Type 1} → statement M
 body-on-spec =
@@ -95,7 +100,8 @@ body-on-spec =
     loop-holds
     read-requires
     next-requires
-    add-taken
+    sub-left
+    sub-of
     standing-requires
     body-requires
     of-requires
@@ -104,5 +110,6 @@ body-on-spec =
     add-received
     loop-less
     loop-again
+    sub-t15
     standing-requires-2
     returns-2)

@@ -1,8 +1,6 @@
 -- `hunt_on` is hunting, bit by bit, up to the first window that means something or to the end.
 -- Assumes nothing.
 use mathlib.Core.Path.{_∙_, sym}
-use Prim.Native.Nat.{_-_}
-use native.Mathlib.Omega.{arith}
 use borrow.Author.Needs.{needs}
 use Rattle.bits.specs.Bits.{bitsOf}
 use Rattle.bits.specs.Place.{placeUnder}
@@ -13,18 +11,18 @@ use Rattle.stretches.proofs.hunt_on.Statement.{statement}
 use Rattle.stretches.proofs.hunt_on.Tie as tie
 
 abbrev Inv-loop : tie.InvT-loop
-Inv-loop shift input count window₀ from taken₀ window at taken =
-    Invariant (huntOn window₀ (bitsOf input (placeUnder from) count)) (huntOn window (bitsOf input (placeUnder at) (count - taken))) from at taken count
+Inv-loop shift input count window₀ from left₀ window at left =
+    Invariant (huntOn window₀ (bitsOf input (placeUnder from) count)) (huntOn window (bitsOf input (placeUnder at) left)) from at left count
 
 abbrev μ-loop : tie.MeasureT-loop
-μ-loop shift input count window₀ from taken₀ window at taken = count - taken
+μ-loop shift input count window₀ from left₀ window at left = left
 
 -- A turn's start, from where its bit is read.
 abbrev looped : tie.After-read Inv-loop μ-loop → tie.At-loop Inv-loop μ-loop
 looped b = b .before .before
 
 loop-holds : tie.Need-loop-holds Inv-loop μ-loop
-loop-holds c = let s = c .before in initially (huntOn (s .args .shift)) _ _ _ (s .pre .0 .1)
+loop-holds c = initially _ _ _ (c .before .pre .0 .1)
 
 read-requires : tie.Need-read-requires Inv-loop μ-loop
 read-requires c κs = search needs
@@ -35,8 +33,8 @@ window-with-requires c κs = search needs
 next-requires : tie.Need-next-requires Inv-loop μ-loop
 next-requires c κs = search needs
 
-add-taken : tie.Need-add-taken Inv-loop μ-loop
-add-taken c = search needs
+sub-left : tie.Need-sub-left Inv-loop μ-loop
+sub-left c = search needs
 
 is-quiet-requires : tie.Need-is-quiet-requires Inv-loop μ-loop
 is-quiet-requires c κs = search needs
@@ -50,9 +48,12 @@ loop-again c =
     let b = stepped .before .before in
     let e = b .before .loop-test .taken in
     again (looped b .loop .inv) _ _
-    (hunt-left _ _ _ _ _ e (stepped .next .ensures) _ (b .read .ensures) _ _ (stepped .before .window-with .ensures)
+    (hunt-left _ _ _ _ e (stepped .next .ensures) _ (b .read .ensures) _ _ (stepped .before .window-with .ensures)
     (sym (c .before .is-quiet .ensures) ∙ c .if1 .taken))
     (stepped .next .ensures) e
+
+sub-of : tie.Need-sub-of Inv-loop μ-loop
+sub-of c = search needs
 
 hunted-requires : tie.Need-hunted-requires Inv-loop μ-loop
 hunted-requires c κs = search needs
@@ -67,9 +68,12 @@ returns c =
     let b = stepped .before .before in
     rw (c .of .ensures, c .before .hunted .ensures)
     (last-cycle (looped b .loop .inv) _ _
-    (hunt-last _ _ _ _ _ (b .before .loop-test .taken) (stepped .next .ensures) _ (b .read .ensures) _ _ (stepped .before .window-with .ensures)
+    (hunt-last _ _ _ _ (b .before .loop-test .taken) (stepped .next .ensures) _ (b .read .ensures) _ _ (stepped .before .window-with .ensures)
     (sym (told .is-quiet .ensures) ∙ c .before .before .if1 .left))
-    (stepped .next .ensures))
+    (stepped .next .ensures) (b .before .loop-test .taken))
+
+sub-of-2 : tie.Need-sub-of-2 Inv-loop μ-loop
+sub-of-2 c = search needs
 
 hunting-requires : tie.Need-hunting-requires Inv-loop μ-loop
 hunting-requires c κs = search needs
@@ -81,7 +85,7 @@ returns-2 : tie.Need-returns-2 Inv-loop μ-loop
 returns-2 c =
     let l = c .before .before in
     rw (c .of2 .ensures, c .before .hunting .ensures)
-    (over (l .before .loop .inv) _ (rw (bits-over _ _ _ _ (l .loop-test .left))))
+    (over (l .before .loop .inv) _ (rw (bits-over _ _ (l .loop-test .left))))
 
 pub hunt-on-spec : {M : Type 1} → statement M
 hunt-on-spec =
@@ -93,13 +97,15 @@ hunt-on-spec =
     read-requires
     window-with-requires
     next-requires
-    add-taken
+    sub-left
     is-quiet-requires
     loop-less
     loop-again
+    sub-of
     hunted-requires
     of-requires
     returns
+    sub-of-2
     hunting-requires
     of-requires-2
     returns-2)

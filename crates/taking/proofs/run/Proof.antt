@@ -147,9 +147,11 @@ loop-less c =
 loop-again : tie.Need-loop-again Inv-loop μ-loop
 loop-again c =
     let k = c .before .before .before in
-    let a = walked k in
-    (quiet (turn a .loop .inv .0) (a .before .before .before .loop-test .taken) (a .before .if1 .left) (stretch a) (walks a)
-    _ (k .before .keep .ensures) (k .tray .given) (c .enum-told .given .1), goes-on a)
+    let a = walked k in (
+      quiet (turn a .loop .inv .0) (a .before .before .before .loop-test .taken) (a .before .if1 .left) (stretch a) (walks a)
+          _ (k .before .keep .ensures) (k .tray .given) (c .enum-told .given .1),
+      goes-on a,
+    )
 
 add-time : tie.Need-add-time Inv-loop μ-loop
 add-time c =

@@ -1,18 +1,21 @@
 -- `Cursor::next` is one bit on.
 -- Assumes nothing.
 use borrow.Author.Needs.{needs}
-use Rattle.bits.proofs.Places.{one-on}
+use Rattle.bits.proofs.Places.{carried, one-on}
 use Rattle.bits.proofs.Cursor.next.Statement.{statement}
 use Rattle.bits.proofs.Cursor.next.Tie as tie
 
-add-on : tie.Need-add-on
-add-on c = search needs
+cast-t3 : tie.Need-cast-t3
+cast-t3 c = search needs
 
 add-t4 : tie.Need-add-t4
-add-t4 c = search needs
+add-t4 c = let h = carried (c .before .before .args .self .bit) in search needs
+
+add-t5 : tie.Need-add-t5
+add-t5 c = search needs
 
 returns : tie.Need-returns
-returns c = let s = c .before .before in one-on (s .args .self) (s .pre .0)
+returns c = let s = c .before .before .before in one-on (s .args .self) (s .pre .0)
 
 pub next-spec : {M : Type 1} → statement M
-next-spec = tie.close (tie.spec add-on add-t4 returns)
+next-spec = tie.close (tie.spec cast-t3 add-t4 add-t5 returns)

@@ -5,9 +5,6 @@ use Rattle.bits.proofs.Places.{bit-under}
 use Rattle.bits.proofs.Cursor.read.Statement.{statement}
 use Rattle.bits.proofs.Cursor.read.Tie as tie
 
-sub-shift : tie.Need-sub-shift
-sub-shift c = search needs
-
 shared-slice-read-result : tie.Need-shared-slice-read-result
 shared-slice-read-result c = search needs
 
@@ -23,4 +20,4 @@ returns c =
     bit-under (s .args .self) (s .pre .0) (s .args .input .now)
 
 pub read-spec : {M : Type 1} → statement M
-read-spec = tie.close (tie.spec sub-shift shared-slice-read-result cast-result shr-result returns)
+read-spec = tie.close (tie.spec shared-slice-read-result cast-result shr-result returns)
