@@ -1,14 +1,18 @@
 -- Byte and bit of a place: the cursor at a place, one bit on, the bit under it, and the bits that are left under it.
 -- Assumes nothing.
 use mathlib.Core.Path.{_≡_, _∙_, refl, ap}
+use mathlib.Core.Bool.{Bool, true, false}
 use mathlib.Core.List.{List, [], _∷_}
 use Prim.Native.Nat.{ℕ, zero, suc, _+_, _-_, _/_, _%_, _^_, _<_, _≤_}
 use native.Mathlib.Omega.{arith}
 use lib.Bits.{bitAnd, and-mask}
 use lib.Dec.{eqb}
 use lib.ListN.{getD}
-use mir.Val.{boolByte}
+use mir.Syntax.{w64}
+use mir.Val.{Fits, boolByte}
+use borrow.Author.Needs.{needs}
 use borrow.Author.Tests.{ne-eqb}
+use Rattle.limits.specs.Limits.{inputLimit}
 use Rattle.bits.specs.declared.Cursor.{Cursor}
 use Rattle.bits.specs.Bits.{bitOf, bitsOf}
 use Rattle.bits.specs.Place.{cursorAt, placeUnder}
@@ -35,8 +39,13 @@ stands-at {c} {place} s =
 pub masked : (place : ℕ) → cursor (place / 8) (7 - bitAnd place 7) ≡ cursorAt place
 masked place = ap (λ (n : ℕ). cursor (place / 8) (7 - n)) (and-mask place 3)
 
+-- A byte more, or none.
+pub byte-fits : (b : Bool) (byte : ℕ) → byte < inputLimit → Fits w64 (byte + boolByte b)
+byte-fits true byte h = search needs
+byte-fits false byte h = search needs
+
 -- A byte ends with its lowest bit.
-pub carried : (bit : ℕ) → boolByte (eqb bit 0) ≡ 1 - bit
+carried : (bit : ℕ) → boolByte (eqb bit 0) ≡ 1 - bit
 carried zero = refl
 carried (suc n) = rw (ne-eqb (suc n) 0 (λ e. absurd (omega arith))) (omega arith)
 

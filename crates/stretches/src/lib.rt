@@ -59,8 +59,7 @@ fn is_quiet(window: u8) -> bool
 
 // Hunting on with a window over so many bits, up to the first that means something.
 fn hunt_on(shift: u8, input: &[u8], from: Cursor, count: usize) -> Walk
-    requires { ⌜ (0 < count) × (from .bit < 8) ⌝ }
-    requires { ⌜ (placeUnder from + count ≤ 8 * length (now input)) × (length (now input) ≤ inputLimit) ⌝ }
+    requires { ⌜ (from .bit < 8) × (placeUnder from + count ≤ 8 * length (now input)) × (length (now input) ≤ inputLimit) ⌝ }
     ensures { λ r. ⌜ r ≡ walkOf from (huntOn shift (bitsOf (now (input .entry)) (placeUnder from) count)) ⌝ }
 {
     let mut window = shift;
@@ -95,8 +94,7 @@ fn standing(mut r: Recogniser, shift: u8, count: u32) -> Recogniser
 
 // A body over so many bits, up to its fourth.
 fn body_on(r: Recogniser, input: &[u8], from: Cursor, count: usize) -> Walk
-    requires { ⌜ (0 < count) × (from .bit < 8) ⌝ }
-    requires { ⌜ (placeUnder from + count ≤ 8 * length (now input)) × (length (now input) ≤ inputLimit) ⌝ }
+    requires { ⌜ (from .bit < 8) × (placeUnder from + count ≤ 8 * length (now input)) × (length (now input) ≤ inputLimit) ⌝ }
     ensures { λ o. ⌜ o ≡ walkOf from (bodyOn r (bitsOf (now (input .entry)) (placeUnder from) count)) ⌝ }
 {
     let mut nibble = r.shift;
@@ -128,8 +126,8 @@ fn body_on(r: Recogniser, input: &[u8], from: Cursor, count: usize) -> Walk
 
 // One cycle or more of so many bits of the input, by the present contents of the CNT register; all but the last ask for nothing.
 pub fn advance(r: Recogniser, input: &[u8], from: Cursor, count: usize, cnt: u16) -> Walk
-    requires { ⌜ (0 < count) × (from .bit < 8) ⌝ }
-    requires { ⌜ (placeUnder from + count ≤ 8 * length (now input)) × (length (now input) ≤ inputLimit) ⌝ }
+    requires { ⌜ 0 < count ⌝ }
+    requires { ⌜ (from .bit < 8) × (placeUnder from + count ≤ 8 * length (now input)) × (length (now input) ≤ inputLimit) ⌝ }
     ensures { λ o. ⌜ o ≡ walkOf from (stretchOf r cnt (bitsOf (now (input .entry)) (placeUnder from) count)) ⌝ }
 {
     let phase = r.phase;

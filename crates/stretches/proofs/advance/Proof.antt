@@ -44,7 +44,7 @@ returns-3 c =
     let b = stepped .before in
     let s = b .before .before .before in
     rw (c .before .of .ensures)
-    (step-walks _ _ _ _ (s .pre .0 .0) (c .next .ensures) _ (b .read .ensures) (s .args .r) (s .args .cnt) _ (stepped .step .ensures)
+    (step-walks _ _ _ _ (s .pre .0) (c .next .ensures) _ (b .read .ensures) (s .args .r) (s .args .cnt) _ (stepped .step .ensures)
     ∙ ap (walkOf _) (sym (stretch-once (s .args .r) (s .args .cnt) _ (b .before .match .keys3))))
 
 pub advance-spec : {M : Type 1} → statement M

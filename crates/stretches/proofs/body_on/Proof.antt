@@ -26,7 +26,7 @@ abbrev looped : tie.After-read Inv-loop μ-loop → tie.At-loop Inv-loop μ-loop
 looped b = b .before .before
 
 loop-holds : tie.Need-loop-holds Inv-loop μ-loop
-loop-holds c = initially _ _ _ (c .before .pre .0 .1)
+loop-holds c = initially _ _ _ (c .before .pre .0)
 
 read-requires : tie.Need-read-requires Inv-loop μ-loop
 read-requires c κs = search needs

@@ -1,7 +1,7 @@
 -- `Cursor::next` is one bit on.
 -- Assumes nothing.
 use borrow.Author.Needs.{needs}
-use Rattle.bits.proofs.Places.{carried, one-on}
+use Rattle.bits.proofs.Places.{byte-fits, one-on}
 use Rattle.bits.proofs.Cursor.next.Statement.{statement}
 use Rattle.bits.proofs.Cursor.next.Tie as tie
 
@@ -9,7 +9,7 @@ cast-t3 : tie.Need-cast-t3
 cast-t3 c = search needs
 
 add-t4 : tie.Need-add-t4
-add-t4 c = let h = carried (c .before .before .args .self .bit) in search needs
+add-t4 c = search (needs, byte-fits)
 
 add-t5 : tie.Need-add-t5
 add-t5 c = search needs
