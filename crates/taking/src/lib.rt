@@ -38,11 +38,9 @@ fn run(
         }
         let walk = stretches::advance(recogniser, input, cursor, count - taken, done.cnt);
         cursor = walk.behind;
-        let stretch = walk.stretch;
-        let next = stretch.next;
-        recogniser = next;
-        taken = taken + stretch.taken;
-        let event = stretch.event;
+        recogniser = walk.stretch.next;
+        taken = taken + walk.stretch.taken;
+        let event = walk.stretch.event;
         let frame = event.frame;
         frames::keep(tray, frame);
         let request = event.request;

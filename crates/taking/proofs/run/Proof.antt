@@ -52,7 +52,7 @@ turn a = a .before .before .before .before
 abbrev walked : Kept → Walked
 walked k =
     let e = k .before .before .before .before in
-    e .before .before .before .before
+    e .before .before .before
 
 abbrev kept : Performed → Kept
 kept p =
@@ -128,7 +128,7 @@ advance-requires c κs = search needs
 
 add-taken : tie.Need-add-taken Inv-loop μ-loop
 add-taken c =
-    let a = c .before .before .before .before in
+    let a = c .before .before .before in
     let m = moves a in
     omega (arith, turn a, called (turn a))
 
