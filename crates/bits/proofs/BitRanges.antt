@@ -30,6 +30,9 @@ module _ (input : List ℕ) where
       let f : suc count - suc k ≡ count - k = omega arith in
       rw f (drop-bits (first + 1) count k (omega arith) ∙ ap (λ p. bitsOf input p (count - k)) e)
 
+  pub bits-over : (first : ℕ) {count : ℕ} → count ≤ 0 → bitsOf input first count ≡ []
+  bits-over first {count} h = let k : count ≡ 0 = omega arith in rw k
+
 -- Each number is 0 or 1.
 abbrev pub binary : List ℕ → Bool
 binary [] = true

@@ -1,9 +1,9 @@
--- Byte and bit of a place: the cursor at a place, one bit on, the bit under it, and the bits that are left under it.
+-- Byte and bit of a place: the cursor at a place, one bit on, the bit under it, and the bits that are left.
 -- Assumes nothing.
 use mathlib.Core.Path.{_≡_, _∙_, refl, ap}
 use mathlib.Core.Bool.{Bool, true, false}
-use mathlib.Core.List.{List, [], _∷_}
-use Prim.Native.Nat.{ℕ, zero, suc, _+_, _-_, _/_, _%_, _^_, _<_, _≤_}
+use mathlib.Core.List.{List, _∷_}
+use Prim.Native.Nat.{ℕ, zero, suc, _+_, _-_, _/_, _%_, _^_, _<_}
 use native.Mathlib.Omega.{arith}
 use lib.Bits.{bitAnd, and-mask}
 use lib.Dec.{eqb}
@@ -64,13 +64,9 @@ module _ (c : Cursor) (h : c .bit < 8) where
   bit-under input =
       and-mask (getD input (c .byte) 0 / 2 ^ c .bit) 1 ∙ ap (λ (d : Cursor). getD input (d .byte) 0 / 2 ^ d .bit % 2) here
 
--- The bits that are left: where some are, the one under the cursor and those from one bit on; and where none is.
-module _ (input : List ℕ) (at : Cursor) where
-  pub bits-left : (next : Cursor) (left : ℕ) → next ≡ cursorAt (placeUnder at + 1) → 0 < left →
-      bitsOf input (placeUnder at) left ≡ bitOf input (placeUnder at) ∷ bitsOf input (placeUnder next) (left - 1)
-  bits-left next left e h =
-      let p : placeUnder at + 1 ≡ placeUnder next = omega (arith, stands e) in
-      first-bit input (placeUnder at) left h ∙ ap (λ (n : ℕ). bitOf input (placeUnder at) ∷ bitsOf input n (left - 1)) p
-
-  pub bits-over : {left : ℕ} → left ≤ 0 → bitsOf input (placeUnder at) left ≡ []
-  bits-over {left} h = let k : left ≡ 0 = omega arith in rw k
+-- The bits that are left, where some are: the one under the cursor, and those from one bit on.
+pub bits-left : (input : List ℕ) (at next : Cursor) (left : ℕ) → next ≡ cursorAt (placeUnder at + 1) → 0 < left →
+    bitsOf input (placeUnder at) left ≡ bitOf input (placeUnder at) ∷ bitsOf input (placeUnder next) (left - 1)
+bits-left input at next left e h =
+    let p : placeUnder at + 1 ≡ placeUnder next = omega (arith, stands e) in
+    first-bit input (placeUnder at) left h ∙ ap (λ (n : ℕ). bitOf input (placeUnder at) ∷ bitsOf input n (left - 1)) p

@@ -7,6 +7,6 @@ use Rattle.bits.specs.declared.Cursor.{Cursor}
 abbrev pub cursorAt : ℕ → Cursor
 cursorAt place = record { byte = place / 8; bit = 7 - place % 8 }
 
--- The place that a cursor stands for.
+-- The place that a cursor stands for, whose bit is below 8.
 abbrev pub placeUnder : Cursor → ℕ
 placeUnder c = 8 * c .byte + (7 - c .bit)

@@ -26,8 +26,9 @@ use Rattle.stretches.specs.Walk.{walkOf}
 abbrev pub cyclesAhead : ℕ → Stretch → Stretch
 cyclesAhead walked s = stretched (walked + s .taken) (transition (s .next) (s .event))
 
-abbrev pub walked : Stretch → Cursor → Walk
-walked s behind = record { stretch = s; behind = behind }
+-- A walk by its parts.
+abbrev walk : Stretch → Cursor → Walk
+walk s behind = record { stretch = s; behind = behind }
 
 -- Walked all but so many of a count of cycles: the whole stretch, the rest of it, and where the cursor stands.
 pub record Invariant (whole rest : Stretch) (from at : Cursor) (left count : ℕ) : Type 0 where
@@ -55,17 +56,17 @@ module _ {whole rest : Stretch} {from at : Cursor} {left count : ℕ} (w : Invar
 
   -- the loop's end, with so many cycles beyond those walked
   ended : (taken more : ℕ) (next : Cursor) (last : Transition) → taken ≡ count - left + more → rest ≡ stretched more last
-      → Stands next (placeUnder at + more) → walked (stretched taken last) next ≡ walkOf from whole
+      → Stands next (placeUnder at + more) → walk (stretched taken last) next ≡ walkOf from whole
   ended taken more next last t e n =
       let s : stretched taken last ≡ whole = rw t (rw e at (w .same)) in
       let p : next ≡ cursorAt (placeUnder from + taken) = stands-at (record { inside = n .inside; under = omega (arith, w, w .place, n, t) }) in
-      (λ i. walked (s i) (p i)) ∙ ap (λ (k : ℕ). walked whole (cursorAt (placeUnder from + k))) (ap (λ (q : Stretch). q .taken) s)
+      (λ i. walk (s i) (p i)) ∙ ap (λ (k : ℕ). walk whole (cursorAt (placeUnder from + k))) (ap (λ (q : Stretch). q .taken) s)
 
-  pub over : (last : Transition) → rest ≡ stretched 0 last → walked (stretched (count - left) last) at ≡ walkOf from whole
+  pub over : (last : Transition) → rest ≡ stretched 0 last → walk (stretched (count - left) last) at ≡ walkOf from whole
   over last e = ended (count - left) 0 at last (omega arith) e (record { inside = w .place .inside; under = omega arith })
 
   pub last-cycle : (last : Transition) (next : Cursor) → rest ≡ stretched 1 last → next ≡ cursorAt (placeUnder at + 1) → 0 < left
-      → walked (stretched (count - (left - 1)) last) next ≡ walkOf from whole
+      → walk (stretched (count - (left - 1)) last) next ≡ walkOf from whole
   last-cycle last next e n h = ended (count - (left - 1)) 1 next last (omega (arith, w)) e (stands n)
 
 -- A window that means nothing, and one that means something.
@@ -110,5 +111,5 @@ module _ (input : List ℕ) (at next : Cursor) (left : ℕ) (h : 0 < left) (n : 
 
   -- One cycle.
   pub step-walks : (r : Recogniser) (cnt : ℕ) (last : Transition) → last ≡ stepOf r bit cnt →
-      walked (stretched 1 last) next ≡ walkOf at (stepOn r cnt coming)
+      walk (stretched 1 last) next ≡ walkOf at (stepOn r cnt coming)
   step-walks r cnt last e = rw (first, e, n)

@@ -1,14 +1,13 @@
 // Several clock cycles of the command line at once, as the taking loop walks them: a loop each for hunting and for a body; in any other phase one cycle.
 ghost use mathlib.Core.Path.{_≡_};
-ghost use Prim.Native.Nat.{_+_, _*_, _<_, _≤_};
+ghost use Prim.Native.Nat.{_<_};
 ghost use lib.ListN.{length};
-ghost use Rattle.limits.specs.Limits.{inputLimit};
 ghost use Rattle.bits.specs.Bits.{bitsOf};
 ghost use Rattle.bits.specs.Place.{placeUnder};
 ghost use Rattle.recogniser.specs.Parts.{standing};
 ghost use Rattle.recogniser.specs.Hunting.{meaningOf};
 ghost use Rattle.stretches.specs.Stretch.{isQuiet, stretched, huntOn, bodyOn, stretchOf};
-ghost use Rattle.stretches.specs.Walk.{walkOf};
+ghost use Rattle.stretches.specs.Walk.{Reaches, walkOf};
 use bits::Cursor;
 use recogniser::Event;
 use recogniser::Meaning;
@@ -57,9 +56,9 @@ fn is_quiet(window: u8) -> bool
     }
 }
 
-// Hunting on with a window over so many bits, up to the first that means something.
+// Hunting on with a window over so many bits, up to the first window that means something or to the last bit.
 fn hunt_on(shift: u8, input: &[u8], from: Cursor, count: usize) -> Walk
-    requires { ⌜ (from .bit < 8) × (placeUnder from + count ≤ 8 * length (now input)) × (length (now input) ≤ inputLimit) ⌝ }
+    requires { ⌜ Reaches from count (length (now input)) ⌝ }
     ensures { λ r. ⌜ r ≡ walkOf from (huntOn shift (bitsOf (now (input .entry)) (placeUnder from) count)) ⌝ }
 {
     let mut window = shift;
@@ -92,9 +91,9 @@ fn standing(mut r: Recogniser, shift: u8, count: u32) -> Recogniser
     r
 }
 
-// A body over so many bits, up to its fourth.
+// A body over so many bits, up to its fourth or to the last.
 fn body_on(r: Recogniser, input: &[u8], from: Cursor, count: usize) -> Walk
-    requires { ⌜ (from .bit < 8) × (placeUnder from + count ≤ 8 * length (now input)) × (length (now input) ≤ inputLimit) ⌝ }
+    requires { ⌜ Reaches from count (length (now input)) ⌝ }
     ensures { λ o. ⌜ o ≡ walkOf from (bodyOn r (bitsOf (now (input .entry)) (placeUnder from) count)) ⌝ }
 {
     let mut nibble = r.shift;
@@ -126,8 +125,7 @@ fn body_on(r: Recogniser, input: &[u8], from: Cursor, count: usize) -> Walk
 
 // One cycle or more of so many bits of the input, by the present contents of the CNT register; all but the last ask for nothing.
 pub fn advance(r: Recogniser, input: &[u8], from: Cursor, count: usize, cnt: u16) -> Walk
-    requires { ⌜ 0 < count ⌝ }
-    requires { ⌜ (from .bit < 8) × (placeUnder from + count ≤ 8 * length (now input)) × (length (now input) ≤ inputLimit) ⌝ }
+    requires { ⌜ (0 < count) × Reaches from count (length (now input)) ⌝ }
     ensures { λ o. ⌜ o ≡ walkOf from (stretchOf r cnt (bitsOf (now (input .entry)) (placeUnder from) count)) ⌝ }
 {
     let phase = r.phase;

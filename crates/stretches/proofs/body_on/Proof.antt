@@ -4,7 +4,7 @@ use native.Mathlib.Omega.{arith}
 use borrow.Author.Needs.{needs}
 use Rattle.bits.specs.Bits.{bitsOf}
 use Rattle.bits.specs.Place.{placeUnder}
-use Rattle.bits.proofs.Places.{bits-over}
+use Rattle.bits.proofs.BitRanges.{bits-over}
 use Rattle.recogniser.specs.Parts.{standing}
 use Rattle.stretches.specs.Stretch.{bodyOn}
 use Rattle.stretches.proofs.StretchLoops.{Invariant, initially, again, over, last-cycle, body-left, body-last}

@@ -4,7 +4,7 @@ use mathlib.Core.Path.{_∙_, sym}
 use borrow.Author.Needs.{needs}
 use Rattle.bits.specs.Bits.{bitsOf}
 use Rattle.bits.specs.Place.{placeUnder}
-use Rattle.bits.proofs.Places.{bits-over}
+use Rattle.bits.proofs.BitRanges.{bits-over}
 use Rattle.stretches.specs.Stretch.{huntOn}
 use Rattle.stretches.proofs.StretchLoops.{Invariant, initially, again, over, last-cycle, hunt-left, hunt-last}
 use Rattle.stretches.proofs.hunt_on.Statement.{statement}
