@@ -77,7 +77,8 @@ stretch a = a .advance .result .stretch
 walks : (a : Walked) → Passes (turn a .loop .done .cnt) (turn a .loop .recogniser) (left (asked (called (turn a))) (turn a .loop .taken)) (stretch a)
 walks a =
     let l = turn a .loop in
-    stretch-walks (l .inv .0) (a .before .before .before .loop-test .taken) (stretch a) (rw (l .inv .1 .under) at (walk-stretch (l .cursor) (a .advance .ensures)))
+    stretch-walks (l .inv .0) (a .before .before .before .loop-test .taken) (stretch a)
+    (rw (l .inv .1 .under) at (walk-stretch (l .cursor) (a .advance .ensures)))
 
 -- A stretch moves on, and stays within the call; the cursor then stands behind it.
 moves : (a : Walked) → (1 ≤ stretch a .taken) × (turn a .loop .taken + stretch a .taken ≤ called (turn a) .args .count)
