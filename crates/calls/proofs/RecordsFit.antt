@@ -14,15 +14,14 @@ use Rattle.bits.specs.Range.{rangeFits}
 use Rattle.bits.proofs.Truth.{choice, cond-case, and-left, and-right, or-case}
 use Rattle.recogniser.specs.declared.Phase.{Phase}
 use Rattle.recogniser.specs.declared.Phase.the-variants.{Hunt, Body, Field3, Field4, Field5}
-use Rattle.recogniser.specs.declared.Meaning.{Meaning}
-use Rattle.recogniser.specs.declared.Meaning.the-variants.{Quiet, Trigger, Header}
 use Rattle.recogniser.specs.declared.Recogniser.{Recogniser}
 use Rattle.recogniser.specs.declared.Transition.{Transition}
 use Rattle.recogniser.specs.Parts.{shifted}
-use Rattle.recogniser.specs.Hunting.{meaningOf, huntBy, isFast}
+use Rattle.recogniser.specs.Hunting.{isLv1, meaningOf, huntBy, isFast}
 use Rattle.recogniser.specs.Fields.{isSlow, isFrame, lengthOf, endsOf}
 use Rattle.recogniser.specs.Step.{stepBy, stepOf}
 use Rattle.recogniser.proofs.Shift.{shifted-fits}
+use Rattle.recogniser.proofs.Positions.{position-low}
 use Rattle.decoder.specs.declared.Decoder.{Decoder}
 use Rattle.decoder.specs.Fit.{hasField5, nibbleFits, fitBy, fitOf}
 use Rattle.decoder.specs.Sound.{soundOf}
@@ -42,20 +41,20 @@ use Rattle.calls.proofs.SoundnessKept.{turn-sound, take-sound}
 abbrev NarrowStep : Transition → Type 0
 NarrowStep h = Narrow (h .event .request)
 
-hunt-narrow : (w : ℕ) (m : Meaning) → NarrowStep (huntBy w m)
-hunt-narrow w Quiet = tt
-hunt-narrow w (Trigger flip) = tt
-hunt-narrow w Header = tt
+hunt-narrow : (w : ℕ) → NarrowStep (huntBy w (meaningOf w))
+hunt-narrow w =
+    cond-case (λ m. NarrowStep (huntBy w m)) (isLv1 w) (λ _. position-low w)
+    (λ _. cond-case (λ m. NarrowStep (huntBy w m)) (eqb w 0b10110) (λ _. tt) (λ _. tt))
 
 field5-low : (command : ℕ) → T (hasField5 command) → command < 2 ^ 4
 field5-low command t =
     ⊎-elim (λ h. let g = leb→le command 6 h in omega arith) (λ h. let g = eqb→eq command 10 h in omega arith)
     (or-case (leb command 6) (eqb command 10) t)
 
--- The fields of a sound state's request have four bits.
+-- The fields of a sound state's request have four bits; an LV1's position is at most 5.
 module _ (r : Recogniser) (bit cnt : ℕ) where
   phase-narrow : (p : Phase) → T (fitBy p r cnt) → NarrowStep (stepBy p r bit cnt)
-  phase-narrow Hunt t = hunt-narrow _ (meaningOf (shifted 5 (r .shift) bit))
+  phase-narrow Hunt t = hunt-narrow (shifted 5 (r .shift) bit)
   phase-narrow Body t =
       let low = shifted-fits 4 (r .shift) bit in
       cond-case NarrowStep (ltb (r .count) 3) (λ _. tt)

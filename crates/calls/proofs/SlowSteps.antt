@@ -39,7 +39,7 @@ nothing-keeps = record { registers = refl; running = refl }
 
 hunt-steps : (r : Recogniser) (w : ℕ) (m : Meaning) → Steps r (huntBy w m)
 hunt-steps r w Quiet = goes-on nothing-keeps (λ t. absurd t)
-hunt-steps r w (Trigger flip) = over
+hunt-steps r w (Trigger position) = over
 hunt-steps r w Header = goes-on nothing-keeps (λ t. absurd t)
 
 module _ (r : Recogniser) (bit cnt : ℕ) where

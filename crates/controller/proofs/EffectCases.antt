@@ -90,7 +90,7 @@ module _ (P : List ℕ → Pointers → Counters → Bool → Type 0) where
     pub act-keeps : (q : Request) → KeptByEach plan m q time store → Holds (actOf plan m q time store .acted .model)
     unfolding actOf
     act-keeps Nothing k = k .now
-    act-keeps (Lv1 flip) k =
+    act-keeps (Lv1 position) k =
         choice (λ c. P (m .registers) (m .pointers) c (m .running)) (m .running) (λ _. k .lv1) (λ _. k .now)
     act-keeps (Fast body) k = choice Holds (m .running) (λ _. k .fast body) (λ _. k .now)
     act-keeps (BadFast body) k = k .now

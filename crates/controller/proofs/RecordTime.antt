@@ -37,7 +37,7 @@ module _ (plan : Plan) (m : Model) (time : ℕ) (store : List ℕ) where
   cycle-time : (q : Request) → TimeIs time (actOf plan m q time store .acted .cycle)
   unfolding actOf
   cycle-time Nothing = tt
-  cycle-time (Lv1 flip) = refl
+  cycle-time (Lv1 position) = refl
   cycle-time (Fast body) = refl
   cycle-time (BadFast body) = refl
   cycle-time (Slow s) = slow-time s

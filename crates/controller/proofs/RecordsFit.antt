@@ -2,7 +2,7 @@
 -- Assumes nothing.
 use mathlib.Core.Bool.{Bool, _&&_}
 use mathlib.Core.List.{List}
-use Prim.Native.Nat.{ℕ, _+_, _^_, _<_, _≤_}
+use Prim.Native.Nat.{ℕ, _+_, _*_, _^_, _<_, _≤_}
 use native.Mathlib.Omega.{arith}
 use lib.Dec.{eqb}
 use Rattle.bits.proofs.Truth.{choice, cond-most}
@@ -20,7 +20,7 @@ use Rattle.controller.specs.declared.Acted.{Acted}
 use Rattle.controller.specs.declared.Cycle.{Cycle}
 use Rattle.controller.specs.declared.Cycle.the-variants.{Silent, Recorded}
 use Rattle.controller.specs.Records.{flagActed, flagFlip, flagSent, wordsOf}
-use Rattle.controller.specs.Commands.{sendsOf, frameValueOf, slowOf, actOf}
+use Rattle.controller.specs.Commands.{hasFlip, sendsOf, frameValueOf, slowOf, actOf}
 use Rattle.controller.specs.Widths.{ModelFits, SlowNarrow, Narrow, WordsFit}
 use Rattle.controller.proofs.EffectCases.{command-cases}
 
@@ -83,10 +83,9 @@ module _ (plan : Plan) (m : Model) (fit : ModelFits m) (time : ℕ) (below : tim
   cycle-fits : (q : Request) → Narrow q → CycleFits (actOf plan m q time store .acted .cycle)
   unfolding actOf
   cycle-fits Nothing n = tt
-  cycle-fits (Lv1 flip) n =
-      let f = flags-low (m .running) flip (m .running && sendsOf plan m) in
-      let h = fit .l1id in
-      parts (omega arith) (omega arith) (choice (λ v. v < 2 ^ 32) (m .running) (λ _. omega arith) (λ _. omega arith))
+  cycle-fits (Lv1 position) n =
+      let f = flags-low (m .running) (hasFlip position) (m .running && sendsOf plan m) in
+      parts (omega arith) (omega arith) (choice (λ v. position * 65536 + v < 2 ^ 32) (m .running) (λ _. omega arith) (λ _. omega arith))
   cycle-fits (Fast body) n =
       let f = cond-most (m .running) {x = 1} {y = 0} {n = 1} (omega arith) (omega arith) in
       parts (omega arith) (omega arith) (omega arith)

@@ -33,7 +33,7 @@ frame-low command e =
 
 hunt-fits : (w : ℕ) (meaning : Meaning) → TransitionFits (huntBy w meaning)
 hunt-fits w Quiet = refl
-hunt-fits w (Trigger flip) = refl
+hunt-fits w (Trigger position) = refl
 hunt-fits w Header = refl
 
 phase-fits : (phase : Phase) (r : Recogniser) (bit cnt : ℕ) → TransitionFits (stepBy phase r bit cnt)

@@ -1,9 +1,9 @@
--- What commands do, and their records (document 01, "What commands do" and "A record").
+-- What commands do, and their records (document 01, "What commands do" and "A record"; document 02, F-1).
 -- Assumes nothing.
 use mathlib.Core.Bool.{Bool, true, false, cond, _&&_, _||_}
 use mathlib.Core.List.{List}
 use Prim.Native.Nat.{ℕ, _+_, _*_, _-_, _/_, _%_, _^_}
-use lib.Dec.{eqb}
+use lib.Dec.{ltb, eqb}
 use lib.ListN.{getD, set}
 use Rattle.recogniser.specs.Fields.{dataBits, controlBits, receiverBits}
 use Rattle.recogniser.specs.declared.SlowRequest.{SlowRequest}
@@ -35,9 +35,9 @@ recorded m r = acted m (Recorded r)
 abbrev pub bunchOf : Counters → ℕ → ℕ
 bunchOf c time = (time - c .base) % 256
 
--- "LV1, in RunMode: reports L1ID and the bunch number, then adds 1 to L1ID, modulo 256."
+-- "LV1, in RunMode: reports L1ID and the bunch number, then adds 1 to L1ID, modulo 256." Each has eight bits of the value.
 abbrev pub lv1Value : Counters → ℕ → ℕ
-lv1Value c time = c .l1id * 256 + bunchOf c time
+lv1Value c time = c .l1id % 256 * 256 + bunchOf c time
 
 abbrev pub lv1Counted : Counters → Counters
 lv1Counted c = counters ((c .l1id + 1) % 256) (c .base)
@@ -46,18 +46,26 @@ lv1Counted c = counters ((c .l1id + 1) % 256) (c .base)
 abbrev pub sendsOf : Plan → Model → Bool
 sendsOf plan m = eqb (registerOf m (plan .csr) / 2 ^ 6 % 2) 0
 
--- The record, in RunMode or out of it, with flip or exact, by whether CSR lets it be sent; one that is not acted on is not sent.
-abbrev pub lv1Record : Bool → Bool → Bool → Counters → ℕ → Record
-lv1Record running flip sends c time =
-    recordOf time kindLv1 (flagActed running + flagFlip flip + flagSent (running && sends)) (cond running (lv1Value c time) 0)
+-- "With flip": an LV1 whose position is not 0.
+abbrev pub hasFlip : ℕ → Bool
+hasFlip position = ltb 0 position
+
+-- The record, in RunMode or out of it, by whether CSR lets it be sent; one that is not acted on is not sent. Document 02, F-1: "the record's value gains
+-- position × 65,536, also when the LV1 is not acted on."
+abbrev pub lv1Record : Bool → ℕ → Bool → Counters → ℕ → Record
+lv1Record running position sends c time =
+    recordOf time kindLv1
+    (flagActed running + flagFlip (hasFlip position) + flagSent (running && sends))
+    (position * 65536 + cond running (lv1Value c time) 0)
 
 -- A flip sets WLV1 "in and out of RunMode".
-abbrev pub lv1Of : Plan → Model → Bool → ℕ → Acted
-lv1Of plan m flip time =
+abbrev pub lv1Of : Plan → Model → ℕ → ℕ → Acted
+lv1Of plan m position time =
     let w = m .warnings in
+    let warned = withWarnings (warnings (w .wlv1 || hasFlip position) (w .wfst) (w .wslw)) m in
     recorded
-    (withCounters (cond (m .running) (lv1Counted (m .counters)) (m .counters)) (withWarnings (warnings (w .wlv1 || flip) (w .wfst) (w .wslw)) m))
-    (lv1Record (m .running) flip (sendsOf plan m) (m .counters) time)
+    (withCounters (cond (m .running) (lv1Counted (m .counters)) (m .counters)) warned)
+    (lv1Record (m .running) position (sendsOf plan m) (m .counters) time)
 
 -- "BCR, in RunMode, moves the base. ECR, in RunMode, sets L1ID and all FIFO pointers to 0." CAL and SYNC change nothing here.
 abbrev pub fastCounted : ℕ → ℕ → Counters → Counters
@@ -178,7 +186,7 @@ slowOf plan m (Frame command unsteady) time store = effect (frameOf plan m comma
 -- What a request does in its cycle.
 unfoldable pub actOf : Plan → Model → Request → ℕ → List ℕ → Effect
 actOf plan m Nothing time store = effect (acted m Silent) store
-actOf plan m (Lv1 flip) time store = effect (lv1Of plan m flip time) store
+actOf plan m (Lv1 position) time store = effect (lv1Of plan m position time) store
 actOf plan m (Fast body) time store = effect (fastOf m body time) store
 actOf plan m (BadFast body) time store = effect (badFastOf m body time) store
 actOf plan m (Slow slow) time store = slowOf plan m slow time store

@@ -25,7 +25,7 @@ slowTraits (Frame command unsteady) = traits (ltb command 16) false false
 
 abbrev pub traitsOf : Request → Traits
 traitsOf Nothing = traits true false false
-traitsOf (Lv1 flip) = traits true false false
+traitsOf (Lv1 position) = traits true false false
 traitsOf (Fast body) = traits (ltb body 16) false false
 traitsOf (BadFast body) = traits true false false
 traitsOf (Slow slow) = slowTraits slow

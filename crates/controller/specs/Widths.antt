@@ -1,7 +1,7 @@
 -- Widths: of what the model holds, of a request's fields, and of the records that they give (document 01, "A record" and "A taking call").
 -- Assumes nothing.
 use mathlib.Core.List.{List, [], _∷_}
-use Prim.Native.Nat.{ℕ, _/_, _^_, _<_}
+use Prim.Native.Nat.{ℕ, _/_, _^_, _<_, _≤_}
 use lib.ListN.{getD}
 use Rattle.limits.specs.Limits.{clockLimit}
 use Rattle.recogniser.specs.declared.SlowRequest.{SlowRequest}
@@ -19,7 +19,7 @@ pub record WidthsFit (registers : List ℕ) (c : Counters) : Type 0 where
 abbrev pub ModelFits : Model → Type 0
 ModelFits m = WidthsFit (m .registers) (m .counters)
 
--- A body, Field 3 and Field 4 have four bits each.
+-- A body, Field 3 and Field 4 have four bits each; an LV1 has five, of which one may be hit.
 abbrev pub SlowNarrow : SlowRequest → Type 0
 SlowNarrow LeaveRunMode = Unit {0}
 SlowNarrow (Command command address value) = address < 2 ^ 4
@@ -28,7 +28,7 @@ SlowNarrow (Frame command unsteady) = command < 2 ^ 4
 
 abbrev pub Narrow : Request → Type 0
 Narrow Nothing = Unit {0}
-Narrow (Lv1 flip) = Unit {0}
+Narrow (Lv1 position) = position ≤ 5
 Narrow (Fast body) = body < 2 ^ 4
 Narrow (BadFast body) = body < 2 ^ 4
 Narrow (Slow slow) = SlowNarrow slow

@@ -156,16 +156,18 @@ fn silent(model: Model) -> Acted
     }
 }
 
-fn lv1(model: Model, plan: Plan, flip: bool, time: u64) -> Acted
-    ensures { λ r. ⌜ r ≡ lv1Of plan model flip time ⌝ }
+fn lv1(model: Model, plan: Plan, position: u8, time: u64) -> Acted
+    ensures { λ r. ⌜ r ≡ lv1Of plan model position time ⌝ }
 {
+    let flip = 0 < position;
+    let hit = position as u64 * 65536;
     let mut m = model;
     let mut warnings = model.warnings;
     warnings.wlv1 = warnings.wlv1 | flip;
     m.warnings = warnings;
     let flipped = registers::flag(flip, FLAG_FLIP);
     if !model.running {
-        return answer(m, time, KIND_LV1, flipped, 0);
+        return answer(m, time, KIND_LV1, flipped, hit);
     }
     let csr = model.register(plan.csr);
     let sent = registers::flag(csr / 64 % 2 == 0, FLAG_SENT);
@@ -173,7 +175,7 @@ fn lv1(model: Model, plan: Plan, flip: bool, time: u64) -> Acted
     let value = counters.l1id as u64 * 256 + bunch(counters, time);
     counters.l1id = ((counters.l1id as u16 + 1) % 256) as u8;
     m.counters = counters;
-    answer(m, time, KIND_LV1, FLAG_ACTED + flipped + sent, value)
+    answer(m, time, KIND_LV1, FLAG_ACTED + flipped + sent, hit + value)
 }
 
 fn fast(model: Model, body: u8, time: u64) -> Acted
@@ -387,7 +389,7 @@ pub fn act(model: Model, plan: Plan, request: Request, time: u64, store: &mut [u
 {
     match request {
         Request::Nothing => silent(model),
-        Request::Lv1 { flip } => lv1(model, plan, flip, time),
+        Request::Lv1 { position } => lv1(model, plan, position, time),
         Request::Fast { body } => fast(model, body, time),
         Request::BadFast { body } => bad_fast(model, body, time),
         Request::Slow { slow: s } => slow(model, plan, s, time, store),

@@ -161,7 +161,7 @@ abbrev noSlowAt : Command → Replacement → Bool
 noSlowAt c x = noSlowIn (spread (widthOf c) x)
 
 noSlow-passes : Passes noSlowAt
-noSlow-passes = record { own = refl; hit = refl; ahead = refl }
+noSlow-passes = record { own = refl; hit = refl; near = refl }
 
 noSlow-item : (i : Item) → T (noSlowIn (itemTrace i))
 noSlow-item i =

@@ -11,7 +11,7 @@ use Rattle.registers.specs.declared.Counters.{Counters}
 use Rattle.controller.specs.declared.Record.{Record}
 use Rattle.damage.specs.Commands.{Command, lv1, bcr, ecr, cal, sync, requestOf}
 use Rattle.damage.specs.CleanStreams.{Item, itemSize}
-use Rattle.damage.specs.Table.{Replacement, itself, damage, affected, bitHit, replacementOf}
+use Rattle.damage.specs.Table.{Replacement, itself, damage, affected, hitOf, replacementOf}
 use Rattle.damage.specs.Records.{requestRecords, countersAfter, lastCycle, itemRecords, itemCounters, cleanRecords}
 use Rattle.damage.specs.Records.{replacementRecords, replacementCounters, damagedRecords}
 use Rattle.damage.specs.Comparison.{SameAfter, Replaced}
@@ -35,7 +35,7 @@ same-one sent m n is more c d a b g lv1 = (
   refl,
   refl,
   refl,
-  ((λ h. let p = g .0 h in omega arith), (λ h. let q = g .1 h in omega arith)),
+  (omega arith, (λ h. let p = g .0 h in omega arith), (λ h. let q = g .1 h in omega arith)),
   more _ _ (a && true) (b && true) ((λ h. ap (λ x. (x + 1) % 256) (g .0 (still a h))), (λ h. g .1 (still b h))),
 )
 same-one sent m n is more c d a b g bcr =
@@ -53,7 +53,7 @@ same-after sent n (i ∷ is) c d a b g = same-one sent (lastCycle n i) (n + item
 
 -- an unaffected command is itself
 spared : (i : Item) (k : ℕ) → T (not (affected i k)) → replacementOf i k ≡ itself (i .command)
-spared i k h = cond-left (affected i k) (damage (i .command) (bitHit i k)) (itself (i .command)) h
+spared i k h = cond-left (affected i k) (damage (i .command) (hitOf i k)) (itself (i .command)) h
 
 pub replaced : (sent : Bool) (c : Counters) (n : ℕ) (is : List Item) (k : ℕ) → Replaced sent c n is k (damagedRecords sent c n is k)
 replaced sent c n [] k = refl

@@ -31,7 +31,7 @@ outsideSlow p = not (insideSlow p)
 
 abbrev pub noSlow : Request → Bool
 noSlow Nothing = true
-noSlow (Lv1 flip) = true
+noSlow (Lv1 position) = true
 noSlow (Fast body) = true
 noSlow (BadFast body) = true
 noSlow (Slow slow) = false
@@ -55,7 +55,7 @@ StaysOutside h = T (noSlow (h .event .request)) → T (outsideSlow (h .next .pha
 
 hunt-stays-outside : (w : ℕ) (m : Meaning) → StaysOutside (huntBy w m)
 hunt-stays-outside w Quiet h = tt
-hunt-stays-outside w (Trigger flip) h = tt
+hunt-stays-outside w (Trigger position) h = tt
 hunt-stays-outside w Header h = tt
 
 module _ (r : Recogniser) (bit : ℕ) (now : T (outsideSlow (r .phase))) where
@@ -91,7 +91,7 @@ pub record Does (plan : Plan) (m : Model) (q : Request) (time : ℕ) (store : Li
 pub does : (plan : Plan) (m : Model) (q : Request) (time : ℕ) (store : List ℕ) → m .running ≡ true → T (noSlow q) → Does plan m q time store
 unfolding actOf
 does plan m Nothing time store r h = record { words = refl; counters = refl; running = r; registers = refl }
-does plan m (Lv1 flip) time store r h = record { words = rw r; counters = rw r; running = r; registers = refl }
+does plan m (Lv1 position) time store r h = record { words = rw r; counters = rw r; running = r; registers = refl }
 does plan m (Fast body) time store r h =
     let after : Bool → Model = λ b. cond b (fastEffect m body time) m in
     record {

@@ -1,11 +1,11 @@
 -- The two tables are whole: each pair of commands has one distance, and each bit of a command one row.
 -- Assumes nothing.
 use mathlib.Core.Path.{_≡_, refl}
-use mathlib.Core.List.{[], _∷_}
+use mathlib.Core.List.{[], _∷_, map}
 use Prim.Native.Nat.{suc}
-use Rattle.damage.specs.Commands.{Command, bcr, ecr, cal, sync, widthOf}
+use Rattle.damage.specs.Commands.{Command, fasts, widthOf}
 use Rattle.damage.specs.CleanStreams.{zerosBetween, table13, distances}
-use Rattle.damage.specs.Table.{table, rowsFor}
+use Rattle.damage.specs.Table.{bit, ahead, table, rowsFor}
 use Rattle.damage.proofs.FiniteFacts.{below, each, each-at}
 
 -- document 01's sentence and the chip paper's Table 1-3 say the same of all 25 pairs
@@ -14,9 +14,9 @@ timing c =
     each-at (λ d. distances table13 c d) (λ d. zerosBetween c d ∷ [])
     (each-at (λ c. each (λ d. distances table13 c d)) (λ c. each (λ d. zerosBetween c d ∷ [])) refl c)
 
--- every bit of every command has one row of the damage table, and so has the zero ahead of a Fast
-pub rows : (c : Command) → below (widthOf c) (λ k. rowsFor table c (suc k)) ≡ below (widthOf c) (λ k. 1)
-rows = each-at (λ c. below (widthOf c) (λ k. rowsFor table c (suc k))) (λ c. below (widthOf c) (λ k. 1)) refl
+-- every bit of every command has one row of the damage table, and so has each of the two zeros ahead of a Fast
+pub rows : (c : Command) → below (widthOf c) (λ k. rowsFor table c (bit (suc k))) ≡ below (widthOf c) (λ k. 1)
+rows = each-at (λ c. below (widthOf c) (λ k. rowsFor table c (bit (suc k)))) (λ c. below (widthOf c) (λ k. 1)) refl
 
-pub zero-rows : rowsFor table bcr 0 ∷ rowsFor table ecr 0 ∷ rowsFor table cal 0 ∷ rowsFor table sync 0 ∷ [] ≡ 1 ∷ 1 ∷ 1 ∷ 1 ∷ []
+pub zero-rows : map (λ c. below 2 (λ d. rowsFor table c (ahead (suc d)))) fasts ≡ map (λ c. below 2 (λ d. 1)) fasts
 zero-rows = refl

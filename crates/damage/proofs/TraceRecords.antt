@@ -92,7 +92,7 @@ abbrev withinAt : Command → Replacement → Bool
 withinAt d x = within (widthOf d) x
 
 within-passes : Passes withinAt
-within-passes = record { own = refl; hit = refl; ahead = refl }
+within-passes = record { own = refl; hit = refl; near = refl }
 
 itself-within : (d : Command) → T (within (widthOf d) (itself d))
 itself-within = own-passes withinAt within-passes

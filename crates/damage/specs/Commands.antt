@@ -49,9 +49,9 @@ isFastCommand ecr = true
 isFastCommand cal = true
 isFastCommand sync = true
 
--- What a whole command asks for at its last bit.
+-- What a whole command asks for at its last bit: the LV1 is exact.
 abbrev pub requestOf : Command → Request
-requestOf lv1 = Lv1 false
+requestOf lv1 = Lv1 0
 requestOf bcr = Fast 0b0001
 requestOf ecr = Fast 0b0010
 requestOf cal = Fast 0b0100

@@ -13,11 +13,12 @@ use Rattle.damage.specs.CleanStreams.{Item, itemSize}
 use Rattle.damage.specs.Table.{affected, replacementOf}
 use Rattle.damage.specs.Records.{itemRecords, itemCounters, cleanRecords, replacementRecords}
 
--- An LV1's value is its trigger number × 256 + its bunch number; each agrees unless it may still differ. All else is equal.
+-- An LV1's value is its position × 65,536 + its trigger number × 256 + its bunch number. The position agrees always, "as part of the affected record
+-- only" (document 02, F-1); each number unless it may still differ. All else is equal.
 abbrev pub SameValue : Bool → Bool → Record → Record → Type 0
 SameValue trigger bunch x y =
     cond (eqb (x .kind) kindLv1)
-    ((T (not trigger) → x .value / 256 ≡ y .value / 256) × (T (not bunch) → x .value % 256 ≡ y .value % 256))
+    ((x .value / 65536 ≡ y .value / 65536) × (T (not trigger) → x .value / 256 ≡ y .value / 256) × (T (not bunch) → x .value % 256 ≡ y .value % 256))
     (x .value ≡ y .value)
 
 -- The records after the affected command. "L1ID (the trigger number) may differ only .. up to the first ECR after it, the bunch number up to the first

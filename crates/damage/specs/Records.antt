@@ -31,7 +31,7 @@ recording records after = record { records = records; after = after }
 
 abbrev pub recordingOf : Bool → Counters → ℕ → Request → Recording
 recordingOf sent c time Nothing = recording [] c
-recordingOf sent c time (Lv1 flip) = recording (lv1Record true flip sent c time ∷ []) (lv1Counted c)
+recordingOf sent c time (Lv1 position) = recording (lv1Record true position sent c time ∷ []) (lv1Counted c)
 recordingOf sent c time (Fast body) = recording (fastRecord true body time ∷ []) (fastCounted body time c)
 recordingOf sent c time (BadFast body) = recording (badFastRecord body time ∷ []) c
 recordingOf sent c time (Slow slow) = recording [] c

@@ -1,9 +1,9 @@
--- The damage table as data, and the affected command (document 01, "The damage table").
+-- The damage table as data, and the affected command (document 01, "The damage table"; document 02, F-1).
 -- Assumes nothing.
 use mathlib.Core.Bool.{Bool, true, false, cond, _&&_}
 use mathlib.Core.List.{List, [], _∷_}
 use Prim.Native.Nat.{ℕ, suc, _+_, _-_}
-use lib.Dec.{ltb, leb}
+use lib.Dec.{ltb, leb, eqb}
 use lib.ListN.{drop}
 use Rattle.bits.specs.Bits.{numberOf}
 use Rattle.recogniser.specs.declared.Request.{Request}
@@ -11,46 +11,66 @@ use Rattle.recogniser.specs.declared.Request.the-variants.{Lv1, BadFast}
 use Rattle.damage.specs.Commands.{Command, lv1, bcr, ecr, cal, sync, fasts, among, codeOf, widthOf, isFastCommand, requestOf}
 use Rattle.damage.specs.CleanStreams.{Item, inverted}
 
--- What the table's right column says: "LV1 with flip, at 5" and the like, "bad Fast, at 9", or "none".
+-- Where a bit is inverted, seen from a command: one of its bits, counted from 1, or a zero so many cycles ahead of it.
+pub data Hit : Type 0 where
+  bit : ℕ → Hit
+  ahead : ℕ → Hit
+
+-- The table's left column: "bits 6 to 9" and the like, or a zero so many cycles ahead.
+pub data Hits : Type 0 where
+  bits : ℕ → ℕ → Hits
+  zeroAhead : ℕ → Hits
+
+abbrev pub amongHits : Hit → Hits → Bool
+amongHits (bit k) (bits from to) = leb from k && leb k to
+amongHits (bit k) (zeroAhead d) = false
+amongHits (ahead d) (bits from to) = false
+amongHits (ahead d) (zeroAhead e) = eqb d e
+
+-- The table's right column: "LV1 with flip, at 5" and the like, with the position that document 02, F-1, asks; "exact at 6"; "bad Fast, at 9"; or "none".
 pub data Outcome : Type 0 where
   none : Outcome
-  flipAt : ℕ → Outcome
+  flipAt : ℕ → ℕ → Outcome
   exactAt : ℕ → Outcome
   badFastAt : ℕ → Outcome
 
--- A row: the commands it speaks of, the first and the last of its inverted bits, and what is recorded instead.
+-- A row: the commands it speaks of, where a bit of theirs is inverted, and what is recorded instead.
 pub record Row : Type 0 where
   pub commands : List Command
-  pub from : ℕ
-  pub to : ℕ
+  pub hits : Hits
   pub outcome : Outcome
 
-abbrev pub row : List Command → ℕ → ℕ → Outcome → Row
-row commands from to outcome = record { commands = commands; from = from; to = to; outcome = outcome }
+abbrev pub row : List Command → Hits → Outcome → Row
+row commands hits outcome = record { commands = commands; hits = hits; outcome = outcome }
 
--- The table, in the paper's order; a line that speaks of several commands apart is a row for each. Bit 0 stands for a zero ahead of the command.
+-- The table, in the paper's order; a line that speaks of several commands or positions apart is a row for each.
 abbrev pub table : List Row
 table =
-    row (lv1 ∷ []) 1 5 (flipAt 5)
-    ∷ row fasts 6 9 (badFastAt 9)
-    ∷ row (cal ∷ []) 1 1 (flipAt 7)
-    ∷ row (sync ∷ []) 1 1 (flipAt 6)
-    ∷ row (bcr ∷ ecr ∷ []) 1 1 none
-    ∷ row (bcr ∷ ecr ∷ cal ∷ []) 2 2 (flipAt 6)
-    ∷ row (sync ∷ []) 2 2 (exactAt 6)
-    ∷ row fasts 3 4 none
-    ∷ row (bcr ∷ ecr ∷ []) 5 5 (flipAt 7)
-    ∷ row (cal ∷ []) 5 5 (exactAt 7)
-    ∷ row (sync ∷ []) 5 5 (flipAt 8)
-    ∷ row fasts 0 0 (flipAt 3)
+    row (lv1 ∷ []) (bits 1 1) (flipAt 5 1)
+    ∷ row (lv1 ∷ []) (bits 2 2) (flipAt 5 2)
+    ∷ row (lv1 ∷ []) (bits 3 3) (flipAt 5 3)
+    ∷ row (lv1 ∷ []) (bits 4 4) (flipAt 5 4)
+    ∷ row (lv1 ∷ []) (bits 5 5) (flipAt 5 5)
+    ∷ row fasts (bits 6 9) (badFastAt 9)
+    ∷ row (cal ∷ []) (bits 1 1) (flipAt 7 3)
+    ∷ row (sync ∷ []) (bits 1 1) (flipAt 6 1)
+    ∷ row (bcr ∷ ecr ∷ []) (bits 1 1) none
+    ∷ row (bcr ∷ ecr ∷ cal ∷ []) (bits 2 2) (flipAt 6 5)
+    ∷ row (sync ∷ []) (bits 2 2) (exactAt 6)
+    ∷ row fasts (bits 3 4) none
+    ∷ row (bcr ∷ ecr ∷ []) (bits 5 5) (flipAt 7 5)
+    ∷ row (cal ∷ []) (bits 5 5) (exactAt 7)
+    ∷ row (sync ∷ []) (bits 5 5) (flipAt 8 5)
+    ∷ row fasts (zeroAhead 1) (flipAt 3 1)
+    ∷ row fasts (zeroAhead 2) (flipAt 3 2)
     ∷ []
 
-abbrev pub speaksOf : Row → Command → ℕ → Bool
-speaksOf r c bit = among c (r .commands) && (leb (r .from) bit && leb bit (r .to))
+abbrev pub speaksOf : Row → Command → Hit → Bool
+speaksOf r c h = among c (r .commands) && amongHits h (r .hits)
 
-abbrev pub lookUp : List Row → Command → ℕ → Outcome
-lookUp [] c bit = none
-lookUp (r ∷ rs) c bit = cond (speaksOf r c bit) (r .outcome) (lookUp rs c bit)
+abbrev pub lookUp : List Row → Command → Hit → Outcome
+lookUp [] c h = none
+lookUp (r ∷ rs) c h = cond (speaksOf r c h) (r .outcome) (lookUp rs c h)
 
 -- What stands in a command's place: nothing, or a request at one of its bits, counted from 1.
 pub data Replacement : Type 0 where
@@ -58,22 +78,23 @@ pub data Replacement : Type 0 where
   at : ℕ → Request → Replacement
 
 -- A bad Fast has the damaged body.
-abbrev pub damagedBody : Command → ℕ → ℕ
-damagedBody c bit = numberOf 0 (drop 5 (inverted (bit - 1) (codeOf c)))
+abbrev pub damagedBody : Command → Hit → ℕ
+damagedBody c (bit k) = numberOf 0 (drop 5 (inverted (k - 1) (codeOf c)))
+damagedBody c (ahead d) = numberOf 0 (drop 5 (codeOf c))
 
-abbrev pub asReplacement : Command → ℕ → Outcome → Replacement
-asReplacement c bit none = nothing
-asReplacement c bit (flipAt p) = at p (Lv1 true)
-asReplacement c bit (exactAt p) = at p (Lv1 false)
-asReplacement c bit (badFastAt p) = at p (BadFast (damagedBody c bit))
+abbrev pub asReplacement : Command → Hit → Outcome → Replacement
+asReplacement c h none = nothing
+asReplacement c h (flipAt p position) = at p (Lv1 position)
+asReplacement c h (exactAt p) = at p (Lv1 0)
+asReplacement c h (badFastAt p) = at p (BadFast (damagedBody c h))
 
 -- The command itself, at its last bit.
 abbrev pub itself : Command → Replacement
 itself c = at (widthOf c) (requestOf c)
 
--- A bit of the command inverted, counted from 1; bit 0 is a zero ahead of it.
-abbrev pub damage : Command → ℕ → Replacement
-damage c bit = asReplacement c bit (lookUp table c bit)
+-- A bit of the command inverted, or a zero ahead of it.
+abbrev pub damage : Command → Hit → Replacement
+damage c h = asReplacement c h (lookUp table c h)
 
 -- "an inverted zero that no command holds, one or two cycles ahead of a Fast"
 abbrev pub hitsFast : Command → ℕ → Bool
@@ -84,14 +105,14 @@ hitsFast c distance = isFastCommand c && leb distance 2
 abbrev pub affected : Item → ℕ → Bool
 affected i k = cond (ltb k (i .ahead)) (hitsFast (i .command) (i .ahead - k)) true
 
--- Which bit of the table's left column that is.
-abbrev pub bitHit : Item → ℕ → ℕ
-bitHit i k = cond (ltb k (i .ahead)) 0 (suc (k - i .ahead))
+-- The same bit, seen from the item's command.
+abbrev pub hitOf : Item → ℕ → Hit
+hitOf i k = cond (ltb k (i .ahead)) (ahead (i .ahead - k)) (bit (suc (k - i .ahead)))
 
 abbrev pub replacementOf : Item → ℕ → Replacement
-replacementOf i k = cond (affected i k) (damage (i .command) (bitHit i k)) (itself (i .command))
+replacementOf i k = cond (affected i k) (damage (i .command) (hitOf i k)) (itself (i .command))
 
--- How many rows speak of a command's bit.
-abbrev pub rowsFor : List Row → Command → ℕ → ℕ
-rowsFor [] c bit = 0
-rowsFor (r ∷ rs) c bit = cond (speaksOf r c bit) 1 0 + rowsFor rs c bit
+-- How many rows speak of a hit on a command.
+abbrev pub rowsFor : List Row → Command → Hit → ℕ
+rowsFor [] c h = 0
+rowsFor (r ∷ rs) c h = cond (speaksOf r c h) 1 0 + rowsFor rs c h

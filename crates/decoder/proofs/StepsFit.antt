@@ -74,7 +74,7 @@ Fit cnt h = T (fitOf (h .next) cnt)
 pub hunt-fits : (w cnt : ℕ) → w < 32 → (m : Meaning) → Fit cnt (huntBy w m)
 unfolding fitOf
 hunt-fits w cnt h Quiet = lt→ltb w 32 h
-hunt-fits w cnt h (Trigger flip) = tt
+hunt-fits w cnt h (Trigger position) = tt
 hunt-fits w cnt h Header = tt
 
 module _ (r : Recogniser) (bit cnt : ℕ) (b : bit < 2) where

@@ -21,11 +21,11 @@ table =
     (0x3102901 ∷ 0 ∷ 0x3212801 ∷ 0 ∷ 0x3260105 ∷ 0x0016 ∷ [])
     (l1id 1 ∷ base 0x310 ∷ runMode 1 ∷ [])
     -- flag 04, "an LV1 acted on while CSR bit 6 is 0": exact and with flip
-    ∷ row (register 0 0xFFBF ∷ runMode 1 ∷ []) (lv1 ++ line "11100") (done 10 2) (0x040105 ∷ 0x0004 ∷ 0x090107 ∷ 0x0109 ∷ []) []
-    ∷ row (register 0 0x0040 ∷ runMode 1 ∷ []) (lv1 ++ line "11100") (done 10 2) (0x040101 ∷ 0x0004 ∷ 0x090103 ∷ 0x0109 ∷ []) (l1id 2 ∷ [])
+    ∷ row (register 0 0xFFBF ∷ runMode 1 ∷ []) (lv1 ++ line "11100") (done 10 2) (0x040105 ∷ 0x0004 ∷ 0x090107 ∷ 0x00050109 ∷ []) []
+    ∷ row (register 0 0x0040 ∷ runMode 1 ∷ []) (lv1 ++ line "11100") (done 10 2) (0x040101 ∷ 0x0004 ∷ 0x090103 ∷ 0x00050109 ∷ []) (l1id 2 ∷ [])
     -- out of RunMode it is neither acted on nor sent, whatever CSR bit 6 is
-    ∷ row (register 0 0xFFBF ∷ []) (lv1 ++ line "11100") (done 10 2) (0x040100 ∷ 0 ∷ 0x090102 ∷ 0 ∷ []) (l1id 0 ∷ [])
-    ∷ row (register 0 0x0040 ∷ []) (lv1 ++ line "11100") (done 10 2) (0x040100 ∷ 0 ∷ 0x090102 ∷ 0 ∷ []) (l1id 0 ∷ [])
+    ∷ row (register 0 0xFFBF ∷ []) (lv1 ++ line "11100") (done 10 2) (0x040100 ∷ 0 ∷ 0x090102 ∷ 0x00050000 ∷ []) (l1id 0 ∷ [])
+    ∷ row (register 0 0x0040 ∷ []) (lv1 ++ line "11100") (done 10 2) (0x040100 ∷ 0 ∷ 0x090102 ∷ 0x00050000 ∷ []) (l1id 0 ∷ [])
     -- the last cycles below 2^48
     ∷ row (next 0xFFFFFFFFFFFB ∷ runMode 1 ∷ []) lv1 (done 5 1) (0xFFFFFFFFFFFF0105 ∷ 0x00FF ∷ []) (next 0x1000000000000 ∷ [])
     ∷ []

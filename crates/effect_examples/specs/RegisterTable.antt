@@ -84,7 +84,7 @@ table =
     (register 0 0 ∷ wlv1 1 ∷ [])
     -- "WLV1 (LV1 with flip)" is bit 8, "WFST (bad Fast)" bit 9, "WSLW (bad Slow)" bit 10
     ∷ row [] (line "11100" ++ rdRegister 0) (done 38 2)
-    (0x040102 ∷ 0 ∷ 0x252101 ∷ 0x00000100 ∷ [])
+    (0x040102 ∷ 0x00050000 ∷ 0x252101 ∷ 0x00000100 ∷ [])
     (wlv1 1 ∷ wfst 0 ∷ wslw 0 ∷ [])
     ∷ row [] (line "10110 0000" ++ rdRegister 0) (done 42 2)
     (0x081F00 ∷ 0 ∷ 0x292101 ∷ 0x00000200 ∷ [])

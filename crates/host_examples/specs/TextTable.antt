@@ -48,9 +48,9 @@ someBuffers =
 
 abbrev pub table : List TextRow
 table =
-    -- document 01's listing of the input lines B5C074 and E0B080
-    prints (recordsText true tray (0x102801 ∷ 0 ∷ 0x150105 ∷ 0x15 ∷ 0x1C0107 ∷ 0x11C ∷ 0x281101 ∷ 0 ∷ []))
-    ("000000000010 28 01 00000000" ∷ "000000000015 01 05 00000015" ∷ "00000000001C 01 07 0000011C" ∷ "000000000028 11 01 00000000" ∷ [])
+    -- document 01's listing of the input lines B5C074 and E0B080, with the position of document 02, F-1
+    prints (recordsText true tray (0x102801 ∷ 0 ∷ 0x150105 ∷ 0x15 ∷ 0x1C0107 ∷ 0x5011C ∷ 0x281101 ∷ 0 ∷ []))
+    ("000000000010 28 01 00000000" ∷ "000000000015 01 05 00000015" ∷ "00000000001C 01 07 0005011C" ∷ "000000000028 11 01 00000000" ∷ [])
     -- "time (12 digits), kind (2), flags (2), value (8)"
     ∷ prints (recordsText true tray (0xABCDEF0123452213 ∷ 0x6789ABCD ∷ [])) ("ABCDEF012345 22 13 6789ABCD" ∷ [])
     -- "after a frame of at least one bit, '>' and its bytes": 8 control bits and 1 data bit; 8 control bits; 24 bits of a WrReceiver; none

@@ -58,7 +58,7 @@ start-narrow p = record { shift = omega arith; command = omega arith; address = 
 
 hunt-narrow : (w : ℕ) → w < 32 → (m : Meaning) → NarrowNext (huntBy w m)
 hunt-narrow w h Quiet = record { shift = omega arith; command = omega arith; address = omega arith; count = omega arith; held = omega arith }
-hunt-narrow w h (Trigger flip) = start-narrow Hunt
+hunt-narrow w h (Trigger position) = start-narrow Hunt
 hunt-narrow w h Header = start-narrow Body
 
 module _ (r : Recogniser) (bit cnt : ℕ) (low : cnt < 2 ^ 16) (n : Narrow r) where

@@ -33,10 +33,10 @@ RunsAsRead prints store tray out input turns =
 pub record ProgramPromise : Type 0 where
   pub as-read : (prints : PrintOptions) (store tray out input : List ℕ) (turns : List Turn) → length store ≡ 2048 → length tray ≡ 8192
       → length out ≡ 65536 → length input ≡ 65536 → RunsAsRead prints store tray out input turns
-  -- "Input lines B5C074 and E0B080 print, whole:"
+  -- "Input lines B5C074 and E0B080 print, whole:", and "the third line's value becomes 0005011C" (document 02, F-1).
   pub listing : stationOn (ascii "B5C074\nE0B080\n") .text
       ≡ ascii "000000000010 28 01 00000000\n"
-      ++ (ascii "000000000015 01 05 00000015\n" ++ (ascii "00000000001C 01 07 0000011C\n" ++ ascii "000000000028 11 01 00000000\n"))
+      ++ (ascii "000000000015 01 05 00000015\n" ++ (ascii "00000000001C 01 07 0005011C\n" ++ ascii "000000000028 11 01 00000000\n"))
   pub to-the-end : stationOn (ascii "B5C074\nE0B080\n") .refusal ≡ noRefusal
   -- "The default plan grows .. It reaches the station program" (document 02, F-9): register 10 exists, and 11 does not.
   pub default-plan : stationOn (ascii "B585091A5AC2C48D00\n") .text ≡ ascii "000000000020 20 01 000A1234\n" ++ ascii "000000000041 20 08 000B1234\n"

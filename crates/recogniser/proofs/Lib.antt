@@ -1,3 +1,4 @@
 pub mod Shift
+pub mod Positions
 pub mod Field5Lengths
 pub mod StepByPhase

@@ -21,7 +21,8 @@ pub enum Phase {
 // What a window means.
 pub enum Meaning {
     Quiet,
-    Trigger { flip: bool },
+    // An LV1. `position`: which of its five received bits was hit, from 1; 0 for an exact one.
+    Trigger { position: u8 },
     Header,
 }
 
@@ -56,7 +57,7 @@ pub enum SlowRequest {
 // What one cycle asks of the controller: nothing, a record with its effect, or what a Slow command asks.
 pub enum Request {
     Nothing,
-    Lv1 { flip: bool },
+    Lv1 { position: u8 },
     Fast { body: u8 },
     BadFast { body: u8 },
     Slow { slow: SlowRequest },
@@ -117,8 +118,12 @@ pub fn classify(window: u8) -> Meaning
     ensures { λ r. ⌜ r ≡ meaningOf window ⌝ }
 {
     match window {
-        0b11101 => Meaning::Trigger { flip: false },
-        0b11100 | 0b11111 | 0b11001 | 0b10101 | 0b01101 => Meaning::Trigger { flip: true },
+        0b11101 => Meaning::Trigger { position: 0 },
+        0b01101 => Meaning::Trigger { position: 1 },
+        0b10101 => Meaning::Trigger { position: 2 },
+        0b11001 => Meaning::Trigger { position: 3 },
+        0b11111 => Meaning::Trigger { position: 4 },
+        0b11100 => Meaning::Trigger { position: 5 },
         0b10110 => Meaning::Header,
         _ => Meaning::Quiet,
     }
@@ -267,7 +272,10 @@ impl Transition {
         let m = classify(window);
         match m {
             Meaning::Quiet => Transition::hunting(window, Request::Nothing),
-            Meaning::Trigger { flip } => Transition::hunting(0, Request::Lv1 { flip: flip }),
+            Meaning::Trigger { position } => Transition::hunting(
+                0,
+                Request::Lv1 { position: position },
+            ),
             Meaning::Header => Transition {
                 next: Recogniser::start(Phase::Body, 0, 0, 0),
                 event: Event::NOTHING,

@@ -59,7 +59,7 @@ module _ (cnt : ℕ) where
   hunt-beyond : (r : Recogniser) (bit : ℕ) (bits : List ℕ) (v : ℕ) (m : Meaning) → stepOf r bit cnt ≡ huntBy v m →
       Passes cnt (startOf Hunt v 0 0) bits (huntOn v bits) → Passes cnt r (bit ∷ bits) (huntBeyond v m (huntOn v bits))
   hunt-beyond r bit bits v Quiet e p = going r bit bits (startOf Hunt v 0 0) e p
-  hunt-beyond r bit bits v (Trigger flip) e p = ending r bit bits (huntBy v (Trigger flip)) e
+  hunt-beyond r bit bits v (Trigger position) e p = ending r bit bits (huntBy v (Trigger position)) e
   hunt-beyond r bit bits v Header e p = ending r bit bits (huntBy v Header) e
 
   hunt-passes : (w : ℕ) (bits : List ℕ) → Passes cnt (startOf Hunt w 0 0) bits (huntOn w bits)

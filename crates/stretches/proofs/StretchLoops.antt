@@ -72,12 +72,12 @@ module _ {whole rest : Stretch} {from at : Cursor} {left count : ℕ} (w : Invar
 -- A window that means nothing, and one that means something.
 quiet-beyond : (v : ℕ) (m : Meaning) (s : Stretch) → isQuiet m ≡ true → huntBeyond v m s ≡ oneMore s
 quiet-beyond v Quiet s e = refl
-quiet-beyond v (Trigger flip) s e = cc
+quiet-beyond v (Trigger position) s e = cc
 quiet-beyond v Header s e = cc
 
 loud-beyond : (v : ℕ) (m : Meaning) (s : Stretch) → isQuiet m ≡ false → huntBeyond v m s ≡ stretched 1 (huntBy v m)
 loud-beyond v Quiet s e = cc
-loud-beyond v (Trigger flip) s e = refl
+loud-beyond v (Trigger position) s e = refl
 loud-beyond v Header s e = refl
 
 module _ (input : List ℕ) (at next : Cursor) (left : ℕ) (h : 0 < left) (n : next ≡ cursorAt (placeUnder at + 1))

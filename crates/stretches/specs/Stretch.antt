@@ -27,13 +27,13 @@ oneMore s = record { taken = suc (s .taken); next = s .next; event = s .event }
 -- Whether a window's meaning is nothing.
 abbrev pub isQuiet : Meaning → Bool
 isQuiet Quiet = true
-isQuiet (Trigger flip) = false
+isQuiet (Trigger position) = false
 isQuiet Header = false
 
 -- Hunting with a window.
 abbrev pub huntBeyond : ℕ → Meaning → Stretch → Stretch
 huntBeyond w Quiet rest = oneMore rest
-huntBeyond w (Trigger flip) rest = stretched 1 (moveTo idle (Lv1 flip))
+huntBeyond w (Trigger position) rest = stretched 1 (moveTo idle (Lv1 position))
 huntBeyond w Header rest = stretched 1 (moveTo (startOf Body 0 0 0) Nothing)
 
 abbrev pub huntOn : ℕ → List ℕ → Stretch

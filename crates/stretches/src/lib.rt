@@ -51,7 +51,7 @@ fn is_quiet(window: u8) -> bool
     let m = recogniser::classify(window);
     match m {
         Meaning::Quiet => true,
-        Meaning::Trigger { flip } => false,
+        Meaning::Trigger { position } => false,
         Meaning::Header => false,
     }
 }

@@ -1,4 +1,4 @@
--- The taking call's tables, computed.
+-- The windows and the taking call's tables, computed.
 -- Assumes nothing.
 use mathlib.Core.Path.{refl}
 use Rattle.recogniser.specs.Step.{stepOf}
@@ -12,7 +12,10 @@ use Rattle.decoder.specs.Sound.{soundOf}
 use Rattle.calls.specs.Turn.{turnOf}
 use Rattle.calls.specs.Take.{takenOf, takeOf}
 use Rattle.image.specs.Image.{imageOf, stateOf}
-use Rattle.worked_examples.specs.WorkedExamples.{TakingExamples}
+use Rattle.worked_examples.specs.WorkedExamples.{WindowExamples, TakingExamples}
+
+pub window-examples : WindowExamples
+window-examples = record { listed = record { counted = refl; given = refl }; near = record { counted = refl; given = refl } }
 
 pub taking-examples : TakingExamples
 unfolding stepOf fitOf trayOf planFits everyFrom pointersFit missingZero writeOf actOf soundOf turnOf takenOf takeOf imageOf stateOf

@@ -11,16 +11,19 @@ abbrev pub table : List Row
 table =
     -- the listing of document 01, input lines B5C074 and E0B080: EnDataTake, an exact LV1, one with flip, BCR
     row [] (field 48 0xB5C074E0B080) (done 48 4)
-    (0x102801 ∷ 0 ∷ 0x150105 ∷ 0x0015 ∷ 0x1C0107 ∷ 0x011C ∷ 0x281101 ∷ 0 ∷ [])
+    (0x102801 ∷ 0 ∷ 0x150105 ∷ 0x0015 ∷ 0x1C0107 ∷ 0x0005011C ∷ 0x281101 ∷ 0 ∷ [])
     (runMode 1 ∷ l1id 2 ∷ base 0x28 ∷ wlv1 1 ∷ wfst 0 ∷ wslw 0 ∷ [])
     -- "11101 is an exact LV1", kind 01: in RunMode acted on and sent; out of it neither, and no trigger is counted
     ∷ row (runMode 1 ∷ []) lv1 (done 5 1) (0x040105 ∷ 0x0004 ∷ []) (l1id 1 ∷ wlv1 0 ∷ [])
     ∷ row [] lv1 (done 5 1) (0x040100 ∷ 0 ∷ []) (l1id 0 ∷ wlv1 0 ∷ [])
-    -- "11100, 11111, 11001, 10101 and 01101 are an LV1 with flip"
+    -- "11100, 11111, 11001, 10101 and 01101 are an LV1 with flip"; its position × 65,536 "also when the LV1 is not acted on"
     ∷ row (runMode 1 ∷ []) (line "11100 11111 11001 10101 01101") (done 25 5)
-    (0x040107 ∷ 0x0004 ∷ 0x090107 ∷ 0x0109 ∷ 0x0E0107 ∷ 0x020E ∷ 0x130107 ∷ 0x0313 ∷ 0x180107 ∷ 0x0418 ∷ [])
+    (0x040107 ∷ 0x00050004 ∷ 0x090107 ∷ 0x00040109 ∷ 0x0E0107 ∷ 0x0003020E ∷ 0x130107 ∷ 0x00020313 ∷ 0x180107 ∷ 0x00010418 ∷ [])
     (l1id 5 ∷ wlv1 1 ∷ [])
-    ∷ row [] (line "11111") (done 5 1) (0x040102 ∷ 0 ∷ []) (l1id 0 ∷ wlv1 1 ∷ [])
+    ∷ row [] (line "11111") (done 5 1) (0x040102 ∷ 0x00040000 ∷ []) (l1id 0 ∷ wlv1 1 ∷ [])
+    ∷ row [] (line "11100 11111 11001 10101 01101") (done 25 5)
+    (0x040102 ∷ 0x00050000 ∷ 0x090102 ∷ 0x00040000 ∷ 0x0E0102 ∷ 0x00030000 ∷ 0x130102 ∷ 0x00020000 ∷ 0x180102 ∷ 0x00010000 ∷ [])
+    (l1id 0 ∷ wlv1 1 ∷ [])
     -- "10 + body for a Fast": BCR, ECR, CAL, SYNC
     ∷ row (runMode 1 ∷ []) (bcr ++ (ecr ++ (cal ++ sync))) (done 36 4)
     (0x081101 ∷ 0 ∷ 0x111201 ∷ 0 ∷ 0x1A1401 ∷ 0 ∷ 0x231801 ∷ 0 ∷ [])
@@ -36,8 +39,9 @@ table =
     ∷ 0x3E1F00 ∷ 0b1010 ∷ 0x471F00 ∷ 0b1100 ∷ 0x501F00 ∷ 0b1101 ∷ 0x591F00 ∷ 0b1110 ∷ 0x621F00 ∷ 0b1111 ∷ [])
     (runMode 1 ∷ wlv1 0 ∷ wfst 1 ∷ wslw 0 ∷ [])
     ∷ row [] (line "10110 0000") (done 9 1) (0x081F00 ∷ 0 ∷ []) (wfst 1 ∷ [])
-    -- "1101 straight after a command is an LV1 with flip"; the bunch number counts from the BCR
-    ∷ row (runMode 1 ∷ []) (bcr ++ line "1101") (done 13 2) (0x081101 ∷ 0 ∷ 0x0C0107 ∷ 0x0004 ∷ []) []
+    -- "1101 straight after a command is an LV1 with flip", its first bit the cleared window's; the bunch number counts from the BCR; and after an opening
+    ∷ row (runMode 1 ∷ []) (bcr ++ line "1101") (done 13 2) (0x081101 ∷ 0 ∷ 0x0C0107 ∷ 0x00010004 ∷ []) []
+    ∷ row [] (line "1101") (done 4 1) (0x030102 ∷ 0x00010000 ∷ []) []
     -- "20 + Field 3 for a Slow"; EnDataTake starts RunMode with its last bit, whatever Field 4 is
     ∷ row [] (line "10110 1011 1000 000") (done 16 0) [] (runMode 0 ∷ [])
     ∷ row [] enDataTake (done 17 1) (0x102801 ∷ 0 ∷ []) (runMode 1 ∷ [])

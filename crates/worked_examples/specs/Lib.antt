@@ -2,6 +2,7 @@ pub mod Table
 pub mod CommandBits
 pub mod Cells
 pub mod Example
+pub mod WindowTable
 pub mod StreamTable
 pub mod ChipTable
 pub mod CommandTable

@@ -1,7 +1,9 @@
--- The worked examples of streams and calls: the definitions give every row of every table, and the tables have this many rows.
+-- The worked examples of windows, streams and calls: the definitions give every row of every table, and the tables have this many rows.
 -- Assumes nothing.
+use Rattle.recogniser.specs.Hunting.{meaningOf}
 use Rattle.worked_examples.specs.Table.{Table}
 use Rattle.worked_examples.specs.Example.{Gives}
+use Rattle.worked_examples.specs.WindowTable as windows
 use Rattle.worked_examples.specs.StreamTable as streams
 use Rattle.worked_examples.specs.ChipTable as chip
 use Rattle.worked_examples.specs.CommandTable as commands
@@ -13,11 +15,16 @@ use Rattle.worked_examples.specs.RangeTable as ranges
 abbrev pub MarkedStreams : Type 0
 MarkedStreams = Gives 14 streams.table
 
+-- All 32 windows: the definition gives document 01's list with its positions, and that list is what lies at distance 0 or 1.
+pub record WindowExamples : Type 0 where
+  pub listed : Table meaningOf windows.listedMeaning 32 windows.all
+  pub near : Table meaningOf windows.nearMeaning 32 windows.all
+
 -- The taking call.
 pub record TakingExamples : Type 0 where
   pub marked : MarkedStreams
   pub chip-gives : Gives 80 chip.table
-  pub commands-give : Gives 26 commands.table
+  pub commands-give : Gives 28 commands.table
   pub sound-gives : Gives 102 sound.table
   pub calls-give : Table calls.callShown calls.callExpected 28 calls.table
   pub ranges-give : Table ranges.rangeShown ranges.rangeExpected 18 ranges.table

@@ -1,10 +1,14 @@
 -- `lv1` answers `lv1Of`, in RunMode and out of it; at most three flags are added, so they fit.
 -- Assumes nothing.
-use native.Mathlib.Nat.{zero-add, add-zero}
+use Prim.Native.Nat.{_^_, _<_}
+use native.Mathlib.Nat.{zero-add, add-zero, mod-eq-of-lt}
 use borrow.Author.Tests.{not-true, not-false}
 use borrow.Author.Needs.{needs}
 use Rattle.controller.proofs.lv1.Statement.{statement}
 use Rattle.controller.proofs.lv1.Tie as tie
+
+mul-hit : tie.Need-mul-hit
+mul-hit c = search needs
 
 flag-requires : tie.Need-flag-requires
 flag-requires c κs = search needs
@@ -56,6 +60,9 @@ add-answer c = search needs
 add-answer-2 : tie.Need-add-answer-2
 add-answer-2 c = search needs
 
+add-answer-3 : tie.Need-add-answer-3
+add-answer-3 c = search needs
+
 answer-requires-2 : tie.Need-answer-requires-2
 answer-requires-2 c κs = search needs
 
@@ -64,7 +71,10 @@ returns-2 c =
     let timed = c .before .before in
     let sent = timed .before .before .before in
     let f = sent .before .before .before .before in
+    let m = f .before .before .before .args .model in
+    let low : m .counters .l1id < 2 ^ 8 = search needs in
     simp (
+      mod-eq-of-lt low,
       not-false (f .before .before .before .args .model .running) (sent .before .before .if1 .left),
       c .answer2 .ensures,
       f .flag .ensures .0,
@@ -77,6 +87,7 @@ pub lv1-spec : {M : Type 1} → statement M
 lv1-spec =
     tie.close
     (tie.spec
+    mul-hit
     flag-requires
     answer-requires
     returns
@@ -91,5 +102,6 @@ lv1-spec =
     cast-counters-2
     add-answer
     add-answer-2
+    add-answer-3
     answer-requires-2
     returns-2)
