@@ -250,7 +250,8 @@ fn an_lv1_is_sent_while_csr_bit_6_is_0() {
         let records = reader.read(&stream("11101 11100"));
         assert_eq!(flags_of(&records), [flags, flags | 2], "{csr:04X}");
     }
-    assert_eq!(read(stream("11101 11100")), [(1, 0, 0), (1, 2, 0)]);
+    let idle = read(stream("11101 11100"));
+    assert_eq!(idle, [(1, 0, 0), (1, 2, 0x0005_0000)]);
 }
 
 #[test]
