@@ -497,33 +497,6 @@ fn a_window_acts_after_its_bit() {
     }
 }
 
-#[test]
-fn every_window() {
-    let exact = [0b11101];
-    let flip = [0b11100, 0b11111, 0b11001, 0b10101, 0b01101];
-    for window in 0..32_u8 {
-        let mut reader = Reader::running();
-        reader.state.recogniser = Recogniser::Hunting {
-            window: window >> 1,
-        };
-        let records = reader.read(&Stream::new().raw(&[window & 1 == 1]));
-        let flags = flags_of(&records);
-        if exact.contains(&window) {
-            assert_eq!(flags, [5]);
-        } else if flip.contains(&window) {
-            assert_eq!(flags, [7]);
-        } else {
-            assert_eq!(flags, [0; 0]);
-        }
-        let header = reader.state.recogniser
-            == Recogniser::Body {
-                held: 0,
-                received: 0,
-            };
-        assert_eq!(header, window == 0b10110);
-    }
-}
-
 /// 'list full' is tested before each bit, whatever that bit would do.
 #[test]
 fn list_full() {
