@@ -2,10 +2,11 @@
 
 mod common;
 
-use cases::{generate, Random, Stream};
+use cases::{fixed, generate, generated, Case, Random, Stream};
 use common::{position, rec, stream, Reader};
 use reader::window::{meaning, Meaning};
-use reader::{Recogniser, Record};
+use reader::{reading, Recogniser, Record};
+use std::collections::BTreeSet;
 
 /// Document 01's LV1 windows, the exact one first, with document 02's
 /// positions.
@@ -212,4 +213,99 @@ fn positions_of_random_streams() {
     }
     // Every position in and out of RunMode.
     assert!(seen.concat().iter().all(|&count| count > 40), "{seen:?}");
+}
+
+/// The records of a case's listing.
+fn listed_records(case: &Case) -> Vec<Record> {
+    let mut listing = Vec::new();
+    reading(&case.input[..], &mut listing).unwrap();
+    let listing = String::from_utf8(listing).unwrap();
+    let number = |text: &str| u64::from_str_radix(text, 16).unwrap();
+    let record = |line: &str| {
+        let (kind, flags) = (number(&line[13..15]) as u8, number(&line[16..18]) as u8);
+        rec(number(&line[..12]), kind, flags, number(&line[19..]) as u32)
+    };
+    listing.lines().map(record).collect()
+}
+
+/// An LV1 as the cases vary it: its position, whether it is acted on, and the
+/// cycles since the record ahead of it, if they are 5 at most.
+type Varied = (u32, bool, Option<u64>);
+
+fn varied(case: &Case) -> Vec<Varied> {
+    let mut ahead = None;
+    let mut found = Vec::new();
+    for record in listed_records(case) {
+        if record.kind == 0x01 {
+            let cycles = ahead.map(|ahead| record.time - ahead);
+            let cycles = cycles.filter(|&cycles| cycles <= 5);
+            found.push((record.value >> 16, record.flags & 0x01 == 1, cycles));
+        }
+        ahead = Some(record.time);
+    }
+    found
+}
+
+fn flips() -> Vec<Case> {
+    let mut cases = fixed();
+    cases.retain(|case| case.name.starts_with("flips/"));
+    cases
+}
+
+/// The cases for comparison have every position, in and out of RunMode,
+/// straight after another command and not.
+#[test]
+fn the_cases_have_every_position() {
+    for cases in [flips(), generated(16)] {
+        let seen: BTreeSet<Varied> = cases.iter().flat_map(varied).collect();
+        for acted_on in [true, false] {
+            for position in 1..=5 {
+                for cycles in [Some(5), None] {
+                    assert!(seen.contains(&(position, acted_on, cycles)), "{seen:?}");
+                }
+            }
+            // 1101 straight after a command, the only one that is as short.
+            assert!(seen.contains(&(1, acted_on, Some(4))), "{seen:?}");
+        }
+        let short = |&&(_, _, cycles): &&Varied| cycles.is_some_and(|cycles| cycles < 5);
+        assert!(seen
+            .iter()
+            .filter(short)
+            .all(|&(position, ..)| position == 1));
+    }
+}
+
+/// The cases of flips have the positions that their names promise.
+#[test]
+fn the_cases_of_flips_are_what_they_should_be() {
+    for (name, positions) in [
+        ("flips/positions", vec![0, 1, 2, 3, 4, 5, 0, 1]),
+        ("flips/cut-by-lines", (8..48).map(|n| n / 8).collect()),
+        ("flips/cut-by-blocks", vec![1, 2, 3, 4, 5]),
+    ] {
+        for (mode, acted_on) in [("run", true), ("idle", false)] {
+            let name = format!("{name}-{mode}");
+            let case = flips().into_iter().find(|case| case.name == name);
+            let lv1 = varied(&case.expect("a case")).into_iter();
+            let told = lv1.map(|(position, acted_on, _)| (position, acted_on));
+            let expected = positions.iter().map(|&position| (position, acted_on));
+            assert!(told.eq(expected), "{name}");
+        }
+    }
+}
+
+/// Each block of 65,536 bytes ends within an LV1.
+#[test]
+fn the_blocks_end_within_an_lv1() {
+    let blocks = flips().into_iter();
+    for case in blocks.filter(|case| case.name.contains("cut-by-blocks")) {
+        let mut lv1 = listed_records(&case);
+        lv1.retain(|record| record.kind == 0x01);
+        for (block, record) in (1..).zip(lv1) {
+            let digits = case.input[..65_536 * block].iter().filter(|&&c| c != b'\n');
+            let bits = 4 * digits.count() as u64;
+            let first = record.time - 4;
+            assert!(first < bits && bits <= record.time, "block {block}");
+        }
+    }
 }
