@@ -2,6 +2,12 @@
 
 /// A trigger.
 pub const LV1: &str = "11101";
+/// The same with one bit hit: the first received, then the second, and so on
+/// (Table 1-4).
+pub const FLIPPED_LV1: [&str; 5] = ["01101", "10101", "11001", "11111", "11100"];
+/// The last four bits of one. Straight after a command they are an LV1 whose
+/// first bit was hit, as the window has a 0 there.
+pub const LV1_TAIL: &str = "1101";
 /// Field 1 of every other command; Field 2 follows.
 pub const HEADER: &str = "10110";
 

@@ -1,6 +1,6 @@
 //! Random streams of commands.
 
-use crate::code::{self, BCR, CAL, ECR, SYNC};
+use crate::code::{self, BCR, CAL, ECR, FLIPPED_LV1, LV1_TAIL, SYNC};
 use crate::{Random, Stream};
 
 /// Where the three registers are that a reader looks into.
@@ -25,19 +25,21 @@ pub fn commands(random: &mut Random, count: usize) -> Stream {
     commands_at(Addresses::DEFAULT, random, count)
 }
 
-/// Whole commands with random zeros between them. It follows CNT as the
-/// commands write it at its address, so that variable fields end where the
-/// next command begins. Most CNT are small, to keep frames short.
+/// Whole commands, now and then an LV1 with a bit hit, with random zeros
+/// between them. It follows CNT as the commands write it at its address, so
+/// that variable fields end where the next command begins. Most CNT are small,
+/// to keep frames short.
 pub fn commands_at(at: Addresses, random: &mut Random, count: usize) -> Stream {
     let mut stream = Stream::new().en_data_take();
     let mut cnt = 0;
     for _ in 0..count {
         stream = stream.zeros(gap(random));
-        stream = match random.below(24) {
+        stream = match random.below(26) {
             0..=7 => stream.lv1(),
             8..=12 => stream.fast([BCR, ECR, CAL, SYNC][random.below(4) as usize]),
             13 => stream.fast(bad_body(random)),
             14..=16 => stream.en_data_take(),
+            17 | 18 => stream.pattern(flipped_lv1(random)),
             _ => slow_command(stream, at, random, &mut cnt),
         };
     }
@@ -56,7 +58,7 @@ pub fn without_frames(random: &mut Random, count: usize) -> Stream {
             0..=7 => stream.lv1(),
             8..=11 => stream.fast([BCR, ECR, CAL, SYNC][random.below(4) as usize]),
             12 => stream.fast(bad_body(random)),
-            13 | 14 => stream.pattern(FLIPPED[random.below(5) as usize]),
+            13 | 14 => stream.pattern(flipped_lv1(random)),
             15..=17 => stream.en_data_take(),
             _ => slow_without_frame(stream, random),
         };
@@ -65,8 +67,11 @@ pub fn without_frames(random: &mut Random, count: usize) -> Stream {
     stream.zeros(rest)
 }
 
-/// An LV1 with each of its bits inverted.
-const FLIPPED: [&str; 5] = ["01101", "10101", "11001", "11111", "11100"];
+/// An LV1 with one bit hit, or the last four bits of one.
+fn flipped_lv1(random: &mut Random) -> &'static str {
+    let choice = random.below(6) as usize;
+    FLIPPED_LV1.get(choice).unwrap_or(&LV1_TAIL)
+}
 
 fn slow_without_frame(stream: Stream, random: &mut Random) -> Stream {
     let nibble = random.below(16) as u8;

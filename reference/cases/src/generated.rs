@@ -5,8 +5,8 @@ use crate::{generate, Case, Random, Stream};
 /// How a stream is made.
 #[derive(Clone, Copy)]
 enum Recipe {
-    /// Whole commands.
-    Clean,
+    /// Whole commands, and an LV1 with a bit hit now and then.
+    Commands,
     /// The same with one bit in so many inverted.
     Flips(u64),
     /// Random bits.
@@ -14,7 +14,7 @@ enum Recipe {
 }
 
 const RECIPES: [Recipe; 8] = [
-    Recipe::Clean,
+    Recipe::Commands,
     Recipe::Flips(10_000),
     Recipe::Flips(1_000),
     Recipe::Flips(300),
@@ -41,7 +41,7 @@ fn case(number: u64) -> Case {
             };
             begun.raw(&generate::bits(&mut random, 16_000))
         }
-        Recipe::Clean | Recipe::Flips(_) => generate::commands(&mut random, 400),
+        Recipe::Commands | Recipe::Flips(_) => generate::commands(&mut random, 400),
     };
     if let Recipe::Flips(rate) = recipe {
         generate::flip_some(&mut stream, &mut random, rate);

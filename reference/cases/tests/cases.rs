@@ -41,6 +41,8 @@ fn cases_cover_what_they_should() {
         // In and out of RunMode.
         assert_eq!(count(&format!("tables/1-{table}/")), 2 * rows);
     }
+    // Positions, cuts by lines and by blocks, and after each command.
+    assert_eq!(count("flips/"), 2 * (3 + 18));
     for name in ["0", "1", "7", "8", "9", "8247"] {
         for kind in ["wr", "rd"] {
             assert!(names.contains(&format!("frames/{kind}-{name}")));

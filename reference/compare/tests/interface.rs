@@ -412,6 +412,14 @@ fn one_call_takes_the_large_capture_of_every_kind_but_frames() {
     let flags = records.iter().fold(0, |all, record| all | record.flags);
     let all = flag::ACTED_ON | flag::FLIP | flag::SENT | flag::MISSING;
     assert_eq!(flags, all);
+    // Every position, in and out of RunMode (document 02, F-1).
+    let lv1 = records.iter().filter(|record| record.kind == kind::LV1);
+    let seen: BTreeSet<(u32, u8)> = lv1
+        .map(|record| (record.value >> 16, record.flags & flag::ACTED_ON))
+        .collect();
+    assert!(seen
+        .into_iter()
+        .eq((0..=5).flat_map(|position| [(position, 0), (position, 1)])));
     let last = records.last().expect("records");
     assert_eq!((last.time, last.kind), (large::BITS as u64 - 1, kind::LV1));
 }

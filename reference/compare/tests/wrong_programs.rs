@@ -112,7 +112,7 @@ fn wrong_output_is_reported_with_its_place() {
     let mut tally = Tally::default();
     tally.add(checks);
     let first = "FAILED station, paper/listing, as a file: differs at byte 40, line 2: \
-                 expected \"000000000015 01 05 00000015\\n\", got \"00000000001C 01 07 0000011C\\n\"";
+                 expected \"000000000015 01 05 00000015\\n\", got \"00000000001C 01 07 0005011C\\n\"";
     let text = tally.to_string();
     assert_eq!(text.lines().next(), Some(first));
     assert!(text.ends_with("\n0 passed, 15 failed"));

@@ -8,9 +8,9 @@ use crate::state::{State, Warnings, WARNING_BITS};
 /// The effects of a command in the cycle of its record.
 pub fn apply(command: Command, time: u64, state: &mut State, store: &mut [u32]) {
     match command {
-        Command::Lv1 { flip } => {
+        Command::Lv1 { position } => {
             // Warnings are set in and out of RunMode.
-            state.warnings.wlv1 |= flip;
+            state.warnings.wlv1 |= position != 0;
             if state.run_mode {
                 state.l1id = (state.l1id + 1) % 256;
             }

@@ -39,8 +39,10 @@ pub enum Recogniser {
 /// A command or error whose last bit has come.
 #[derive(Clone, Copy, Debug, PartialEq, Eq)]
 pub enum Command {
+    /// With the position of the bit that was hit, which is not 0 exactly
+    /// when the LV1 is one with flip (document 02, F-1).
     Lv1 {
-        flip: bool,
+        position: u8,
     },
     /// BCR, ECR, CAL or SYNC, by its body.
     Fast {
@@ -123,7 +125,7 @@ impl Recogniser {
                 *self = Recogniser::Hunting { window };
                 Step::NOTHING
             }
-            Meaning::Lv1 { flip } => self.end(Command::Lv1 { flip }),
+            Meaning::Lv1 { position } => self.end(Command::Lv1 { position }),
             Meaning::Header => {
                 *self = Recogniser::Body {
                     held: 0,

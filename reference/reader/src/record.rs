@@ -68,7 +68,11 @@ impl Record {
 /// the store as they are ahead of its effects.
 pub fn record_of(command: Command, time: u64, state: &State, store: &[u32]) -> Record {
     let (kind, flags, value) = match command {
-        Command::Lv1 { flip } => (kind::LV1, lv1_flags(flip, state), lv1_value(time, state)),
+        Command::Lv1 { position } => (
+            kind::LV1,
+            lv1_flags(position, state),
+            lv1_value(position, time, state),
+        ),
         Command::Fast { body } => (kind::FAST + body, acted_on(state.run_mode), 0),
         Command::BadFast { body } => (kind::BAD_FAST, 0, u32::from(body)),
         Command::Slow {
@@ -99,9 +103,9 @@ fn acted_on(yes: bool) -> u8 {
     }
 }
 
-fn lv1_flags(flip: bool, state: &State) -> u8 {
+fn lv1_flags(position: u8, state: &State) -> u8 {
     let mut flags = acted_on(state.run_mode);
-    if flip {
+    if position != 0 {
         flags |= flag::FLIP;
     }
     if state.run_mode && state.csr() & PLAYBACK == 0 {
@@ -110,12 +114,15 @@ fn lv1_flags(flip: bool, state: &State) -> u8 {
     flags
 }
 
-fn lv1_value(time: u64, state: &State) -> u32 {
+/// The position is told in and out of RunMode (document 02, F-1), the
+/// counters only when the LV1 is acted on.
+fn lv1_value(position: u8, time: u64, state: &State) -> u32 {
+    let position = u32::from(position) << 16;
     if !state.run_mode {
-        return 0;
+        return position;
     }
     let bunch = time.wrapping_sub(state.base_cycle) as u8;
-    state.l1id << 8 | u32::from(bunch)
+    position | state.l1id << 8 | u32::from(bunch)
 }
 
 fn slow_flags(field3: u8, field4: u8, unsteady: bool, state: &State) -> u8 {

@@ -1,10 +1,18 @@
 //! What the five-bit window means ("Hunting").
 
+/// The window of an exact LV1, and that of a header.
+const LV1: u8 = 0b11101;
+const HEADER: u8 = 0b10110;
+
 /// What is recognised when the window, after a new bit, has some contents.
 #[derive(Clone, Copy, Debug, PartialEq, Eq)]
 pub enum Meaning {
     Nothing,
-    Lv1 { flip: bool },
+    /// The position of the bit that was hit: 1 for the first received to 5,
+    /// and 0 if the LV1 is exact (document 02, F-1).
+    Lv1 {
+        position: u8,
+    },
     Header,
 }
 
@@ -12,11 +20,27 @@ pub enum Meaning {
 /// means nothing.
 #[inline]
 pub fn meaning(window: u8) -> Meaning {
-    match window {
-        0b11101 => Meaning::Lv1 { flip: false },
-        0b11100 | 0b11111 | 0b11001 | 0b10101 | 0b01101 => Meaning::Lv1 { flip: true },
-        0b10110 => Meaning::Header,
-        _ => Meaning::Nothing,
+    if window == HEADER {
+        return Meaning::Header;
+    }
+    match position(window) {
+        Some(position) => Meaning::Lv1 { position },
+        None => Meaning::Nothing,
+    }
+}
+
+/// An LV1's bits differ from the exact one's nowhere, or at one position. New
+/// bits come at the low end, so that the first received is the highest.
+#[inline]
+fn position(window: u8) -> Option<u8> {
+    match window ^ LV1 {
+        0b00000 => Some(0),
+        0b10000 => Some(1),
+        0b01000 => Some(2),
+        0b00100 => Some(3),
+        0b00010 => Some(4),
+        0b00001 => Some(5),
+        _ => None,
     }
 }
 

@@ -3,6 +3,7 @@
 
 mod common;
 
+use cases::code::{FLIPPED_LV1, LV1_TAIL};
 use cases::generate;
 use cases::Random;
 use cases::Stream;
@@ -211,6 +212,39 @@ fn one_cut_at_every_place() {
                 parts.extend(reader.read_part(&bytes, cut, count - cut, room));
                 assert_eq!((&parts, &reader), (&records, &whole), "cut at {cut}");
             }
+        }
+    }
+}
+
+/// An LV1 with each of its bits hit, and the last four bits of one straight
+/// after it.
+fn flips(stream: Stream) -> Stream {
+    FLIPPED_LV1.into_iter().fold(stream, |stream, bits| {
+        stream.pattern(bits).pattern(LV1_TAIL)
+    })
+}
+
+/// Document 02, F-1: the position is that of the whole window, in whichever
+/// calls its bits came. Two cuts part the bits of one LV1 into three calls.
+#[test]
+fn flips_cut_at_every_two_places() {
+    let stream = flips(flips(Stream::new()).en_data_take());
+    let bytes = stream.bytes();
+    let count = stream.bits.len() as u64;
+    let mut whole = Reader::opened();
+    let records = whole.read(&stream);
+    let positions = records.iter().filter(|record| record.kind == 0x01);
+    let positions = positions.map(|record| record.value / 65_536);
+    assert!(positions.eq([[1, 1, 2, 1, 3, 1, 4, 1, 5, 1]; 2].concat()));
+    for first in 0..=count {
+        for second in first..=count {
+            let mut reader = Reader::opened();
+            let mut parts = Vec::new();
+            for (from, to) in [(0, first), (first, second), (second, count)] {
+                parts.extend(reader.read_part(&bytes, from, to - from, 2));
+            }
+            let cut = (&parts, &reader);
+            assert_eq!(cut, (&records, &whole), "cut at {first} and {second}");
         }
     }
 }

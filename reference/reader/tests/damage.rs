@@ -66,27 +66,60 @@ fn zeros_between(first: Command, second: Command) -> usize {
 #[derive(Clone, Copy)]
 enum Replacement {
     Nothing,
-    Flip(usize),
+    /// With the position that an LV1 with flip tells (document 02, F-1).
+    Flip(usize, u32),
     Exact(usize),
     BadFast(usize),
 }
 use Replacement::*;
 
+impl Replacement {
+    /// The record of the affected command, if it has one, by the counters
+    /// ahead of it. `at` gives the cycle of one of its bits.
+    fn record(
+        self,
+        clean: &Clean,
+        place: usize,
+        inverted: usize,
+        at: impl Fn(usize) -> u64,
+        ahead: &Counters,
+    ) -> Option<Record> {
+        match self {
+            Nothing => None,
+            Flip(bit, position) => Some(ahead.lv1(at(bit), position)),
+            Exact(bit) => Some(ahead.lv1(at(bit), 0)),
+            BadFast(bit) => {
+                let (command, first) = clean.commands[place];
+                let (pattern, bits) = command.pattern();
+                let body = pattern ^ 1 << (bits - 1 - (inverted - first));
+                Some(rec(at(bit), 0x1F, 0, body as u32 & 15))
+            }
+        }
+    }
+}
+
 /// The damage table: the command hit, which of its bits, and the replacement.
-const DAMAGE: [(&[Command], RangeInclusive<usize>, Replacement); 11] = [
-    (&[Lv1], 1..=5, Flip(5)),
+const DAMAGE: [(&[Command], RangeInclusive<usize>, Replacement); 15] = [
+    (&[Lv1], 1..=1, Flip(5, 1)),
+    (&[Lv1], 2..=2, Flip(5, 2)),
+    (&[Lv1], 3..=3, Flip(5, 3)),
+    (&[Lv1], 4..=4, Flip(5, 4)),
+    (&[Lv1], 5..=5, Flip(5, 5)),
     (FASTS, 6..=9, BadFast(9)),
-    (&[Cal], 1..=1, Flip(7)),
-    (&[Sync], 1..=1, Flip(6)),
+    (&[Cal], 1..=1, Flip(7, 3)),
+    (&[Sync], 1..=1, Flip(6, 1)),
     (&[Bcr, Ecr], 1..=1, Nothing),
-    (&[Bcr, Ecr, Cal], 2..=2, Flip(6)),
+    (&[Bcr, Ecr, Cal], 2..=2, Flip(6, 5)),
     (&[Sync], 2..=2, Exact(6)),
     (FASTS, 3..=4, Nothing),
-    (&[Bcr, Ecr], 5..=5, Flip(7)),
+    (&[Bcr, Ecr], 5..=5, Flip(7, 5)),
     (&[Cal], 5..=5, Exact(7)),
-    (&[Sync], 5..=5, Flip(8)),
+    (&[Sync], 5..=5, Flip(8, 5)),
 ];
-const ZERO_AHEAD: Replacement = Flip(3);
+
+/// The table's last row: the cycles by which the zero is ahead of a Fast. It
+/// has one row but two positions.
+const ZEROS_AHEAD: [(usize, Replacement); 2] = [(1, Flip(3, 1)), (2, Flip(3, 2))];
 
 fn damage(command: Command, bit: usize) -> Replacement {
     let mut rows = DAMAGE
@@ -148,12 +181,13 @@ impl Clean {
                 return Some((place, damage(command, inverted - start + 1)));
             }
         }
-        self.commands
-            .iter()
-            .position(|&(command, start)| {
-                command != Lv1 && (inverted + 1 == start || inverted + 2 == start)
-            })
-            .map(|place| (place, ZERO_AHEAD))
+        for (cycles, replacement) in ZEROS_AHEAD {
+            let ahead = |&(command, start)| command != Lv1 && inverted + cycles == start;
+            if let Some(place) = self.commands.iter().position(ahead) {
+                return Some((place, replacement));
+            }
+        }
+        None
     }
 }
 
@@ -170,18 +204,20 @@ struct Counters {
 }
 
 impl Counters {
-    fn lv1(&self, time: u64, flip: bool) -> Record {
-        let flip = if flip { 0x02 } else { 0 };
+    /// Position 0 stands for an exact LV1.
+    fn lv1(&self, time: u64, position: u32) -> Record {
+        let flip = if position != 0 { 0x02 } else { 0 };
+        let hit = position * 65_536;
         if !self.run_mode {
-            return rec(time, 0x01, flip, 0);
+            return rec(time, 0x01, flip, hit);
         }
         let bunch = ((time - self.base) % 256) as u32;
-        rec(time, 0x01, 0x05 | flip, self.l1id * 256 + bunch)
+        rec(time, 0x01, 0x05 | flip, hit + self.l1id * 256 + bunch)
     }
 
     fn record(&self, command: Command, time: u64) -> Record {
         match command {
-            Lv1 => self.lv1(time, false),
+            Lv1 => self.lv1(time, 0),
             fast => rec(time, fast.kind(), u8::from(self.run_mode), 0),
         }
     }
@@ -297,48 +333,46 @@ fn is_as_the_table_says(
     // A stronger claim besides: the numbers are those that the damaged run's
     // own records count.
     let mut counters = ahead[0];
-    for (place, (&(command, first), &record)) in clean.commands.iter().zip(expected).enumerate() {
-        let at = |bit: usize| start + (first + bit - 1) as u64;
-        let record = match affected {
-            Some((hit, replacement)) if hit == place => {
-                (l1id_free, bunch_free) = (true, true);
-                let record = match replacement {
-                    Nothing => continue,
-                    Flip(bit) => ahead[place].lv1(at(bit), true),
-                    Exact(bit) => ahead[place].lv1(at(bit), false),
-                    BadFast(bit) => {
-                        let (pattern, bits) = command.pattern();
-                        let body = pattern ^ 1 << (bits - 1 - (inverted - first));
-                        rec(at(bit), 0x1F, 0, body as u32 & 15)
-                    }
-                };
-                counters.count(&record);
-                if damaged.next() != Some(record) {
-                    return false;
-                }
+    for (place, (&(command, first), record)) in clean.commands.iter().zip(expected).enumerate() {
+        if let Some((_, replacement)) = affected.filter(|&(hit, _)| hit == place) {
+            (l1id_free, bunch_free) = (true, true);
+            let at = |bit: usize| start + (first + bit - 1) as u64;
+            let Some(instead) = replacement.record(clean, place, inverted, at, &ahead[place])
+            else {
                 continue;
+            };
+            counters.count(&instead);
+            if damaged.next() != Some(instead) {
+                return false;
             }
-            _ => record,
-        };
+            continue;
+        }
         l1id_free &= command != Ecr;
         bunch_free &= command != Bcr;
         let Some(other) = damaged.next() else {
             return false;
         };
-        let may_differ = if command == Lv1 {
-            (u32::from(l1id_free) * 0xFF00) | (u32::from(bunch_free) * 0x00FF)
-        } else {
-            0
-        };
-        let same = (other.time, other.kind, other.flags)
-            == (record.time, record.kind, record.flags)
-            && (other.value ^ record.value) & !may_differ == 0;
+        let same = agree(&other, record, l1id_free, bunch_free);
         if !same || other != counters.record(command, other.time) {
             return false;
         }
         counters.count(&other);
     }
     damaged.next().is_none()
+}
+
+/// Whether the records of an unaffected command agree, but for the counters
+/// that may differ. An LV1's position is none of them: value / 65,536 always
+/// agrees (document 02, F-1).
+fn agree(damaged: &Record, clean: &Record, l1id_free: bool, bunch_free: bool) -> bool {
+    let may_differ = if clean.kind == 0x01 {
+        (u32::from(l1id_free) * 0xFF00) | (u32::from(bunch_free) * 0x00FF)
+    } else {
+        0
+    };
+    (damaged.time, damaged.kind, damaged.flags) == (clean.time, clean.kind, clean.flags)
+        && damaged.value / 65_536 == clean.value / 65_536
+        && (damaged.value ^ clean.value) & !may_differ == 0
 }
 
 /// Checks every series of `count` commands with the gaps `more` than the

@@ -11,7 +11,9 @@ use reader::{open, station, Ending, Plan, Record};
 #[derive(Clone, Copy)]
 enum Expected {
     Exact(u64),
-    Flip(u64),
+    /// The position of the bit that was hit (document 02, F-1), then the
+    /// cycle.
+    Flip(u32, u64),
     Bcr(u64),
     BadFast(u32, u64),
     BadSlow(u32, u64),
@@ -23,32 +25,32 @@ use Expected::*;
 /// Bits and records, from cycle 0, RunMode, window 00000 (and CNT 0).
 const MARKED: [(&str, &[Expected]); 14] = [
     ("11101", &[Exact(4)]),
-    ("11100", &[Flip(4)]),
+    ("11100", &[Flip(5, 4)]),
     ("000111101", &[Exact(8)]),
     ("11110", &[]),
     ("1110111101", &[Exact(4), Exact(9)]),
-    ("111011101", &[Exact(4), Flip(8)]),
+    ("111011101", &[Exact(4), Flip(1, 8)]),
     ("101100001", &[Bcr(8)]),
     ("101101001", &[BadFast(9, 8)]),
     ("101110100", &[Exact(6)]),
     ("111101000", &[Exact(5)]),
-    ("001100100", &[Flip(6)]),
-    ("0010101101011", &[Flip(6), Flip(11)]),
+    ("001100100", &[Flip(3, 6)]),
+    ("0010101101011", &[Flip(2, 6), Flip(2, 11)]),
     ("10110101110110000", &[BadSlow(11, 16)]),
     ("10110101101000000", &[EmptyFrame(16)]),
 ];
 
 fn records_of(row: &[Expected]) -> Vec<Record> {
     let mut l1id = 0;
-    let mut lv1 = |time: u64, flags| {
-        let value = l1id * 256 + time as u32;
+    let mut lv1 = |time: u64, flags, position| {
+        let value = position * 65_536 + l1id * 256 + time as u32;
         l1id += 1;
         rec(time, 0x01, flags, value)
     };
     row.iter()
         .map(|&expected| match expected {
-            Exact(time) => lv1(time, 0x05),
-            Flip(time) => lv1(time, 0x07),
+            Exact(time) => lv1(time, 0x05, 0),
+            Flip(position, time) => lv1(time, 0x07, position),
             Bcr(time) => rec(time, 0x11, 0x01, 0),
             BadFast(body, time) => rec(time, 0x1F, 0, body),
             BadSlow(field3, time) => rec(time, 0x2F, 0, field3),
@@ -63,6 +65,23 @@ fn marked_streams_in_one_call() {
         assert_eq!(
             Reader::running().read(&stream(bits)),
             records_of(row),
+            "{bits}"
+        );
+    }
+}
+
+/// The values that document 02, F-1, changes, digit by digit.
+#[test]
+fn marked_streams_with_a_position() {
+    for (bits, values) in [
+        ("11100", &[0x0005_0004][..]),
+        ("111011101", &[0x0000_0004, 0x0001_0108]),
+        ("001100100", &[0x0003_0006]),
+        ("0010101101011", &[0x0002_0006, 0x0002_010B]),
+    ] {
+        let records = Reader::running().read(&stream(bits));
+        assert!(
+            records.iter().map(|record| &record.value).eq(values),
             "{bits}"
         );
     }
@@ -134,7 +153,7 @@ fn the_listing() {
     let expected = "\
         000000000010 28 01 00000000\n\
         000000000015 01 05 00000015\n\
-        00000000001C 01 07 0000011C\n\
+        00000000001C 01 07 0005011C\n\
         000000000028 11 01 00000000\n";
     assert_eq!(String::from_utf8(out).unwrap(), expected);
 }

@@ -4,7 +4,7 @@ mod common;
 
 use cases::Stream;
 use cases::RECEIVED;
-use common::{rec, stream, Reader};
+use common::{position, rec, stream, Reader};
 use reader::{Recogniser, Record};
 
 /// Table 1-1: name, Field 1, Field 2, kind of the record.
@@ -303,13 +303,17 @@ const TABLE_1_9: [Row; 14] = [
 fn expected(pattern: &[bool], recognised: &[(&str, u64)], run_mode: bool) -> Vec<Record> {
     let mut l1id = 0;
     let mut lv1 = |time: u64, flip: u8| {
-        let value = if run_mode {
+        // Its five bits are its own: no command ends within them.
+        let position = position(&pattern[time as usize - 4..=time as usize]).expect("an LV1");
+        assert_eq!(position != 0, flip != 0, "the paper's word for it");
+        let counters = if run_mode {
             l1id * 256 + time as u32
         } else {
             0
         };
         l1id += 1;
-        rec(time, 0x01, flip | if run_mode { 0x05 } else { 0 }, value)
+        let flags = flip | if run_mode { 0x05 } else { 0 };
+        rec(time, 0x01, flags, position * 65_536 + counters)
     };
     let mut records = Vec::new();
     for &(name, time) in recognised {
@@ -378,6 +382,12 @@ fn table_1_9_bad_fast_row_goes_on() {
     assert_eq!(kind("0 0011"), (17, 0x1F));
     assert_eq!(kind("1 01"), (15, 0x01));
     assert_eq!(kind("1 00"), (15, 0x01));
-    assert_eq!(first("1 01").flags, 0x05);
-    assert_eq!(first("1 00").flags, 0x07);
+    assert_eq!(
+        (first("1 01").flags, first("1 01").value),
+        (0x05, 0x0000_000F)
+    );
+    assert_eq!(
+        (first("1 00").flags, first("1 00").value),
+        (0x07, 0x0005_000F)
+    );
 }

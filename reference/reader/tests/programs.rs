@@ -63,7 +63,7 @@ fn run_model(input: &[u8]) -> String {
 const LISTING: &str = "\
     000000000010 28 01 00000000\n\
     000000000015 01 05 00000015\n\
-    00000000001C 01 07 0000011C\n\
+    00000000001C 01 07 0005011C\n\
     000000000028 11 01 00000000\n";
 
 /// What the listing's first input line prints.

@@ -3,6 +3,7 @@
 mod capture;
 mod commands;
 mod controller;
+mod flips;
 mod frames;
 mod lines;
 mod paper;
@@ -17,6 +18,7 @@ pub fn fixed() -> Vec<Case> {
     cases.extend(lines::cases());
     cases.extend(frames::cases());
     cases.extend(commands::cases());
+    cases.extend(flips::cases());
     cases.extend(controller::cases());
     cases.extend(capture::cases());
     cases

@@ -11,6 +11,7 @@ pub mod difference;
 pub mod edges;
 pub mod expected;
 pub mod fit;
+pub mod flips;
 pub mod frames;
 pub mod image;
 pub mod large;
@@ -40,6 +41,7 @@ pub fn compare(driver: &Path, tally: &mut Tally) -> io::Result<()> {
         soundness::check(checker)?;
         malformed::check(checker)?;
         precedence::check(checker)?;
+        flips::check(checker)?;
         streams::check(checker)?;
         large::check(checker)
     })

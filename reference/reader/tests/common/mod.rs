@@ -121,6 +121,20 @@ pub fn stream(pattern: &str) -> Stream {
     Stream::new().pattern(pattern)
 }
 
+/// Which of five received bits is not an exact LV1's, from 1 on, or 0 if none
+/// is (document 02, F-1). There is no answer for two or more of them.
+pub fn position(received: &[bool]) -> Option<u32> {
+    let exact = Stream::new().lv1().bits;
+    assert_eq!(received.len(), exact.len());
+    let differ = |place: &u32| received[*place as usize - 1] != exact[*place as usize - 1];
+    let hit: Vec<u32> = (1..=5).filter(differ).collect();
+    match hit[..] {
+        [] => Some(0),
+        [position] => Some(position),
+        _ => None,
+    }
+}
+
 /// The records of a stream read from cycle 0 with RunMode on.
 pub fn running_records(stream: &Stream) -> Vec<Record> {
     Reader::running().read(stream)
