@@ -41,11 +41,15 @@ damaged-cases P i is t k here later =
     cond-case P (ltb k (itemSize i)) {x = damagedItem i k ++ cleanTrace is t} {y = itemTrace i ++ damagedTrace is t (k - itemSize i)}
     (λ b. here (ltb→lt k (itemSize i) b)) (λ b. later (nltb→le k (itemSize i) b))
 
--- A test that passes for each command itself, for each of its bits inverted, and for the zeros less than three cycles ahead of it.
+-- The zeros ahead of a command that may hit it lie less than this far ahead.
+abbrev reach : ℕ
+reach = 3
+
+-- A test that passes for each command itself, for each of its bits inverted, and for the zeros within reach.
 pub record Passes (test : Command → Replacement → Bool) : Type 0 where
   pub own : each (λ c. test c (itself c)) ≡ each (λ c. true)
   pub hit : each (λ c. below (widthOf c) (λ k. test c (damage c (bit (suc k))))) ≡ each (λ c. below (widthOf c) (λ k. true))
-  pub near : each (λ c. below 3 (λ d. test c (damage c (ahead d)))) ≡ each (λ c. below 3 (λ d. true))
+  pub near : each (λ c. below reach (λ d. test c (damage c (ahead d)))) ≡ each (λ c. below reach (λ d. true))
 
 -- It passes for what stands in any command's place.
 module _ (test : Command → Replacement → Bool) (passes : Passes test) where
@@ -58,16 +62,16 @@ module _ (test : Command → Replacement → Bool) (passes : Passes test) where
       (below-at (widthOf c) (λ k. test c (damage c (bit (suc k)))) (λ k. true)
       (each-at (λ c. below (widthOf c) (λ k. test c (damage c (bit (suc k))))) (λ c. below (widthOf c) (λ k. true)) (passes .hit) c) k h)
 
-  near-passes : (c : Command) (distance : ℕ) → distance < 3 → T (test c (damage c (ahead distance)))
+  near-passes : (c : Command) (distance : ℕ) → distance < reach → T (test c (damage c (ahead distance)))
   near-passes c distance h =
       true-holds _
-      (below-at 3 (λ d. test c (damage c (ahead d))) (λ d. true)
-      (each-at (λ c. below 3 (λ d. test c (damage c (ahead d)))) (λ c. below 3 (λ d. true)) (passes .near) c) distance h)
+      (below-at reach (λ d. test c (damage c (ahead d))) (λ d. true)
+      (each-at (λ c. below reach (λ d. test c (damage c (ahead d)))) (λ c. below reach (λ d. true)) (passes .near) c) distance h)
 
   ahead-passes : (c : Command) (distance : ℕ) → T (test c (zeroDamage c distance))
   ahead-passes c distance =
       cond-case (λ x. T (test c x)) (hitsFast c distance) {x = damage c (ahead distance)} {y = itself c}
-      (λ t. let h = leb→le distance 2 (and-right (isFastCommand c) _ t) in near-passes c distance (omega arith))
+      (λ t. let h = leb→le distance _ (and-right (isFastCommand c) _ t) in near-passes c distance (omega arith))
       (λ _. own-passes c)
 
   pub replacement-passes : (i : Item) (k : ℕ) → k < itemSize i → T (test (i .command) (replacementOf i k))

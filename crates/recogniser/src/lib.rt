@@ -272,10 +272,7 @@ impl Transition {
         let m = classify(window);
         match m {
             Meaning::Quiet => Transition::hunting(window, Request::Nothing),
-            Meaning::Trigger { position } => Transition::hunting(
-                0,
-                Request::Lv1 { position: position },
-            ),
+            Meaning::Trigger { position } => Transition::hunting(0, Request::Lv1 { position }),
             Meaning::Header => Transition {
                 next: Recogniser::start(Phase::Body, 0, 0, 0),
                 event: Event::NOTHING,
