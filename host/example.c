@@ -15,7 +15,7 @@
  *   cycles  33 to  65  WrReceiver with the frame A5C3
  *   cycles  66 to  82  EnDataTake: RunMode starts
  *   cycles  87 to  91  LV1
- *   cycles  95 to  99  LV1 with flip: 11001 instead of 11101
+ *   cycles  95 to  99  LV1 with flip: 11001 instead of 11101, position 3
  *   cycles 102 to 110  BCR: bunch numbers count from here
  *   cycles 113 to 121  CAL
  *   cycles 122 to 154  RdRegister of CSR: 0100, the warning of the flip

@@ -77,7 +77,7 @@ extern "C" {
  * The kinds of a record, with what its value holds. Field 3 of a Slow command
  * that is not bad is its kind less 0x20.
  */
-#define KERNELSTILL_KIND_LV1 0x01              /* if acted on, L1ID x 256 + bunch number; else 0 */
+#define KERNELSTILL_KIND_LV1 0x01              /* position x 65536, and if acted on + L1ID x 256 + bunch number */
 #define KERNELSTILL_KIND_BCR 0x11              /* 0 */
 #define KERNELSTILL_KIND_ECR 0x12              /* 0 */
 #define KERNELSTILL_KIND_CAL 0x14              /* 0 */
@@ -95,9 +95,14 @@ extern "C" {
 #define KERNELSTILL_KIND_GLOBAL_RESET_FE 0x2A  /* SyncW x 2 + 1 */
 #define KERNELSTILL_KIND_BAD_SLOW 0x2F         /* its Field 3 */
 
+/* The parts of an LV1's value; the last two are 0 where it is not acted on. */
+#define KERNELSTILL_LV1_POSITION(value) ((value) >> 16)   /* which of its five received bits was hit, from 1; 0 if none */
+#define KERNELSTILL_LV1_L1ID(value) ((value) >> 8 & 0xFF) /* the trigger number */
+#define KERNELSTILL_LV1_BUNCH(value) ((value) & 0xFF)     /* the bunch number */
+
 /* The flags of a record, added up. */
 #define KERNELSTILL_FLAG_ACTED 0x01    /* acted on */
-#define KERNELSTILL_FLAG_FLIP 0x02     /* an LV1 with flip */
+#define KERNELSTILL_FLAG_FLIP 0x02     /* an LV1 with flip: its position is not 0 */
 #define KERNELSTILL_FLAG_SENT 0x04     /* sent to the front ends */
 #define KERNELSTILL_FLAG_MISSING 0x08  /* a missing register */
 #define KERNELSTILL_FLAG_UNSTEADY 0x10 /* a front-end group was unsteady */

@@ -12,7 +12,7 @@ the same. Here the first call ends inside the second trigger:
 ...     print(record, record.name)
 000000000010 28 01 00000000 EnDataTake
 000000000015 01 05 00000015 LV1
-00000000001C 01 07 0000011C LV1
+00000000001C 01 07 0005011C LV1
 000000000028 11 01 00000000 BCR
 
 What the commands leave behind:
@@ -257,7 +257,8 @@ class Record(NamedTuple):
 
     Its value, as kernelstill.h says it for each KERNELSTILL_KIND:
 
-    LV1                     L1ID x 256 + bunch number if acted on, else 0
+    LV1                     position x 65536, and if acted on
+                            + L1ID x 256 + bunch number
     bad Fast                its last four bits
     WrRegister              address x 65536 + the bits that arrived
     RdRegister              address x 65536 + the bits read
@@ -292,6 +293,26 @@ class Record(NamedTuple):
     def flip(self) -> bool:
         """An LV1 with one bit inverted."""
         return bool(self.flags & 0x02)
+
+    @property
+    def position(self) -> int:
+        """Which of an LV1's five received bits was hit, from 1 for the first
+        received; 0 if none was, and where the record is of no LV1."""
+        return self.value >> 16 if self.kind == 0x01 else 0
+
+    @property
+    def l1id(self) -> Optional[int]:
+        """The trigger number of an LV1 that was acted on; of no other record."""
+        return self.value >> 8 & 0xFF if self._trigger else None
+
+    @property
+    def bunch(self) -> Optional[int]:
+        """The bunch number of an LV1 that was acted on; of no other record."""
+        return self.value & 0xFF if self._trigger else None
+
+    @property
+    def _trigger(self) -> bool:
+        return self.kind == 0x01 and self.acted_on
 
     @property
     def sent(self) -> bool:

@@ -106,6 +106,15 @@ class Header(unittest.TestCase):
             given = [p for p in properties.values() if getattr(record, p)]
             self.assertEqual(given, [properties[name]])
 
+    def test_lv1_parts(self):
+        """The header's macros, which read in Python as in C."""
+        text = (ROOT / "include/kernelstill.h").read_text()
+        macros = re.findall(r"^#define KERNELSTILL_LV1_(\w+)\(value\) (\S.*?) +/\*", text, re.MULTILINE)
+        self.assertEqual([name for name, _ in macros], ["POSITION", "L1ID", "BUNCH"])
+        record = Record(0, 0x01, 0x07, 0x000512FE)
+        parts = [eval(macro, {"value": record.value}) for _, macro in macros]
+        self.assertEqual(parts, [record.position, record.l1id, record.bunch])
+
     def test_refusals(self):
         names = {"UNSOUND", "CLOCK_OVER"} | {n for n in self.header if n.startswith("WRONG_")}
         self.assertEqual(sorted(self.header[name] for name in names), list(kernelstill.REFUSALS))
@@ -178,6 +187,24 @@ class Cuts(unittest.TestCase):
         records = Decoder().take(*at_bit_0(slow(8, 0), "11101" * 8000))
         self.assertEqual([r.time for r in records], [16] + [21 + 5 * n for n in range(8000)])
         self.assertTrue(all(r.acted_on and r.sent and not r.flip for r in records[1:]))
+
+    def test_positions(self):
+        # By position: the exact LV1, and each of its bits hit.
+        received = ["11101", "01101", "10101", "11001", "11111", "11100"]
+        for position, bits in enumerate(received):
+            *_, record = Decoder().take(*at_bit_0(slow(8, 0), "11101", "0000", bits))
+            self.assertEqual((record.position, record.flip), (position, position != 0))
+            self.assertEqual((record.l1id, record.bunch), (1, 30))
+            # Out of RunMode it is told as well; the numbers are not.
+            (record,) = Decoder().take(*at_bit_0("0000", bits))
+            self.assertEqual((record.position, record.flip), (position, position != 0))
+            self.assertEqual((record.l1id, record.bunch), (None, None))
+        # Straight after a command the first bit is the cleared window's.
+        *_, record = Decoder().take(*at_bit_0(slow(8, 0), "1101"))
+        self.assertEqual((record.position, record.bunch), (1, 20))
+        # Other records have neither, whatever their value.
+        record = Record(0, 0x20, 0x01, 0x00051234)
+        self.assertEqual((record.position, record.l1id, record.bunch), (0, None, None))
 
     def test_file(self):
         self.assertEqual(listing(Decoder().read(io.BytesIO(CAPTURE))), LISTING)
