@@ -27,16 +27,21 @@ pub fn take(input: &[u8], list: &mut [u64]) -> usize {
         let (kind, flags, value) = match body {
             None => {
                 window = (window << 1 | bit) & 31;
-                let flags = match window {
-                    0b11101 => 5,
-                    0b11100 | 0b11111 | 0b11001 | 0b10101 | 0b01101 => 7,
+                let position = match window {
+                    0b11101 => 0,
+                    0b01101 => 1,
+                    0b10101 => 2,
+                    0b11001 => 3,
+                    0b11111 => 4,
+                    0b11100 => 5,
                     0b10110 => {
                         body = Some((0, 0));
                         continue;
                     }
                     _ => continue,
                 };
-                let value = l1id * 256 + (time - base) % 256;
+                let flags = if position == 0 { 5 } else { 7 };
+                let value = position * 65536 + l1id * 256 + (time - base) % 256;
                 l1id = (l1id + 1) % 256;
                 (1, flags, value)
             }

@@ -35,7 +35,8 @@ recorded m r = acted m (Recorded r)
 abbrev pub bunchOf : Counters → ℕ → ℕ
 bunchOf c time = (time - c .base) % 256
 
--- "LV1, in RunMode: reports L1ID and the bunch number, then adds 1 to L1ID, modulo 256." Each has eight bits of the value.
+-- "LV1, in RunMode: reports L1ID and the bunch number, then adds 1 to L1ID, modulo 256." L1ID has eight bits, so that "modulo 256" changes none here; it
+-- leaves the digits above to the position, whatever a state holds.
 abbrev pub lv1Value : Counters → ℕ → ℕ
 lv1Value c time = c .l1id % 256 * 256 + bunchOf c time
 

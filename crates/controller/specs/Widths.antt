@@ -19,7 +19,7 @@ pub record WidthsFit (registers : List ℕ) (c : Counters) : Type 0 where
 abbrev pub ModelFits : Model → Type 0
 ModelFits m = WidthsFit (m .registers) (m .counters)
 
--- A body, Field 3 and Field 4 have four bits each; an LV1 has five, of which one may be hit.
+-- A body, Field 3 and Field 4 have four bits each. An LV1's position is at most 5.
 abbrev pub SlowNarrow : SlowRequest → Type 0
 SlowNarrow LeaveRunMode = Unit {0}
 SlowNarrow (Command command address value) = address < 2 ^ 4

@@ -160,22 +160,22 @@ fn lv1(model: Model, plan: Plan, position: u8, time: u64) -> Acted
     ensures { λ r. ⌜ r ≡ lv1Of plan model position time ⌝ }
 {
     let flip = 0 < position;
-    let hit = position as u64 * 65536;
+    let high = position as u64 * 65536;
     let mut m = model;
     let mut warnings = model.warnings;
     warnings.wlv1 = warnings.wlv1 | flip;
     m.warnings = warnings;
     let flipped = registers::flag(flip, FLAG_FLIP);
     if !model.running {
-        return answer(m, time, KIND_LV1, flipped, hit);
+        return answer(m, time, KIND_LV1, flipped, high);
     }
     let csr = model.register(plan.csr);
     let sent = registers::flag(csr / 64 % 2 == 0, FLAG_SENT);
     let mut counters = model.counters;
-    let value = counters.l1id as u64 * 256 + bunch(counters, time);
+    let low = counters.l1id as u64 * 256 + bunch(counters, time);
     counters.l1id = ((counters.l1id as u16 + 1) % 256) as u8;
     m.counters = counters;
-    answer(m, time, KIND_LV1, FLAG_ACTED + flipped + sent, hit + value)
+    answer(m, time, KIND_LV1, FLAG_ACTED + flipped + sent, high + low)
 }
 
 fn fast(model: Model, body: u8, time: u64) -> Acted

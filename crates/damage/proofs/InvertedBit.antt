@@ -18,7 +18,7 @@ use Rattle.recogniser.specs.Parts.{idle, startOf}
 use Rattle.recogniser.specs.Step.{stepOf}
 use Rattle.damage.specs.Commands.{Command, lv1, bcr, ecr, cal, sync, codeOf, widthOf, isFastCommand}
 use Rattle.damage.specs.CleanStreams.{Item, zeros, zerosBetween, itemBits, itemSize, streamBits, spaced, timed, inverted}
-use Rattle.damage.specs.Table.{bit, ahead, damage, itself}
+use Rattle.damage.specs.Table.{ownBit, zeroAhead, damage, itself}
 use Rattle.damage.specs.Traces.{requestsOf, recogniserAfter, quiet, spread, cleanTrace, damagedItem, damagedTrace}
 use Rattle.damage.proofs.FiniteFacts.{below, below-at, each-at}
 use Rattle.damage.proofs.TracesJoined.{Shows, chain, onward}
@@ -61,7 +61,7 @@ abbrev hit : Command → ℕ → List ℕ
 hit c k = inverted k (codeOf c)
 
 abbrev hitTrace : Command → ℕ → List Request
-hitTrace c k = spread (widthOf c) (damage c (bit (suc k)))
+hitTrace c k = spread (widthOf c) (damage c (ownBit (suc k)))
 
 hit-shows : (c : Command) → below (widthOf c) (λ k. requestsOf idle (hit c k)) ≡ below (widthOf c) (hitTrace c)
 unfolding stepOf requestsOf recogniserAfter
@@ -108,9 +108,9 @@ one-settles = record { few = refl; emptied = refl }
 -- three zeros or more ahead hit no Fast
 far : (c : Command) (z : ℕ) → 2 ≤ z → zeroDamage c (suc z) ≡ itself c
 far c z h =
-    let near = damage c (ahead (suc z)) in
-    ap (λ b. cond (isFastCommand c && b) near (itself c)) (lt-leb (suc z) 2 (omega arith))
-    ∙ ap (λ b. cond b near (itself c)) (and-false (isFastCommand c))
+    let damaged = damage c (zeroAhead (suc z)) in
+    ap (λ b. cond (isFastCommand c && b) damaged (itself c)) (lt-leb (suc z) 2 (omega arith))
+    ∙ ap (λ b. cond b damaged (itself c)) (and-false (isFastCommand c))
 
 pub behind-one : (c : Command) (z : ℕ) → Safely c one (near c z) (nearTrace c z)
 behind-one c z =

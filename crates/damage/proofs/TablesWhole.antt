@@ -5,7 +5,7 @@ use mathlib.Core.List.{[], _∷_, map}
 use Prim.Native.Nat.{suc}
 use Rattle.damage.specs.Commands.{Command, fasts, widthOf}
 use Rattle.damage.specs.CleanStreams.{zerosBetween, table13, distances}
-use Rattle.damage.specs.Table.{bit, ahead, table, rowsFor}
+use Rattle.damage.specs.Table.{ownBit, zeroAhead, table, rowsFor}
 use Rattle.damage.proofs.FiniteFacts.{below, each, each-at}
 
 -- document 01's sentence and the chip paper's Table 1-3 say the same of all 25 pairs
@@ -15,8 +15,8 @@ timing c =
     (each-at (λ c. each (λ d. distances table13 c d)) (λ c. each (λ d. zerosBetween c d ∷ [])) refl c)
 
 -- every bit of every command has one row of the damage table, and so has each of the two zeros ahead of a Fast
-pub rows : (c : Command) → below (widthOf c) (λ k. rowsFor table c (bit (suc k))) ≡ below (widthOf c) (λ k. 1)
-rows = each-at (λ c. below (widthOf c) (λ k. rowsFor table c (bit (suc k)))) (λ c. below (widthOf c) (λ k. 1)) refl
+pub rows : (c : Command) → below (widthOf c) (λ k. rowsFor table c (ownBit (suc k))) ≡ below (widthOf c) (λ k. 1)
+rows = each-at (λ c. below (widthOf c) (λ k. rowsFor table c (ownBit (suc k)))) (λ c. below (widthOf c) (λ k. 1)) refl
 
-pub zero-rows : map (λ c. below 2 (λ d. rowsFor table c (ahead (suc d)))) fasts ≡ map (λ c. below 2 (λ d. 1)) fasts
+pub zero-rows : map (λ c. below 2 (λ d. rowsFor table c (zeroAhead (suc d)))) fasts ≡ map (λ c. below 2 (λ d. 1)) fasts
 zero-rows = refl

@@ -13,8 +13,8 @@ use Rattle.damage.specs.CleanStreams.{Item, itemSize}
 use Rattle.damage.specs.Table.{affected, replacementOf}
 use Rattle.damage.specs.Records.{itemRecords, itemCounters, cleanRecords, replacementRecords}
 
--- An LV1's value is its position × 65,536 + its trigger number × 256 + its bunch number. The position agrees always, "as part of the affected record
--- only" (document 02, F-1); each number unless it may still differ. All else is equal.
+-- An LV1's value is its position × 65,536 + its trigger number × 256 + its bunch number. Positions differ "as part of the affected record only" (document
+-- 02, F-1), so that here they always agree; each number agrees unless it may still differ. All else is equal.
 abbrev pub SameValue : Bool → Bool → Record → Record → Type 0
 SameValue trigger bunch x y =
     cond (eqb (x .kind) kindLv1)

@@ -1,6 +1,6 @@
 -- The damage table as data, and the affected command (document 01, "The damage table"; document 02, F-1).
 -- Assumes nothing.
-use mathlib.Core.Bool.{Bool, true, false, cond, _&&_}
+use mathlib.Core.Bool.{Bool, true, false, cond, _&&_, _||_}
 use mathlib.Core.List.{List, [], _∷_}
 use Prim.Native.Nat.{ℕ, suc, _+_, _-_}
 use lib.Dec.{ltb, leb, eqb}
@@ -11,21 +11,20 @@ use Rattle.recogniser.specs.declared.Request.the-variants.{Lv1, BadFast}
 use Rattle.damage.specs.Commands.{Command, lv1, bcr, ecr, cal, sync, fasts, among, codeOf, widthOf, isFastCommand, requestOf}
 use Rattle.damage.specs.CleanStreams.{Item, inverted}
 
--- Where a bit is inverted, seen from a command: one of its bits, counted from 1, or a zero so many cycles ahead of it.
+-- Which bit is inverted, seen from a command: one of its own, counted from 1, or a zero so many cycles ahead of it.
 pub data Hit : Type 0 where
-  bit : ℕ → Hit
-  ahead : ℕ → Hit
+  ownBit : ℕ → Hit
+  zeroAhead : ℕ → Hit
 
--- The table's left column: "bits 6 to 9" and the like, or a zero so many cycles ahead.
-pub data Hits : Type 0 where
-  bits : ℕ → ℕ → Hits
-  zeroAhead : ℕ → Hits
+abbrev pub sameHit : Hit → Hit → Bool
+sameHit (ownBit k) (ownBit j) = eqb k j
+sameHit (ownBit k) (zeroAhead d) = false
+sameHit (zeroAhead d) (ownBit k) = false
+sameHit (zeroAhead d) (zeroAhead e) = eqb d e
 
-abbrev pub amongHits : Hit → Hits → Bool
-amongHits (bit k) (bits from to) = leb from k && leb k to
-amongHits (bit k) (zeroAhead d) = false
-amongHits (ahead d) (bits from to) = false
-amongHits (ahead d) (zeroAhead e) = eqb d e
+abbrev pub amongHits : Hit → List Hit → Bool
+amongHits h [] = false
+amongHits h (g ∷ gs) = sameHit h g || amongHits h gs
 
 -- The table's right column: "LV1 with flip, at 5" and the like, with the position that document 02, F-1, asks; "exact at 6"; "bad Fast, at 9"; or "none".
 pub data Outcome : Type 0 where
@@ -34,35 +33,35 @@ pub data Outcome : Type 0 where
   exactAt : ℕ → Outcome
   badFastAt : ℕ → Outcome
 
--- A row: the commands it speaks of, where a bit of theirs is inverted, and what is recorded instead.
+-- A row: the commands it speaks of, which bit is inverted, and what is recorded instead.
 pub record Row : Type 0 where
   pub commands : List Command
-  pub hits : Hits
+  pub hits : List Hit
   pub outcome : Outcome
 
-abbrev pub row : List Command → Hits → Outcome → Row
+abbrev pub row : List Command → List Hit → Outcome → Row
 row commands hits outcome = record { commands = commands; hits = hits; outcome = outcome }
 
 -- The table, in the paper's order; a line that speaks of several commands or positions apart is a row for each.
 abbrev pub table : List Row
 table =
-    row (lv1 ∷ []) (bits 1 1) (flipAt 5 1)
-    ∷ row (lv1 ∷ []) (bits 2 2) (flipAt 5 2)
-    ∷ row (lv1 ∷ []) (bits 3 3) (flipAt 5 3)
-    ∷ row (lv1 ∷ []) (bits 4 4) (flipAt 5 4)
-    ∷ row (lv1 ∷ []) (bits 5 5) (flipAt 5 5)
-    ∷ row fasts (bits 6 9) (badFastAt 9)
-    ∷ row (cal ∷ []) (bits 1 1) (flipAt 7 3)
-    ∷ row (sync ∷ []) (bits 1 1) (flipAt 6 1)
-    ∷ row (bcr ∷ ecr ∷ []) (bits 1 1) none
-    ∷ row (bcr ∷ ecr ∷ cal ∷ []) (bits 2 2) (flipAt 6 5)
-    ∷ row (sync ∷ []) (bits 2 2) (exactAt 6)
-    ∷ row fasts (bits 3 4) none
-    ∷ row (bcr ∷ ecr ∷ []) (bits 5 5) (flipAt 7 5)
-    ∷ row (cal ∷ []) (bits 5 5) (exactAt 7)
-    ∷ row (sync ∷ []) (bits 5 5) (flipAt 8 5)
-    ∷ row fasts (zeroAhead 1) (flipAt 3 1)
-    ∷ row fasts (zeroAhead 2) (flipAt 3 2)
+    row (lv1 ∷ []) (ownBit 1 ∷ []) (flipAt 5 1)
+    ∷ row (lv1 ∷ []) (ownBit 2 ∷ []) (flipAt 5 2)
+    ∷ row (lv1 ∷ []) (ownBit 3 ∷ []) (flipAt 5 3)
+    ∷ row (lv1 ∷ []) (ownBit 4 ∷ []) (flipAt 5 4)
+    ∷ row (lv1 ∷ []) (ownBit 5 ∷ []) (flipAt 5 5)
+    ∷ row fasts (ownBit 6 ∷ ownBit 7 ∷ ownBit 8 ∷ ownBit 9 ∷ []) (badFastAt 9)
+    ∷ row (cal ∷ []) (ownBit 1 ∷ []) (flipAt 7 3)
+    ∷ row (sync ∷ []) (ownBit 1 ∷ []) (flipAt 6 1)
+    ∷ row (bcr ∷ ecr ∷ []) (ownBit 1 ∷ []) none
+    ∷ row (bcr ∷ ecr ∷ cal ∷ []) (ownBit 2 ∷ []) (flipAt 6 5)
+    ∷ row (sync ∷ []) (ownBit 2 ∷ []) (exactAt 6)
+    ∷ row fasts (ownBit 3 ∷ ownBit 4 ∷ []) none
+    ∷ row (bcr ∷ ecr ∷ []) (ownBit 5 ∷ []) (flipAt 7 5)
+    ∷ row (cal ∷ []) (ownBit 5 ∷ []) (exactAt 7)
+    ∷ row (sync ∷ []) (ownBit 5 ∷ []) (flipAt 8 5)
+    ∷ row fasts (zeroAhead 1 ∷ []) (flipAt 3 1)
+    ∷ row fasts (zeroAhead 2 ∷ []) (flipAt 3 2)
     ∷ []
 
 abbrev pub speaksOf : Row → Command → Hit → Bool
@@ -79,8 +78,8 @@ pub data Replacement : Type 0 where
 
 -- A bad Fast has the damaged body.
 abbrev pub damagedBody : Command → Hit → ℕ
-damagedBody c (bit k) = numberOf 0 (drop 5 (inverted (k - 1) (codeOf c)))
-damagedBody c (ahead d) = numberOf 0 (drop 5 (codeOf c))
+damagedBody c (ownBit k) = numberOf 0 (drop 5 (inverted (k - 1) (codeOf c)))
+damagedBody c (zeroAhead d) = numberOf 0 (drop 5 (codeOf c))
 
 abbrev pub asReplacement : Command → Hit → Outcome → Replacement
 asReplacement c h none = nothing
@@ -107,7 +106,7 @@ affected i k = cond (ltb k (i .ahead)) (hitsFast (i .command) (i .ahead - k)) tr
 
 -- The same bit, seen from the item's command.
 abbrev pub hitOf : Item → ℕ → Hit
-hitOf i k = cond (ltb k (i .ahead)) (ahead (i .ahead - k)) (bit (suc (k - i .ahead)))
+hitOf i k = cond (ltb k (i .ahead)) (zeroAhead (i .ahead - k)) (ownBit (suc (k - i .ahead)))
 
 abbrev pub replacementOf : Item → ℕ → Replacement
 replacementOf i k = cond (affected i k) (damage (i .command) (hitOf i k)) (itself (i .command))

@@ -35,7 +35,7 @@ pub record Runs (d : Decoder) (clean damaged : List ℕ) (items : List Item) (tr
 -- Their words. The clean run has written the paper's record for each command and no other. The damaged run has written exactly these but for the affected
 -- one, which is exactly the damage table's (`damagedRecords`), with the position of document 02, F-1; in the paper's words (`Replaced`), the trigger
 -- numbers differ at most after the affected command up to the first ECR after it, the bunch numbers up to the first BCR, and nowhere if no command is
--- affected. The positions of unaffected commands agree everywhere.
+-- affected. The positions of unaffected LV1s agree everywhere.
 pub record Wrote (d : Decoder) (clean damaged : List ℕ) (items : List Item) (k : ℕ) : Type 0 where
   pub clean-words : clean ≡ recordWords (cleanRecords (sends d) (countersOf d) (d .next) items)
   pub damaged-words : damaged ≡ recordWords (damagedRecords (sends d) (countersOf d) (d .next) items k)

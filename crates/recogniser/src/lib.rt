@@ -1,10 +1,11 @@
 // One clock cycle of the command line: what the bit completes, and where the recogniser stands after it.
 // It owns only what the chip triplicates; registers, counters and RunMode belong to the model.
 ghost use mathlib.Core.Path.{_≡_};
+ghost use mathlib.Core.Bool.{true};
 ghost use Prim.Native.Nat.{_<_};
 ghost use Rattle.recogniser.specs.Parts.{shifted, startOf, moveTo, gatheredOf};
 ghost use Rattle.recogniser.specs.declared.Phase.the-variants.{Hunt};
-ghost use Rattle.recogniser.specs.Hunting.{meaningOf, isFast, huntBy, huntOf, bodyOf};
+ghost use Rattle.recogniser.specs.Hunting.{isLv1, positionOf, meaningOf, isFast, huntBy, huntOf, bodyOf};
 ghost use Rattle.recogniser.specs.Fields.{lengthOf, isSlow, isFrame, keptOf, endsOf, slowRequestOf, field3Of, field4Of, keptFieldOf};
 ghost use Rattle.recogniser.specs.Groups.{groupOf, unsteadyOf, storesOf, placeOf, frameBitOf, frameFieldOf};
 ghost use Rattle.recogniser.specs.Step.{field5Of, stepOf};
@@ -114,19 +115,44 @@ pub fn nibble_with(nibble: u8, bit: u8) -> u8
     ((nibble << 1) | bit) & 15
 }
 
+fn is_lv1(window: u8) -> bool
+    ensures { λ r. ⌜ r ≡ isLv1 window ⌝ }
+{
+    match window {
+        0b11101 => true,
+        0b11100 => true,
+        0b11111 => true,
+        0b11001 => true,
+        0b10101 => true,
+        0b01101 => true,
+        _ => false,
+    }
+}
+
+// Which of an LV1's bits was hit: the one in which it differs from the exact LV1.
+fn position(window: u8) -> u8
+    requires { ⌜ isLv1 window ≡ true ⌝ }
+    ensures { λ r. ⌜ r ≡ positionOf window ⌝ }
+{
+    let difference = window ^ 0b11101;
+    if difference == 0 {
+        return 0;
+    }
+    5 - u8::trailing_zeros(difference) as u8
+}
+
 pub fn classify(window: u8) -> Meaning
     ensures { λ r. ⌜ r ≡ meaningOf window ⌝ }
 {
-    match window {
-        0b11101 => Meaning::Trigger { position: 0 },
-        0b01101 => Meaning::Trigger { position: 1 },
-        0b10101 => Meaning::Trigger { position: 2 },
-        0b11001 => Meaning::Trigger { position: 3 },
-        0b11111 => Meaning::Trigger { position: 4 },
-        0b11100 => Meaning::Trigger { position: 5 },
-        0b10110 => Meaning::Header,
-        _ => Meaning::Quiet,
+    if is_lv1(window) {
+        return Meaning::Trigger {
+            position: position(window),
+        };
     }
+    if window == 0b10110 {
+        return Meaning::Header;
+    }
+    Meaning::Quiet
 }
 
 fn is_fast(body: u8) -> bool

@@ -39,8 +39,9 @@ table =
     ∷ 0x3E1F00 ∷ 0b1010 ∷ 0x471F00 ∷ 0b1100 ∷ 0x501F00 ∷ 0b1101 ∷ 0x591F00 ∷ 0b1110 ∷ 0x621F00 ∷ 0b1111 ∷ [])
     (runMode 1 ∷ wlv1 0 ∷ wfst 1 ∷ wslw 0 ∷ [])
     ∷ row [] (line "10110 0000") (done 9 1) (0x081F00 ∷ 0 ∷ []) (wfst 1 ∷ [])
-    -- "1101 straight after a command is an LV1 with flip", its first bit the cleared window's; the bunch number counts from the BCR; and after an opening
+    -- "1101 straight after a command is an LV1 with flip", its first bit the cleared window's; the bunch number counts from the BCR
     ∷ row (runMode 1 ∷ []) (bcr ++ line "1101") (done 13 2) (0x081101 ∷ 0 ∷ 0x0C0107 ∷ 0x00010004 ∷ []) []
+    -- and straight after an opening
     ∷ row [] (line "1101") (done 4 1) (0x030102 ∷ 0x00010000 ∷ []) []
     -- "20 + Field 3 for a Slow"; EnDataTake starts RunMode with its last bit, whatever Field 4 is
     ∷ row [] (line "10110 1011 1000 000") (done 16 0) [] (runMode 0 ∷ [])

@@ -1,21 +1,20 @@
 -- The 32 windows and what each means (document 01, "Hunting"; document 02, F-1).
 -- Assumes nothing.
-use mathlib.Core.Bool.{Bool, cond}
+use mathlib.Core.Bool.{cond}
 use mathlib.Core.List.{List, [], _∷_}
 use Prim.Native.Nat.{ℕ, zero, suc}
 use lib.Dec.{eqb}
 use Rattle.bits.specs.Bits.{numberOf}
 use Rattle.recogniser.specs.declared.Meaning.{Meaning}
 use Rattle.recogniser.specs.declared.Meaning.the-variants.{Quiet, Trigger, Header}
-use Rattle.recogniser.specs.Hunting.{places, differences}
-use Rattle.worked_examples.specs.CommandBits.{line}
+use Rattle.worked_examples.specs.CommandBits.{line, field}
 
-abbrev pub from : ℕ → ℕ → List ℕ
-from w zero = []
-from w (suc count) = w ∷ from (suc w) count
+abbrev pub windowsFrom : ℕ → ℕ → List ℕ
+windowsFrom w zero = []
+windowsFrom w (suc count) = w ∷ windowsFrom (suc w) count
 
-abbrev pub all : List ℕ
-all = from 0 32
+abbrev pub windows : List ℕ
+windows = windowsFrom 0 32
 
 -- A window that means something.
 pub record Pattern : Type 0 where
@@ -25,7 +24,7 @@ pub record Pattern : Type 0 where
 abbrev pub pattern : List ℕ → Meaning → Pattern
 pattern bits meaning = record { bits = bits; meaning = meaning }
 
--- "11101 is an exact LV1; 11100, 11111, 11001, 10101 and 01101 are an LV1 with flip; 10110 is a header": with the positions of F-1.
+-- "11101 is an exact LV1"; "11100, 11111, 11001, 10101 and 01101 are an LV1 with flip", here with the position of F-1; "10110 is a header".
 abbrev pub patterns : List Pattern
 patterns =
     pattern (line "11101") (Trigger 0)
@@ -45,11 +44,17 @@ lookUp (p ∷ ps) w = cond (eqb w (numberOf 0 (p .bits))) (p .meaning) (lookUp p
 abbrev pub listedMeaning : ℕ → Meaning
 listedMeaning w = lookUp patterns w
 
--- The same by the distance from 11101: an LV1 is what differs from it nowhere or in one place, which is its position.
+-- The places where two lists of bits differ, counted from k.
+abbrev pub differing : ℕ → List ℕ → List ℕ → List ℕ
+differing k [] ys = []
+differing k (x ∷ xs) [] = []
+differing k (x ∷ xs) (y ∷ ys) = cond (eqb x y) (differing (suc k) xs ys) (k ∷ differing (suc k) xs ys)
+
+-- By the distance from 11101: an LV1 is what differs from it nowhere or in one place, which is its position.
 abbrev pub byDistance : ℕ → List ℕ → Meaning
 byDistance w [] = Trigger 0
 byDistance w (k ∷ []) = Trigger k
 byDistance w (k ∷ j ∷ more) = cond (eqb w (numberOf 0 (line "10110"))) Header Quiet
 
 abbrev pub nearMeaning : ℕ → Meaning
-nearMeaning w = byDistance w (differences w places)
+nearMeaning w = byDistance w (differing 1 (field 5 w) (line "11101"))

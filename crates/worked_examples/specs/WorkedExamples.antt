@@ -15,10 +15,10 @@ use Rattle.worked_examples.specs.RangeTable as ranges
 abbrev pub MarkedStreams : Type 0
 MarkedStreams = Gives 14 streams.table
 
--- All 32 windows: the definition gives document 01's list with its positions, and that list is what lies at distance 0 or 1.
+-- All 32 windows: the definition gives document 01's list with the positions of document 02, F-1; and an LV1 is exactly what lies at distance 0 or 1.
 pub record WindowExamples : Type 0 where
-  pub listed : Table meaningOf windows.listedMeaning 32 windows.all
-  pub near : Table meaningOf windows.nearMeaning 32 windows.all
+  pub listed : Table meaningOf windows.listedMeaning 32 windows.windows
+  pub near : Table meaningOf windows.nearMeaning 32 windows.windows
 
 -- The taking call.
 pub record TakingExamples : Type 0 where

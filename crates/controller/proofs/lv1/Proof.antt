@@ -7,8 +7,8 @@ use borrow.Author.Needs.{needs}
 use Rattle.controller.proofs.lv1.Statement.{statement}
 use Rattle.controller.proofs.lv1.Tie as tie
 
-mul-hit : tie.Need-mul-hit
-mul-hit c = search needs
+mul-high : tie.Need-mul-high
+mul-high c = search needs
 
 flag-requires : tie.Need-flag-requires
 flag-requires c κs = search needs
@@ -33,17 +33,17 @@ register-requires c κs = search needs
 flag-requires-2 : tie.Need-flag-requires-2
 flag-requires-2 c κs = search needs
 
-cast-value : tie.Need-cast-value
-cast-value c = search needs
+cast-low : tie.Need-cast-low
+cast-low c = search needs
 
-mul-value : tie.Need-mul-value
-mul-value c = search needs
+mul-low : tie.Need-mul-low
+mul-low c = search needs
 
 bunch-requires : tie.Need-bunch-requires
 bunch-requires c κs = search needs
 
-add-value : tie.Need-add-value
-add-value c = search needs
+add-low : tie.Need-add-low
+add-low c = search needs
 
 cast-counters : tie.Need-cast-counters
 cast-counters c = search needs
@@ -75,7 +75,7 @@ returns-2 c =
     let low : m .counters .l1id < 2 ^ 8 = search needs in
     simp (
       mod-eq-of-lt low,
-      not-false (f .before .before .before .args .model .running) (sent .before .before .if1 .left),
+      not-false (m .running) (sent .before .before .if1 .left),
       c .answer2 .ensures,
       f .flag .ensures .0,
       sent .flag2 .ensures .0,
@@ -87,16 +87,16 @@ pub lv1-spec : {M : Type 1} → statement M
 lv1-spec =
     tie.close
     (tie.spec
-    mul-hit
+    mul-high
     flag-requires
     answer-requires
     returns
     register-requires
     flag-requires-2
-    cast-value
-    mul-value
+    cast-low
+    mul-low
     bunch-requires
-    add-value
+    add-low
     cast-counters
     add-counters
     cast-counters-2

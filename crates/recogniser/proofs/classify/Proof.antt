@@ -1,48 +1,25 @@
--- `classify` is the meaning of a window, pattern by pattern.
+-- `classify` is the meaning of a window.
 -- Assumes nothing.
-use borrow.Author.Tests.{ne-eqb}
+use mathlib.Core.Path.{_∙_, sym}
+use borrow.Author.Tests.{eq-eqb, ne-eqb}
+use borrow.Author.Needs.{needs}
 use Rattle.recogniser.proofs.classify.Statement.{statement}
 use Rattle.recogniser.proofs.classify.Tie as tie
 
+is-lv1-requires : tie.Need-is-lv1-requires
+is-lv1-requires c κs = search needs
+
+position-requires : tie.Need-position-requires
+position-requires c κs = sym (c .before .is-lv1 .ensures) ∙ c .if1 .taken
+
 returns : tie.Need-returns
-returns c = rw (c .match .keys1)
+returns c = simp (← c .before .before .is-lv1 .ensures, c .before .if1 .taken, c .position .ensures)
 
 returns-2 : tie.Need-returns-2
-returns-2 c = rw (c .match .keys2)
+returns-2 c = simp (← c .before .before .is-lv1 .ensures, c .before .if1 .left, eq-eqb _ _ (c .if2 .taken))
 
 returns-3 : tie.Need-returns-3
-returns-3 c = rw (c .match .keys3)
-
-returns-4 : tie.Need-returns-4
-returns-4 c = rw (c .match .keys4)
-
-returns-5 : tie.Need-returns-5
-returns-5 c = rw (c .match .keys5)
-
-returns-6 : tie.Need-returns-6
-returns-6 c = rw (c .match .keys6)
-
-returns-7 : tie.Need-returns-7
-returns-7 c = rw (c .match .keys7)
-
-returns-8 : tie.Need-returns-8
-returns-8 c =
-    let n7 = c .match .rest in
-    let n6 = n7 .0 in
-    let n5 = n6 .0 in
-    let n4 = n5 .0 in
-    let n3 = n4 .0 in
-    let n2 = n3 .0 in
-    let n1 = n2 .0 in
-    simp (
-      ne-eqb _ _ (n1 .1),
-      ne-eqb _ _ (n2 .1),
-      ne-eqb _ _ (n3 .1),
-      ne-eqb _ _ (n4 .1),
-      ne-eqb _ _ (n5 .1),
-      ne-eqb _ _ (n6 .1),
-      ne-eqb _ _ (n7 .1),
-    )
+returns-3 c = simp (← c .before .before .is-lv1 .ensures, c .before .if1 .left, ne-eqb _ _ (c .if2 .left))
 
 pub classify-spec : {M : Type 1} → statement M
-classify-spec = tie.close (tie.spec returns returns-2 returns-3 returns-4 returns-5 returns-6 returns-7 returns-8)
+classify-spec = tie.close (tie.spec is-lv1-requires position-requires returns returns-2 returns-3)
