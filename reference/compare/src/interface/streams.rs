@@ -14,7 +14,7 @@ use reader::{slow, Plan, State};
 use std::io;
 
 /// Streams of ordinary length, and ones with frames as long as they come.
-const STREAMS: u64 = 48 * RECIPES * PLANS.len() as u64;
+const STREAMS: u64 = 52 * RECIPES * PLANS.len() as u64;
 const LONGEST: u64 = 24;
 
 /// One stream in so many is cut a second time.
