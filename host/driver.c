@@ -25,6 +25,9 @@
 #include <unistd.h>
 
 _Static_assert(sizeof(size_t) == sizeof(uint64_t), "a size is a word");
+_Static_assert(KERNELSTILL_LV1_POSITION(UINT64_C(0x000512FE)) == 0x05, "the position stands highest");
+_Static_assert(KERNELSTILL_LV1_L1ID(UINT64_C(0x000512FE)) == 0x12, "the trigger number is in the middle");
+_Static_assert(KERNELSTILL_LV1_BUNCH(UINT64_C(0x000512FE)) == 0xFE, "the bunch number stands lowest");
 _Static_assert(__BYTE_ORDER__ == __ORDER_LITTLE_ENDIAN__, "words stand lowest byte first");
 
 enum function { OPEN = 1, TAKE, FRAME_BITS, FRAME_PART, HEX_LINE, RECORD_LINE };

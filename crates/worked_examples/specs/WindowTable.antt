@@ -44,7 +44,7 @@ lookUp (p ∷ ps) w = cond (eqb w (numberOf 0 (p .bits))) (p .meaning) (lookUp p
 abbrev pub listedMeaning : ℕ → Meaning
 listedMeaning w = lookUp patterns w
 
--- The places where two lists of bits differ, counted from k.
+-- The places where two lists of bits differ, counted from k. Apart from the recogniser's `differences`, which is held against it.
 abbrev pub differing : ℕ → List ℕ → List ℕ → List ℕ
 differing k [] ys = []
 differing k (x ∷ xs) [] = []

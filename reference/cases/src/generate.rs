@@ -25,25 +25,47 @@ pub fn commands(random: &mut Random, count: usize) -> Stream {
     commands_at(Addresses::DEFAULT, random, count)
 }
 
-/// Whole commands, now and then an LV1 with a bit hit, with random zeros
-/// between them. It follows CNT as the commands write it at its address, so
-/// that variable fields end where the next command begins. Most CNT are small,
-/// to keep frames short.
+/// The same, where now and then an LV1 has a bit hit.
+pub fn flipped_commands(random: &mut Random, count: usize) -> Stream {
+    flipped_commands_at(Addresses::DEFAULT, random, count)
+}
+
+/// Whole commands with random zeros between them. It follows CNT as the
+/// commands write it at its address, so that variable fields end where the
+/// next command begins. Most CNT are small, to keep frames short.
 pub fn commands_at(at: Addresses, random: &mut Random, count: usize) -> Stream {
     let mut stream = Stream::new().en_data_take();
     let mut cnt = 0;
     for _ in 0..count {
         stream = stream.zeros(gap(random));
-        stream = match random.below(26) {
-            0..=7 => stream.lv1(),
-            8..=12 => stream.fast([BCR, ECR, CAL, SYNC][random.below(4) as usize]),
-            13 => stream.fast(bad_body(random)),
-            14..=16 => stream.en_data_take(),
-            17 | 18 => stream.pattern(flipped_lv1(random)),
-            _ => slow_command(stream, at, random, &mut cnt),
+        stream = command(stream, at, random, &mut cnt);
+    }
+    stream
+}
+
+/// The same, where now and then an LV1 has a bit hit.
+pub fn flipped_commands_at(at: Addresses, random: &mut Random, count: usize) -> Stream {
+    let mut stream = Stream::new().en_data_take();
+    let mut cnt = 0;
+    for _ in 0..count {
+        stream = stream.zeros(gap(random));
+        stream = if random.one_in(12) {
+            stream.pattern(flipped_lv1(random))
+        } else {
+            command(stream, at, random, &mut cnt)
         };
     }
     stream
+}
+
+fn command(stream: Stream, at: Addresses, random: &mut Random, cnt: &mut u16) -> Stream {
+    match random.below(24) {
+        0..=7 => stream.lv1(),
+        8..=12 => stream.fast([BCR, ECR, CAL, SYNC][random.below(4) as usize]),
+        13 => stream.fast(bad_body(random)),
+        14..=16 => stream.en_data_take(),
+        _ => slow_command(stream, at, random, cnt),
+    }
 }
 
 /// So many bits: whole commands of every kind but the frames, at which a call

@@ -5,16 +5,18 @@ use crate::{generate, Case, Random, Stream};
 /// How a stream is made.
 #[derive(Clone, Copy)]
 enum Recipe {
-    /// Whole commands, and an LV1 with a bit hit now and then.
-    Commands,
+    /// Whole commands.
+    Clean,
     /// The same with one bit in so many inverted.
     Flips(u64),
+    /// Whole commands, and an LV1 with a bit hit now and then.
+    FlippedLv1,
     /// Random bits.
     Noise,
 }
 
-const RECIPES: [Recipe; 8] = [
-    Recipe::Commands,
+const RECIPES: [Recipe; 9] = [
+    Recipe::Clean,
     Recipe::Flips(10_000),
     Recipe::Flips(1_000),
     Recipe::Flips(300),
@@ -22,6 +24,7 @@ const RECIPES: [Recipe; 8] = [
     Recipe::Flips(30),
     Recipe::Flips(10),
     Recipe::Noise,
+    Recipe::FlippedLv1,
 ];
 
 /// The first `count` generated cases; each depends on its number only.
@@ -41,7 +44,8 @@ fn case(number: u64) -> Case {
             };
             begun.raw(&generate::bits(&mut random, 16_000))
         }
-        Recipe::Commands | Recipe::Flips(_) => generate::commands(&mut random, 400),
+        Recipe::Clean | Recipe::Flips(_) => generate::commands(&mut random, 400),
+        Recipe::FlippedLv1 => generate::flipped_commands(&mut random, 400),
     };
     if let Recipe::Flips(rate) = recipe {
         generate::flip_some(&mut stream, &mut random, rate);

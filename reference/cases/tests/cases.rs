@@ -50,7 +50,7 @@ fn cases_cover_what_they_should() {
     }
     assert!(names.contains(&"frames/receiver-65528".to_string()));
     let lines = |case: &Case| case.input.iter().filter(|&&byte| byte == b'\n').count();
-    let long = generated(400)
+    let long = generated(450)
         .iter()
         .filter(|case| lines(case) > 300)
         .count();

@@ -38,7 +38,7 @@ fn in_header() -> BTreeMap<String, u64> {
             continue;
         };
         // A text, which is compared with other files' (version.rs); and what is
-        // reckoned from a value, which the Python tests compare.
+        // reckoned from a value, which the driver in C and the Python tests hold.
         if name == "VERSION" || PARTS.contains(&name) {
             continue;
         }

@@ -10,7 +10,10 @@ use cases::Stream;
 use common::{Reader, PLANS};
 use reader::{Plan, Record, State};
 
-/// Streams of whole commands, with flips, and of random bits.
+const KINDS: u64 = 4;
+
+/// Streams of whole commands; with flips anywhere; with flips of LV1 alone; and
+/// of random bits.
 fn random_stream(random: &mut Random, kind: u64) -> Stream {
     match kind {
         0 => generate::commands(random, 40),
@@ -19,6 +22,7 @@ fn random_stream(random: &mut Random, kind: u64) -> Stream {
             generate::flip_some(&mut stream, random, 60);
             stream
         }
+        2 => generate::flipped_commands(random, 40),
         _ => Stream::new().raw(&generate::bits(random, 1_500)),
     }
 }
@@ -72,9 +76,9 @@ fn random_cuts_and_short_lists() {
     let mut random = Random::new(1);
     let mut frames = 0;
     let mut total = 0;
-    for round in 0..1_800 {
-        let stream = random_stream(&mut random, round % 3);
-        let start = random_start(&mut random, plan(round / 3));
+    for round in 0..2_400 {
+        let stream = random_stream(&mut random, round % KINDS);
+        let start = random_start(&mut random, plan(round / KINDS));
         let mut whole = start.clone();
         let bytes = stream.bytes();
         let records = whole.read_part(&bytes, 0, stream.bits.len() as u64, 5_000);
@@ -95,9 +99,9 @@ fn random_cuts_and_short_lists() {
 #[test]
 fn other_inputs_with_the_same_bits() {
     let mut random = Random::new(2);
-    for round in 0..120 {
-        let stream = random_stream(&mut random, round % 3);
-        let start = random_start(&mut random, plan(round / 3));
+    for round in 0..160 {
+        let stream = random_stream(&mut random, round % KINDS);
+        let start = random_start(&mut random, plan(round / KINDS));
         let mut whole = start.clone();
         let records = whole.read(&stream);
         let mut reader = start;
@@ -122,9 +126,9 @@ const OLD_LONGEST: usize = 8 * 65_536;
 fn the_same_bits_within_a_mebibyte() {
     let mut random = Random::new(3);
     let noise = Stream::new().raw(&generate::bits(&mut random, LONGEST as u32));
-    for round in 0..12 {
-        let stream = random_stream(&mut random, round % 3);
-        let start = random_start(&mut random, plan(round / 3));
+    for round in 0..16 {
+        let stream = random_stream(&mut random, round % KINDS);
+        let start = random_start(&mut random, plan(round / KINDS));
         let mut alone = start.clone();
         let records = alone.read(&stream);
         let count = stream.bits.len();

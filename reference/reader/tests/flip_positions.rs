@@ -194,7 +194,7 @@ fn positions_of_random_streams() {
     let mut random = Random::new(11);
     let mut seen = [[0; 6]; 2];
     for round in 0..400 {
-        let mut stream = generate::commands(&mut random, 60);
+        let mut stream = generate::flipped_commands(&mut random, 60);
         generate::flip_some(&mut stream, &mut random, 40);
         if round % 2 == 1 {
             stream = Stream::new().raw(&generate::bits(&mut random, 2_000));
@@ -256,7 +256,7 @@ fn flips() -> Vec<Case> {
 /// straight after another command and not.
 #[test]
 fn the_cases_have_every_position() {
-    for cases in [flips(), generated(16)] {
+    for cases in [flips(), generated(18)] {
         let seen: BTreeSet<Varied> = cases.iter().flat_map(varied).collect();
         for acted_on in [true, false] {
             for position in 1..=5 {

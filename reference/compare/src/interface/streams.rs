@@ -7,14 +7,14 @@ use super::image::image;
 use super::layout::IMAGE_WORDS;
 use super::prefilled;
 use super::states::{random_cycle, random_state, PLANS};
-use cases::generate::{bits, commands_at, flip_some, Addresses};
+use cases::generate::{bits, commands_at, flip_some, flipped_commands_at, Addresses};
 use cases::{Random, Stream};
 use reader::limits::CLOCK_LIMIT;
 use reader::{slow, Plan, State};
 use std::io;
 
 /// Streams of ordinary length, and ones with frames as long as they come.
-const STREAMS: u64 = 52 * RECIPES * PLANS.len() as u64;
+const STREAMS: u64 = 48 * RECIPES * PLANS.len() as u64;
 const LONGEST: u64 = 24;
 
 /// One stream in so many is cut a second time.
@@ -46,7 +46,7 @@ pub fn check(checker: &mut Checker) -> io::Result<()> {
     Ok(())
 }
 
-const RECIPES: u64 = 16;
+const RECIPES: u64 = 18;
 /// The recipe that starts in a state of any phase.
 const ANY_STATE: u64 = 15;
 
@@ -63,6 +63,8 @@ fn stream(random: &mut Random, recipe: u64, plan: Plan) -> Stream {
         11 => commands_at(addresses(plan), random, 4 * few),
         12 => frames(plan, random),
         13 => Stream::new().en_data_take().raw(&noise(random)),
+        16 => flipped_commands_at(addresses(plan), random, few),
+        17 => damaged(flipped_commands_at(addresses(plan), random, few), random),
         _ => Stream::new().raw(&noise(random)),
     }
 }

@@ -28,7 +28,7 @@ use std::path::Path;
 use under_test::UnderTest;
 
 /// Generated streams, besides all other cases.
-const GENERATED: u64 = 400;
+const GENERATED: u64 = 450;
 
 /// Compares everything: the repository's golden files and stored runs with
 /// what the separate reader prints now, and the programs in a folder with it on every case. They have an exit
