@@ -2,3 +2,5 @@ pub mod Truth
 pub mod BitRanges
 pub mod Places
 pub mod Ranges
+pub mod Shift
+pub mod Below

@@ -17,3 +17,7 @@ bitsOf input first (suc count) = bitOf input first ∷ bitsOf input (first + 1) 
 abbrev pub numberOf : ℕ → List ℕ → ℕ
 numberOf so-far [] = so-far
 numberOf so-far (bit ∷ bits) = numberOf (so-far * 2 + bit) bits
+
+-- "Hunting": a register of so many bits "takes each new bit at its low end and drops its oldest bit".
+abbrev pub shifted : ℕ → ℕ → ℕ → ℕ
+shifted width value bit = (value * 2 + bit) % 2 ^ width

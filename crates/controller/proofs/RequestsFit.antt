@@ -14,7 +14,7 @@ use Rattle.recogniser.specs.declared.Meaning.the-variants.{Quiet, Trigger, Head
 use Rattle.recogniser.specs.declared.Request.{Request}
 use Rattle.recogniser.specs.declared.Recogniser.{Recogniser}
 use Rattle.recogniser.specs.declared.Transition.{Transition}
-use Rattle.recogniser.specs.Parts.{shifted}
+use Rattle.bits.specs.Bits.{shifted}
 use Rattle.recogniser.specs.Hunting.{meaningOf, huntBy, isFast}
 use Rattle.recogniser.specs.Fields.{isSlow, isFrame, lengthOf, endsOf}
 use Rattle.recogniser.specs.Step.{stepBy, stepOf}

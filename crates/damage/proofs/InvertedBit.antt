@@ -10,6 +10,7 @@ use lib.Dec.{ltb, leb, T, ltb→lt, nltb→le}
 use lib.ListN.{length, length-append, length-replicate}
 use borrow.Author.Tests.{lt-leb}
 use Rattle.bits.proofs.Truth.{and-right, cond-case}
+use Rattle.bits.proofs.Below.{below, below-at}
 use Rattle.recogniser.specs.declared.Request.{Request}
 use Rattle.recogniser.specs.declared.Request.the-variants.{Nothing}
 use Rattle.recogniser.specs.declared.Recogniser.{Recogniser}
@@ -20,7 +21,7 @@ use Rattle.damage.specs.Commands.{Command, lv1, bcr, ecr, cal, sync, cod
 use Rattle.damage.specs.CleanStreams.{Item, zeros, zerosBetween, itemBits, itemSize, streamBits, spaced, timed, inverted}
 use Rattle.damage.specs.Table.{ownBit, zeroAhead, damage, itself}
 use Rattle.damage.specs.Traces.{requestsOf, recogniserAfter, quiet, spread, cleanTrace, damagedItem, damagedTrace}
-use Rattle.damage.proofs.FiniteFacts.{below, below-at, each-at}
+use Rattle.damage.proofs.FiniteFacts.{each-at}
 use Rattle.damage.proofs.TracesJoined.{Shows, chain, onward}
 use Rattle.damage.proofs.Replacements.{zeroDamage, replacement-cases, damaged-cases}
 use Rattle.damage.proofs.Recovery.{shownBy, shouldShow, Resumes, Settles, empty-resumes, idling, trailing, late, clean-item, resumed-run}

@@ -8,6 +8,7 @@ use native.Mathlib.Omega.{arith}
 use lib.Dec.{ltb, leb, T, ltb→lt, nltb→le, leb→le}
 use lib.ListN.{replicate, replicate-append-replicate}
 use Rattle.bits.proofs.Truth.{and-left, cond-case}
+use Rattle.bits.proofs.Below.{below, below-at}
 use Rattle.recogniser.specs.declared.Request.{Request}
 use Rattle.recogniser.specs.declared.Request.the-variants.{Nothing}
 use Rattle.recogniser.specs.declared.Recogniser.{Recogniser}
@@ -16,7 +17,7 @@ use Rattle.recogniser.specs.Step.{stepOf}
 use Rattle.damage.specs.Commands.{Command, codeOf}
 use Rattle.damage.specs.CleanStreams.{Item, zeros, zerosBetween, itemBits, streamBits, spaced}
 use Rattle.damage.specs.Traces.{requestsOf, recogniserAfter, quiet, commandTrace, itemTrace, cleanTrace}
-use Rattle.damage.proofs.FiniteFacts.{below, below-at, each, each-at}
+use Rattle.damage.proofs.FiniteFacts.{each, each-at}
 use Rattle.damage.proofs.TracesJoined.{Shows, chain, onward}
 
 -- What a recogniser shows over a few zeros, over five, and over each command behind a few more zeros than the timing table asks after c.

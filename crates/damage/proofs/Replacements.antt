@@ -7,12 +7,13 @@ use Prim.Native.Nat.{ℕ, suc, _-_, _<_, _≤_}
 use native.Mathlib.Omega.{arith}
 use lib.Dec.{ltb, T, ltb→lt, leb→le, nltb→le}
 use Rattle.bits.proofs.Truth.{true-holds, and-right, cond-case}
+use Rattle.bits.proofs.Below.{below, below-at}
 use Rattle.recogniser.specs.declared.Request.{Request}
 use Rattle.damage.specs.Commands.{Command, widthOf, isFastCommand}
 use Rattle.damage.specs.CleanStreams.{Item, itemSize}
 use Rattle.damage.specs.Table.{ownBit, zeroAhead, Replacement, damage, hitsFast, itself, replacementOf}
 use Rattle.damage.specs.Traces.{itemTrace, cleanTrace, damagedItem, damagedTrace}
-use Rattle.damage.proofs.FiniteFacts.{below, below-at, each, each-at}
+use Rattle.damage.proofs.FiniteFacts.{each, each-at}
 
 -- what stands in a command's place for a zero so far ahead of it
 abbrev pub zeroDamage : Command → ℕ → Replacement

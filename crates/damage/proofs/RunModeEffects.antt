@@ -15,7 +15,8 @@ use Rattle.recogniser.specs.declared.Request.{Request}
 use Rattle.recogniser.specs.declared.Request.the-variants.{Nothing, Lv1, Fast, BadFast, Slow}
 use Rattle.recogniser.specs.declared.Recogniser.{Recogniser}
 use Rattle.recogniser.specs.declared.Transition.{Transition}
-use Rattle.recogniser.specs.Parts.{shifted, startOf, idle, moveTo, gatheredOf}
+use Rattle.bits.specs.Bits.{shifted}
+use Rattle.recogniser.specs.Parts.{startOf, idle, moveTo, gatheredOf}
 use Rattle.recogniser.specs.Hunting.{meaningOf, huntBy, isFast}
 use Rattle.recogniser.specs.Step.{stepBy, stepOf}
 use Rattle.registers.specs.declared.Plan.{Plan}

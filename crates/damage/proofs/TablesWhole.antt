@@ -3,10 +3,11 @@
 use mathlib.Core.Path.{_≡_, refl}
 use mathlib.Core.List.{[], _∷_, map}
 use Prim.Native.Nat.{suc}
+use Rattle.bits.proofs.Below.{below}
 use Rattle.damage.specs.Commands.{Command, fasts, widthOf}
 use Rattle.damage.specs.CleanStreams.{zerosBetween, table13, distances}
 use Rattle.damage.specs.Table.{ownBit, zeroAhead, table, rowsFor}
-use Rattle.damage.proofs.FiniteFacts.{below, each, each-at}
+use Rattle.damage.proofs.FiniteFacts.{each, each-at}
 
 -- document 01's sentence and the chip paper's Table 1-3 say the same of all 25 pairs
 pub timing : (c d : Command) → distances table13 c d ≡ zerosBetween c d ∷ []

@@ -18,11 +18,12 @@ use Rattle.recogniser.specs.declared.Meaning.the-variants.{Quiet, Trigger, Head
 use Rattle.recogniser.specs.declared.Request.{Request}
 use Rattle.recogniser.specs.declared.Recogniser.{Recogniser}
 use Rattle.recogniser.specs.declared.Transition.{Transition}
-use Rattle.recogniser.specs.Parts.{shifted, startOf, standing}
+use Rattle.bits.specs.Bits.{shifted}
+use Rattle.recogniser.specs.Parts.{startOf, standing}
 use Rattle.recogniser.specs.Hunting.{isFast, meaningOf, huntBy}
 use Rattle.recogniser.specs.Fields.{isFrame, lengthOf, endsOf, keptOf}
 use Rattle.recogniser.specs.Step.{stepBy, stepOf}
-use Rattle.recogniser.proofs.Shift.{shifted-fits}
+use Rattle.bits.proofs.Shift.{shifted-fits}
 use Rattle.recogniser.proofs.Field5Lengths.{length-most}
 use Rattle.registers.specs.declared.Plan.{Plan}
 use Rattle.registers.specs.declared.Model.{Model}

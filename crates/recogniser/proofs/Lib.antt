@@ -1,4 +1,3 @@
-pub mod Shift
 pub mod Positions
 pub mod Field5Lengths
 pub mod StepByPhase

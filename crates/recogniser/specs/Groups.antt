@@ -1,44 +1,39 @@
--- Frame bits and groups of eight cycles (document 01, "What commands do").
+-- Frame bits and groups of eight cycles (document 01, "What commands do", with the vote of document 02, F-4).
 -- Assumes nothing.
-use mathlib.Core.Bool.{Bool, true, false, cond, not}
+use mathlib.Core.Bool.{Bool, false, cond, _&&_, _||_}
 use Prim.Native.Nat.{ℕ, _+_, _/_, _%_}
 use lib.Dec.{eqb}
+use Rattle.groups.specs.Vote.{voteOf, unsteady}
+use Rattle.groups.specs.Received.{withBit, bitsIn}
 use Rattle.recogniser.specs.declared.FrameBit.{FrameBit}
 use Rattle.recogniser.specs.declared.FrameBit.the-variants.{None, At}
 use Rattle.recogniser.specs.declared.Request.the-variants.{Nothing, Slow}
 use Rattle.recogniser.specs.declared.SlowRequest.the-variants.{Frame}
-use Rattle.recogniser.specs.declared.Group.{Group}
 use Rattle.recogniser.specs.declared.Recogniser.{Recogniser}
 use Rattle.recogniser.specs.declared.Transition.{Transition}
 use Rattle.recogniser.specs.Parts.{idle, transition}
 use Rattle.recogniser.specs.Fields.{endsOf}
 
--- "WrFrontEnd and RdFrontEnd carry each bit for eight cycles." What is held of a group once a cycle's bit has arrived: its first bit.
-abbrev pub groupOf : Group → ℕ → ℕ → Group
-groupOf g count bit = cond (eqb (count % 8) 0) (record { first = eqb bit 1 }) g
+-- "WrFrontEnd and RdFrontEnd carry each bit for eight cycles": whether a cycle, by those of Field 5 before it, is the eighth of its group.
+abbrev pub isEighth : ℕ → Bool
+isEighth count = eqb (count % 8) 7
 
--- "The bit taken is the first of its eight, stored in that cycle." "WrReceiver carries one bit a cycle."
-abbrev pub storesOf : ℕ → ℕ → Bool
-storesOf command count = cond (eqb command 6) true (eqb (count % 8) 0)
+-- What is held of the present group behind a cycle: the bits received of it, and nothing once it is finished.
+abbrev pub groupOf : ℕ → ℕ → ℕ → ℕ
+groupOf group count bit = cond (isEighth count) 0 (withBit group bit)
 
--- The place in its frame of the bit that a cycle belongs to.
-abbrev pub placeOf : ℕ → ℕ → ℕ
-placeOf command count = cond (eqb command 6) count (count / 8)
+-- The frame bit of a cycle. "WrReceiver carries one bit a cycle." A front-end bit is the vote of its group, "stored .. in the eighth cycle".
+abbrev pub frameBitOf : Recogniser → ℕ → FrameBit
+frameBitOf r bit =
+    cond (eqb (r .command) 6) (At (r .count) bit)
+    (cond (isEighth (r .count)) (At (r .count / 8) (voteOf (bitsIn (withBit (r .group) bit))))
+    None)
 
-abbrev pub differ : Bool → Bool → Bool
-differ true b = not b
-differ false b = b
-
--- "A group whose eight differ is unsteady": a group so far was, or the present bit differs from its group's first.
+-- "A group whose eight differ is unsteady": a group of this frame was, or the one that this bit finishes is. A WrReceiver has no groups.
 abbrev pub unsteadyOf : Recogniser → ℕ → Bool
 unsteadyOf r bit =
     cond (eqb (r .command) 6) false
-    (cond (r .unsteady) true
-    (differ (eqb bit 1) (groupOf (r .group) (r .count) bit .first)))
-
--- The frame bit of a cycle.
-abbrev pub frameBitOf : Recogniser → ℕ → FrameBit
-frameBitOf r bit = cond (storesOf (r .command) (r .count)) (At (placeOf (r .command) (r .count)) bit) None
+    (r .unsteady || (isEighth (r .count) && unsteady (bitsIn (withBit (r .group) bit))))
 
 -- Field 5 of a frame.
 abbrev pub frameFieldOf : Recogniser → ℕ → ℕ → Transition

@@ -12,7 +12,8 @@ use Rattle.recogniser.specs.declared.Request.the-variants.{Nothing, Lv1,
 use Rattle.recogniser.specs.declared.SlowRequest.the-variants.{LeaveRunMode}
 use Rattle.recogniser.specs.declared.Recogniser.{Recogniser}
 use Rattle.recogniser.specs.declared.Transition.{Transition}
-use Rattle.recogniser.specs.Parts.{shifted, startOf, idle, moveTo, gatheredOf}
+use Rattle.bits.specs.Bits.{shifted}
+use Rattle.recogniser.specs.Parts.{startOf, idle, moveTo, gatheredOf}
 
 -- "11101 is an exact LV1"; "11100, 11111, 11001, 10101 and 01101 are an LV1 with flip."
 abbrev pub exactLv1 : ℕ

@@ -1,7 +1,7 @@
--- What the phases share: shifting a bit in, starting a phase, one bit more of four.
+-- What the phases share: starting a phase, one bit more of four.
 -- Assumes nothing.
 use mathlib.Core.Bool.{false}
-use Prim.Native.Nat.{ℕ, _+_, _*_, _%_, _^_}
+use Prim.Native.Nat.{ℕ, _+_}
 use Rattle.recogniser.specs.declared.Phase.{Phase}
 use Rattle.recogniser.specs.declared.Phase.the-variants.{Hunt}
 use Rattle.recogniser.specs.declared.FrameBit.the-variants.{None}
@@ -10,10 +10,6 @@ use Rattle.recogniser.specs.declared.Request.the-variants.{Nothing}
 use Rattle.recogniser.specs.declared.Event.{Event}
 use Rattle.recogniser.specs.declared.Recogniser.{Recogniser}
 use Rattle.recogniser.specs.declared.Transition.{Transition}
-
--- "Hunting": a register of so many bits "takes each new bit at its low end and drops its oldest bit".
-abbrev pub shifted : ℕ → ℕ → ℕ → ℕ
-shifted width value bit = (value * 2 + bit) % 2 ^ width
 
 -- At the start of a phase, with what stands in the shift register, Field 3 and Field 4.
 abbrev pub startOf : Phase → ℕ → ℕ → ℕ → Recogniser
@@ -24,7 +20,7 @@ startOf phase shift command address = record {
   command = command;
   address = address;
   held = 0;
-  group = record { first = false };
+  group = 0;
   unsteady = false;
 }
 

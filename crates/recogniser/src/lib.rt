@@ -3,11 +3,12 @@
 ghost use mathlib.Core.Path.{_≡_};
 ghost use mathlib.Core.Bool.{true};
 ghost use Prim.Native.Nat.{_<_};
-ghost use Rattle.recogniser.specs.Parts.{shifted, startOf, moveTo, gatheredOf};
+ghost use Rattle.bits.specs.Bits.{shifted};
+ghost use Rattle.recogniser.specs.Parts.{startOf, moveTo, gatheredOf};
 ghost use Rattle.recogniser.specs.declared.Phase.the-variants.{Hunt};
 ghost use Rattle.recogniser.specs.Hunting.{isLv1, positionOf, meaningOf, isFast, huntBy, huntOf, bodyOf};
 ghost use Rattle.recogniser.specs.Fields.{lengthOf, isSlow, isFrame, keptOf, endsOf, slowRequestOf, field3Of, field4Of, keptFieldOf};
-ghost use Rattle.recogniser.specs.Groups.{groupOf, unsteadyOf, storesOf, placeOf, frameBitOf, frameFieldOf};
+ghost use Rattle.recogniser.specs.Groups.{isEighth, groupOf, unsteadyOf, frameBitOf, frameFieldOf};
 ghost use Rattle.recogniser.specs.Step.{field5Of, stepOf};
 
 // Where the recogniser stands.
@@ -25,11 +26,6 @@ pub enum Meaning {
     // An LV1. `position`: which of its five received bits was hit, from 1; 0 for an exact one.
     Trigger { position: u8 },
     Header,
-}
-
-// What is held of an unfinished front-end group: its first cycle's bit.
-pub struct Group {
-    pub first: bool,
 }
 
 // What one cycle does to the frame: nothing, or a bit at its place.
@@ -89,8 +85,8 @@ pub struct Recogniser {
     pub count: u32,
     // The bits kept of Field 5 so far.
     pub held: u32,
-    // Front-end frames: the present group, and whether one of this frame was unsteady.
-    pub group: Group,
+    // Front-end frames: the bits received of the present group, and whether a finished one of this frame was unsteady.
+    pub group: u8,
     pub unsteady: bool,
 }
 
@@ -245,36 +241,22 @@ fn slow(command: u8, address: u8, value: u32) -> Request
     }
 }
 
-impl Group {
-    // What is held once the bit of the group's cycle, `count % 8`, has arrived.
-    fn with(self, count: u32, bit: u8) -> Group
-        ensures { λ r. ⌜ r ≡ groupOf self count bit ⌝ }
-    {
-        if count % 8 == 0 {
-            return Group { first: bit == 1 };
-        }
-        self
-    }
+// Whether a cycle, by those of Field 5 before it, is the eighth of its group.
+fn is_eighth(count: u32) -> bool
+    ensures { λ r. ⌜ r ≡ isEighth count ⌝ }
+{
+    count % 8 == 7
 }
 
-// Whether a frame bit is stored in this cycle of Field 5.
-fn stores(command: u8, count: u32) -> bool
-    ensures { λ r. ⌜ r ≡ storesOf command count ⌝ }
+// What is held of the present group behind a cycle.
+fn group_with(group: u8, count: u32, bit: u8) -> u8
+    requires { ⌜ bit < 2 ⌝ }
+    ensures { λ r. ⌜ r ≡ groupOf group count bit ⌝ }
 {
-    if command == 6 {
-        return true;
+    if is_eighth(count) {
+        return 0;
     }
-    count % 8 == 0
-}
-
-// The place in its frame of the bit that this cycle belongs to.
-fn place(command: u8, count: u32) -> u32
-    ensures { λ r. ⌜ r ≡ placeOf command count ⌝ }
-{
-    if command == 6 {
-        return count;
-    }
-    count / 8
+    groups::with_bit(group, bit)
 }
 
 impl Transition {
@@ -319,7 +301,7 @@ impl Recogniser {
             command: command,
             address: address,
             held: 0,
-            group: Group { first: false },
+            group: 0,
             unsteady: false,
         }
     }
@@ -437,8 +419,9 @@ impl Recogniser {
         }
     }
 
-    // Whether a group of this frame was unsteady, the present bit included.
+    // Whether a group of this frame was unsteady, the one that this bit finishes included.
     fn unsteady_with(self, bit: u8) -> bool
+        requires { ⌜ bit < 2 ⌝ }
         ensures { λ r. ⌜ r ≡ unsteadyOf self bit ⌝ }
     {
         if self.command == 6 {
@@ -447,19 +430,27 @@ impl Recogniser {
         if self.unsteady {
             return true;
         }
-        let group = self.group;
-        let now = group.with(self.count, bit);
-        (bit == 1) != now.first
+        if is_eighth(self.count) {
+            return groups::is_unsteady(groups::with_bit(self.group, bit));
+        }
+        false
     }
 
     // The frame bit that this cycle stores.
     fn frame_bit(self, bit: u8) -> FrameBit
+        requires { ⌜ bit < 2 ⌝ }
         ensures { λ r. ⌜ r ≡ frameBitOf self bit ⌝ }
     {
-        if stores(self.command, self.count) {
+        if self.command == 6 {
             return FrameBit::At {
-                place: place(self.command, self.count),
+                place: self.count,
                 bit: bit,
+            };
+        }
+        if is_eighth(self.count) {
+            return FrameBit::At {
+                place: self.count / 8,
+                bit: groups::vote(groups::with_bit(self.group, bit)),
             };
         }
         FrameBit::None
@@ -467,6 +458,7 @@ impl Recogniser {
 
     // Field 5 of a frame.
     fn frame_field(self, bit: u8, cnt: u16) -> Transition
+        requires { ⌜ bit < 2 ⌝ }
         ensures { λ r. ⌜ r ≡ frameFieldOf self bit cnt ⌝ }
     {
         let frame = self.frame_bit(bit);
@@ -485,11 +477,9 @@ impl Recogniser {
                 },
             };
         }
-        let g = self.group;
-        let group = g.with(self.count, bit);
         let mut next = self;
         next.unsteady = unsteady;
-        next.group = group;
+        next.group = group_with(self.group, self.count, bit);
         next.count = self.count + 1;
         Transition {
             next: next,

@@ -16,7 +16,8 @@ use Rattle.recogniser.specs.declared.Meaning.the-variants.{Quiet, Trigger, Head
 use Rattle.recogniser.specs.declared.Request.the-variants.{Nothing}
 use Rattle.recogniser.specs.declared.Recogniser.{Recogniser}
 use Rattle.recogniser.specs.declared.Transition.{Transition}
-use Rattle.recogniser.specs.Parts.{shifted, startOf, noEvent, moveTo, gatheredOf}
+use Rattle.bits.specs.Bits.{shifted}
+use Rattle.recogniser.specs.Parts.{startOf, noEvent, moveTo, gatheredOf}
 use Rattle.recogniser.specs.Hunting.{meaningOf, huntBy, bodyOf}
 use Rattle.recogniser.specs.Step.{stepOf}
 use Rattle.recogniser.proofs.Phase.{the-type}

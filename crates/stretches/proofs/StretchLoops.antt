@@ -6,7 +6,7 @@ use mathlib.Core.List.{List, _∷_}
 use Prim.Native.Nat.{ℕ, _+_, _-_, _≤_, _<_}
 use native.Mathlib.Omega.{arith}
 use borrow.Author.Tests.{lt-ltb, le-ltb}
-use Rattle.bits.specs.Bits.{bitOf, bitsOf}
+use Rattle.bits.specs.Bits.{bitOf, bitsOf, shifted}
 use Rattle.bits.specs.declared.Cursor.{Cursor}
 use Rattle.bits.specs.Place.{cursorAt, placeUnder}
 use Rattle.bits.proofs.Places.{Stands, stands, stands-at, bits-left}
@@ -14,7 +14,7 @@ use Rattle.recogniser.specs.declared.Meaning.{Meaning}
 use Rattle.recogniser.specs.declared.Meaning.the-variants.{Quiet, Trigger, Header}
 use Rattle.recogniser.specs.declared.Recogniser.{Recogniser}
 use Rattle.recogniser.specs.declared.Transition.{Transition}
-use Rattle.recogniser.specs.Parts.{shifted, transition, standing}
+use Rattle.recogniser.specs.Parts.{transition, standing}
 use Rattle.recogniser.specs.Hunting.{meaningOf, huntBy, bodyOf}
 use Rattle.recogniser.specs.Step.{stepOf}
 use Rattle.stretches.specs.declared.Stretch.{Stretch}

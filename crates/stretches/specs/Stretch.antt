@@ -12,7 +12,8 @@ use Rattle.recogniser.specs.declared.Meaning.the-variants.{Quiet, Trigger, Head
 use Rattle.recogniser.specs.declared.Request.the-variants.{Nothing, Lv1}
 use Rattle.recogniser.specs.declared.Recogniser.{Recogniser}
 use Rattle.recogniser.specs.declared.Transition.{Transition}
-use Rattle.recogniser.specs.Parts.{shifted, startOf, idle, moveTo}
+use Rattle.bits.specs.Bits.{shifted}
+use Rattle.recogniser.specs.Parts.{startOf, idle, moveTo}
 use Rattle.recogniser.specs.Hunting.{meaningOf, bodyOf}
 use Rattle.recogniser.specs.Step.{stepOf}
 use Rattle.stretches.specs.declared.Stretch.{Stretch}

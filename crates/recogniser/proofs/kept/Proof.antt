@@ -1,6 +1,6 @@
 -- `kept` is Field 5 so far with one bit more, and 0 for a read.
 -- Assumes nothing.
-use Rattle.recogniser.proofs.Shift.{doubled}
+use Rattle.bits.proofs.Shift.{doubled}
 use borrow.Author.Needs.{needs}
 use borrow.Author.Tests.{eq-eqb, ne-eqb}
 use Rattle.recogniser.proofs.kept.Statement.{statement}

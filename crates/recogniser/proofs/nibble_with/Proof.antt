@@ -1,7 +1,7 @@
 -- `nibble_with` is the four bits with the bit shifted in.
 -- Assumes nothing.
 use mathlib.Core.Path.{refl}
-use Rattle.recogniser.proofs.Shift.{masked}
+use Rattle.bits.proofs.Shift.{masked}
 use Rattle.recogniser.proofs.nibble_with.Statement.{statement}
 use Rattle.recogniser.proofs.nibble_with.Tie as tie
 

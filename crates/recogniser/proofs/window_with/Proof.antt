@@ -1,7 +1,7 @@
 -- `window_with` is the window with the bit shifted in, masked to five bits.
 -- Assumes nothing.
 use mathlib.Core.Path.{refl}
-use Rattle.recogniser.proofs.Shift.{masked}
+use Rattle.bits.proofs.Shift.{masked}
 use Rattle.recogniser.proofs.window_with.Statement.{statement}
 use Rattle.recogniser.proofs.window_with.Tie as tie
 

@@ -23,24 +23,26 @@ returns c =
     let e = c .before .before in
     simp (← e .ends .ensures, c .before .if1 .taken, e .before .before .frame-bit .ensures, e .before .unsteady-with .ensures, c .start .ensures)
 
-with-requires : tie.Need-with-requires
-with-requires c κs = search needs
+group-with-requires : tie.Need-group-with-requires
+group-with-requires c κs = search needs
 
 add-next : tie.Need-add-next
 add-next c =
-    let e = c .before .before .before .before in
+    let left = c .before .before in
+    let e = left .before in
     let s = e .before .before .before in
-    count-fits (s .args .self) (s .args .cnt) (s .fits .cnt .fits) (sym (e .ends .ensures) ∙ c .before .before .before .if1 .left)
+    count-fits (s .args .self) (s .args .cnt) (s .fits .cnt .fits) (sym (e .ends .ensures) ∙ left .if1 .left)
 
 returns-2 : tie.Need-returns-2
 returns-2 c =
-    let e = c .before .before .before .before in
+    let left = c .before .before in
+    let e = left .before in
     simp (
       ← e .ends .ensures,
-      c .before .before .before .if1 .left,
+      left .if1 .left,
       e .before .before .frame-bit .ensures,
       e .before .unsteady-with .ensures,
-      c .before .with .ensures,
+      c .before .group-with .ensures,
     )
 
 pub frame-field-spec : {M : Type 1} → statement M
@@ -52,6 +54,6 @@ frame-field-spec =
     ends-requires
     start-requires
     returns
-    with-requires
+    group-with-requires
     add-next
     returns-2)

@@ -1,19 +1,9 @@
--- `unsteady_with` tells whether a group of the frame was unsteady, the present bit included.
+-- `unsteady_with` tells whether a group of the frame was unsteady, the one that this bit finishes included.
 -- Assumes nothing.
-use mathlib.Core.Bool.{Bool, true, false, not, Bool·beq}
-use mathlib.Core.Path.{_≡_, refl}
-use Rattle.recogniser.specs.Groups.{differ}
 use borrow.Author.Needs.{needs}
 use borrow.Author.Tests.{eq-eqb, ne-eqb}
 use Rattle.recogniser.proofs.Recogniser.unsteady_with.Statement.{statement}
 use Rattle.recogniser.proofs.Recogniser.unsteady_with.Tie as tie
-
--- The code's `!=` of two truth values.
-differs : (a b : Bool) → not (Bool·beq a b) ≡ differ a b
-differs true true = refl
-differs true false = refl
-differs false true = refl
-differs false false = refl
 
 returns : tie.Need-returns
 returns c = simp (eq-eqb _ _ (c .if1 .taken))
@@ -21,13 +11,34 @@ returns c = simp (eq-eqb _ _ (c .if1 .taken))
 returns-2 : tie.Need-returns-2
 returns-2 c = simp (ne-eqb _ _ (c .before .if1 .left), c .if2 .taken)
 
-with-requires : tie.Need-with-requires
-with-requires c κs = search needs
+is-eighth-requires : tie.Need-is-eighth-requires
+is-eighth-requires c κs = search needs
+
+with-bit-requires : tie.Need-with-bit-requires
+with-bit-requires c κs = search needs
+
+is-unsteady-requires : tie.Need-is-unsteady-requires
+is-unsteady-requires c κs = search needs
 
 returns-3 : tie.Need-returns-3
 returns-3 c =
-    let c3 = c .before .before .before in
-    simp (ne-eqb _ _ (c3 .before .if1 .left), c3 .if2 .left, ← c .before .with .ensures, differs)
+    let chosen = c .before .before in
+    let asked = chosen .before in
+    let steady = asked .before in
+    simp (
+      ne-eqb _ _ (steady .before .if1 .left),
+      steady .if2 .left,
+      ← asked .is-eighth .ensures,
+      chosen .if3 .taken,
+      ← c .before .with-bit .ensures,
+      c .is-unsteady .ensures,
+    )
+
+returns-4 : tie.Need-returns-4
+returns-4 c =
+    let steady = c .before .before in
+    simp (ne-eqb _ _ (steady .before .if1 .left), steady .if2 .left, ← c .before .is-eighth .ensures, c .if3 .left)
 
 pub unsteady-with-spec : {M : Type 1} → statement M
-unsteady-with-spec = tie.close (tie.spec returns returns-2 with-requires returns-3)
+unsteady-with-spec =
+    tie.close (tie.spec returns returns-2 is-eighth-requires with-bit-requires is-unsteady-requires returns-3 returns-4)

@@ -6,7 +6,7 @@ use native.Mathlib.Nat.{mod-le, mod-lt, mod-mod-of-dvd, dvd-of-mod-eq-zero, one-
 use native.Mathlib.Numerals.{add-one}
 use native.Mathlib.Omega.{arith}
 use lib.Bits.{bitAnd, bitOr, and-mask, or-shifted}
-use Rattle.recogniser.specs.Parts.{shifted}
+use Rattle.bits.specs.Bits.{shifted}
 
 -- The shift of a byte, without its lost bit.
 halved : (v : ℕ) → (v * 2 ^ 1) % 2 ^ 8 ≡ v % 128 * 2 ^ 1
@@ -21,10 +21,11 @@ pub fits-wider : (v count : ℕ) → v < 2 ^ count → v < 2 ^ (count + 1)
 fits-wider v count l = rw (add-one, pow-suc) (omega arith)
 
 module _ (v b : ℕ) (h : b < 2) where
-  joined : bitOr ((v * 2 ^ 1) % 2 ^ 8) b ≡ shifted 8 v b
+  -- A byte shifted left by one with a bit at its low end.
+  pub joined : bitOr ((v * 2 ^ 1) % 2 ^ 8) b ≡ shifted 8 v b
   joined = rw (halved v) (or-shifted (v % 128) 1 b h ∙ omega arith)
 
-  -- A byte shifted left by one with a bit at its low end, masked to a width that divides the byte's.
+  -- The same, masked to a width that divides the byte's.
   pub masked : (width : ℕ) → 2 ^ 8 % 2 ^ width ≡ 0 → bitAnd (bitOr ((v * 2 ^ 1) % 2 ^ 8) b) (2 ^ width - 1) ≡ shifted width v b
   masked width d =
       rw joined

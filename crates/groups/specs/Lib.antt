@@ -1,0 +1,2 @@
+pub mod Vote
+pub mod Received
