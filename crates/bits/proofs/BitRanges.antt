@@ -42,6 +42,14 @@ pub binary-append : (xs ys : List ℕ) → T (binary xs) → T (binary ys) → T
 binary-append [] ys b c = c
 binary-append (x ∷ xs) ys b c = and-both (ltb x 2) (binary (xs ++ ys)) (and-left (ltb x 2) _ b) (binary-append xs ys (and-right (ltb x 2) _ b) c)
 
+pub binary-ahead : (xs ys : List ℕ) → T (binary (xs ++ ys)) → T (binary xs)
+binary-ahead [] ys b = tt
+binary-ahead (x ∷ xs) ys b = and-both (ltb x 2) (binary xs) (and-left (ltb x 2) _ b) (binary-ahead xs ys (and-right (ltb x 2) _ b))
+
+pub binary-behind : (xs ys : List ℕ) → T (binary (xs ++ ys)) → T (binary ys)
+binary-behind [] ys b = b
+binary-behind (x ∷ xs) ys b = binary-behind xs ys (and-right (ltb x 2) (binary (xs ++ ys)) b)
+
 pub bits-binary : (input : List ℕ) (n count first : ℕ) → T (binary (take n (bitsOf input first count)))
 bits-binary input zero count first = tt
 bits-binary input (suc n) zero first = tt

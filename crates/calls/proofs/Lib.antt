@@ -9,4 +9,5 @@ pub mod SlowSteps
 pub mod SoundnessKept
 pub mod RecordsFit
 pub mod FrameTurns
+pub mod FrontEndTurns
 pub mod BitCalls

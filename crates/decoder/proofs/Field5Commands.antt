@@ -1,4 +1,4 @@
--- The commands that have a Field 5, and those that keep its bits, by its length.
+-- The commands that have a Field 5, those that keep its bits, by its length, and those with groups.
 -- Assumes nothing.
 use mathlib.Core.Path.{_≡_, _∙_}
 use mathlib.Core.Bool.{_||_}
@@ -10,7 +10,7 @@ use lib.Dec.{T, leb, eqb, eqb→eq, nleb→lt, lit≤, T-not}
 use Rattle.bits.proofs.Truth.{or-case, or-else, stable}
 use Rattle.recogniser.specs.Fields.{lengthOf}
 use Rattle.recogniser.proofs.Field5Lengths.{length-beyond}
-use Rattle.decoder.specs.Fit.{hasField5, keeps}
+use Rattle.decoder.specs.Fit.{hasField5, keeps, hasGroups}
 
 -- What is kept of a Field 5 is at most 27 bits.
 pub kept-most : (command cnt : ℕ) → T (keeps command) → lengthOf command cnt ≤ 27
@@ -30,3 +30,8 @@ length-has command cnt h =
     or-else (leb command 6) (eqb command 10)
     (λ t. stable (eqb command 10)
     (λ n. omega (arith, length-none command cnt (nleb→lt command 6 t) (λ e. T-not (eqb command 10) n (rw e tt)))))
+
+-- What holds of WrFrontEnd and RdFrontEnd holds of a command that carries each bit for eight cycles.
+pub by-front-end : (P : ℕ → Type 0) (command : ℕ) → T (hasGroups command) → P 4 → P 5 → P command
+by-front-end P command t four five =
+    ⊎-elim (λ e. rw (eqb→eq command 4 e) four) (λ e. rw (eqb→eq command 5 e) five) (or-case (eqb command 4) (eqb command 5) t)

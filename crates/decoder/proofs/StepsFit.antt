@@ -2,26 +2,27 @@
 -- Assumes nothing.
 use mathlib.Core.Path.{_≡_, refl, ap}
 use mathlib.Core.Bool.{Bool, not, _||_}
-use Prim.Native.Nat.{ℕ, _+_, _^_, _<_}
+use Prim.Native.Nat.{ℕ, _+_, _%_, _^_, _<_}
 use native.Mathlib.Omega.{arith}
-use lib.Dec.{T, ltb, eqb, ltb→lt, lt→ltb, nleb→lt}
-use Rattle.bits.proofs.Truth.{cond-case, cond-taken, and-both, and-left, and-right}
+use lib.Dec.{T, ltb, eqb, ltb→lt, lt→ltb, nleb→lt, eqb→eq, T-not}
+use Rattle.bits.proofs.Truth.{cond-case, cond-taken, cond-left, and-both, and-left, and-right}
+use Rattle.groups.specs.Received.{leftBySome}
+use Rattle.groups.proofs.LeftBits.{left-more}
 use Rattle.recogniser.specs.declared.Phase.{Phase}
 use Rattle.recogniser.specs.declared.Phase.the-variants.{Hunt, Body, Field3, Field4, Field5}
 use Rattle.recogniser.specs.declared.Meaning.{Meaning}
 use Rattle.recogniser.specs.declared.Meaning.the-variants.{Quiet, Trigger, Header}
 use Rattle.recogniser.specs.declared.Recogniser.{Recogniser}
-use Rattle.recogniser.specs.declared.Group.{Group}
 use Rattle.recogniser.specs.declared.Transition.{Transition}
 use Rattle.bits.specs.Bits.{shifted}
 use Rattle.recogniser.specs.Parts.{startOf, gatheredOf}
 use Rattle.recogniser.specs.Hunting.{isFast, meaningOf, huntBy, bodyOf}
 use Rattle.recogniser.specs.Fields.{isFrame, lengthOf, endsOf, keptOf, field3Of, field4Of}
-use Rattle.recogniser.specs.Groups.{groupOf, unsteadyOf}
+use Rattle.recogniser.specs.Groups.{isEighth, groupOf, unsteadyOf}
 use Rattle.recogniser.specs.Step.{field5Of, stepBy, stepOf}
 use Rattle.bits.proofs.Shift.{shifted-fits, fits-wider, shifted-grows}
-use Rattle.decoder.specs.Fit.{hasField5, keeps, nibbleFits, field4Fits, heldFits, field5Fits, fitBy, fitOf}
-use Rattle.decoder.proofs.Field5Commands.{length-has}
+use Rattle.decoder.specs.Fit.{hasField5, keeps, hasGroups, nibbleFits, field4Fits, heldFits, field5Fits, fitBy, fitOf}
+use Rattle.decoder.proofs.Field5Commands.{length-has, by-front-end}
 
 -- What the test of Field 5 says.
 record InField5 (r : Recogniser) (cnt : ℕ) : Type 0 where
@@ -29,6 +30,7 @@ record InField5 (r : Recogniser) (cnt : ℕ) : Type 0 where
   address : r .address < 16
   count : r .count < lengthOf (r .command) cnt
   held : T (keeps (r .command)) → r .held < 2 ^ r .count
+  group : T (not (keeps (r .command))) → T (hasGroups (r .command)) → T (leftBySome (r .count % 8) (r .group))
 
 module _ (r : Recogniser) where
   nibble : r .count < 4 → r .shift < 2 ^ r .count → T (nibbleFits r)
@@ -42,7 +44,8 @@ module _ (r : Recogniser) where
       and-both (hasField5 (r .command)) _ (f .has)
       (and-both (ltb (r .address) 16) _ (lt→ltb (r .address) 16 (f .address))
       (and-both (ltb (r .count) (lengthOf (r .command) cnt)) _ (lt→ltb (r .count) _ (f .count))
-      (cond-case T (keeps (r .command)) (λ k. lt→ltb (r .held) (2 ^ r .count) (f .held k)) (λ _. tt))))
+      (cond-case T (keeps (r .command)) (λ k. lt→ltb (r .held) (2 ^ r .count) (f .held k))
+      (λ n. cond-case T (hasGroups (r .command)) (f .group n) (λ _. tt)))))
 
   of-field5 : (cnt : ℕ) → T (field5Fits r cnt) → InField5 r cnt
   of-field5 cnt t =
@@ -54,10 +57,11 @@ module _ (r : Recogniser) where
         address = ltb→lt (r .address) 16 (and-left (ltb (r .address) 16) _ u);
         count = ltb→lt (r .count) _ (and-left (ltb (r .count) (lengthOf (r .command) cnt)) _ v);
         held = λ k. ltb→lt (r .held) (2 ^ r .count) (rw (cond-taken (keeps (r .command)) _ _ k) at w);
+        group = λ n g. rw (cond-left (keeps (r .command)) _ _ n, cond-taken (hasGroups (r .command)) _ _ g) at w;
       }
 
 -- One bit further in Field 5, with what is held then.
-abbrev further : Recogniser → ℕ → Group → Bool → Recogniser
+abbrev further : Recogniser → ℕ → ℕ → Bool → Recogniser
 further r held group unsteady = record {
   phase = r .phase;
   shift = r .shift;
@@ -111,20 +115,22 @@ module _ (r : Recogniser) (bit cnt : ℕ) (b : bit < 2) where
         address = shifted-fits 4 (r .shift) bit;
         count = ltb→lt 0 _ q;
         held = λ _. omega arith;
+        group = λ _ _. tt;
       }))
       (λ _. cond-case (Fit cnt) (isFrame (r .command)) (λ _. tt) (λ _. tt)))
 
   -- Field 5 goes on.
-  goes-on : (held : ℕ) (group : Group) (unsteady : Bool) →
-      T (field5Fits r cnt) → T (not (endsOf r cnt)) → (T (keeps (r .command)) → held < 2 ^ (r .count + 1)) →
+  goes-on : (held group : ℕ) (unsteady : Bool) → T (field5Fits r cnt) → T (not (endsOf r cnt))
+      → (T (keeps (r .command)) → held < 2 ^ (r .count + 1)) → (T (hasGroups (r .command)) → T (leftBySome ((r .count + 1) % 8) group)) →
       T (field5Fits (further r held group unsteady) cnt)
-  goes-on held group unsteady t q k =
+  goes-on held group unsteady t q k g =
       let f = of-field5 r cnt t in
       in-field5 (further r held group unsteady) cnt (record {
         has = f .has;
         address = f .address;
         count = nleb→lt (lengthOf (r .command) cnt) (r .count + 1) q;
         held = k;
+        group = λ _. g;
       })
 
   kept-fits : r .held < 2 ^ r .count → keptOf (r .command) (r .held) bit < 2 ^ (r .count + 1)
@@ -132,16 +138,31 @@ module _ (r : Recogniser) (bit cnt : ℕ) (b : bit < 2) where
       let g = shifted-grows (r .held) bit b 32 (r .count) h in
       cond-case (λ (v : ℕ). v < 2 ^ (r .count + 1)) (eqb (r .command) 1 || eqb (r .command) 3) (λ _. omega arith) (λ _. g)
 
+  -- A group with one bit more; a finished one leaves nothing.
+  group-fits : T (leftBySome (r .count % 8) (r .group)) → T (leftBySome ((r .count + 1) % 8) (groupOf (r .group) (r .count) bit))
+  group-fits t =
+      cond-case (λ (g : ℕ). T (leftBySome ((r .count + 1) % 8) g)) (isEighth (r .count))
+      (λ e.
+      let seven = eqb→eq (r .count % 8) 7 e in
+      let none : (r .count + 1) % 8 ≡ 0 = omega arith in
+      rw none tt)
+      (λ n.
+      let other : r .count % 8 ≡ 7 → ⊥ = λ e. T-not (isEighth (r .count)) n (rw e tt) in
+      let more : (r .count + 1) % 8 ≡ r .count % 8 + 1 = omega arith in
+      rw more (left-more (r .count % 8) (r .group) bit (omega arith) b t))
+
   pub field5-fits : r .phase ≡ Field5 → T (field5Fits r cnt) → Fit cnt (field5Of r bit cnt)
   unfolding fitOf
   field5-fits e t =
-      let h = of-field5 r cnt t .held in
+      let f = of-field5 r cnt t in
+      let h = f .held in
       cond-case (Fit cnt) (isFrame (r .command))
-      (λ _. cond-case (Fit cnt) (endsOf r cnt) (λ _. tt)
+      (λ i. cond-case (Fit cnt) (endsOf r cnt) (λ _. tt)
       (λ q. rw e
-      (goes-on (r .held) (groupOf (r .group) (r .count) bit) (unsteadyOf r bit) t q (λ k. fits-wider (r .held) (r .count) (h k)))))
-      (λ _. cond-case (Fit cnt) (endsOf r cnt) (λ _. tt)
-      (λ q. rw e (goes-on (keptOf (r .command) (r .held) bit) (r .group) (r .unsteady) t q (λ k. kept-fits (h k)))))
+      (goes-on (r .held) (groupOf (r .group) (r .count) bit) (unsteadyOf r bit) t q (λ k. fits-wider (r .held) (r .count) (h k))
+      (λ g. group-fits (f .group (by-front-end (λ c. T (not (keeps c))) (r .command) g tt tt) g)))))
+      (λ i. cond-case (Fit cnt) (endsOf r cnt) (λ _. tt)
+      (λ q. rw e (goes-on (keptOf (r .command) (r .held) bit) (r .group) (r .unsteady) t q (λ k. kept-fits (h k)) (λ g. absurd (T-not (isFrame (r .command)) i (by-front-end (λ c. T (isFrame c)) (r .command) g tt tt))))))
 
 -- The test by the phase.
 pub fit-at : (r : Recogniser) (cnt : ℕ) {p : Phase} → r .phase ≡ p → fitOf r cnt ≡ fitBy p r cnt

@@ -1,8 +1,9 @@
 -- The recogniser's part of a sound state (document 01, "A taking call").
 -- Assumes nothing.
 use mathlib.Core.Bool.{Bool, true, cond, _&&_, _||_}
-use Prim.Native.Nat.{ℕ, _^_}
+use Prim.Native.Nat.{ℕ, _%_, _^_}
 use lib.Dec.{ltb, leb, eqb}
+use Rattle.groups.specs.Received.{leftBySome}
 use Rattle.recogniser.specs.declared.Phase.{Phase}
 use Rattle.recogniser.specs.declared.Phase.the-variants.{Hunt, Body, Field3, Field4, Field5}
 use Rattle.recogniser.specs.declared.Recogniser.{Recogniser}
@@ -23,8 +24,17 @@ nibbleFits r = ltb (r .count) 4 && ltb (r .shift) (2 ^ r .count)
 abbrev pub field4Fits : Recogniser → Bool
 field4Fits r = nibbleFits r && ltb (r .command) 16
 
+-- WrFrontEnd and RdFrontEnd carry each bit for eight cycles. Document 02, F-4: "what is held of an unfinished group is what some bits, as many as its
+-- cycles received, would leave."
+abbrev pub hasGroups : ℕ → Bool
+hasGroups command = eqb command 4 || eqb command 5
+
+abbrev pub groupFits : Recogniser → Bool
+groupFits r = cond (hasGroups (r .command)) (leftBySome (r .count % 8) (r .group)) true
+
+-- What is held of Field 5: its number so far, or a group.
 abbrev pub heldFits : Recogniser → Bool
-heldFits r = cond (keeps (r .command)) (ltb (r .held) (2 ^ r .count)) true
+heldFits r = cond (keeps (r .command)) (ltb (r .held) (2 ^ r .count)) (groupFits r)
 
 -- "The bits received of .. Field 5 are fewer than its length, the variable ones by the present CNT."
 abbrev pub field5Fits : Recogniser → ℕ → Bool

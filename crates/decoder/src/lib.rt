@@ -2,7 +2,7 @@
 ghost use mathlib.Core.Path.{_≡_};
 ghost use Prim.Native.Nat.{_<_, _^_};
 ghost use Rattle.decoder.specs.Opening.{openedAt, openOf, openingNumber};
-ghost use Rattle.decoder.specs.Fit.{hasField5, keeps, nibbleFits, field4Fits, field5Fits, fitOf};
+ghost use Rattle.decoder.specs.Fit.{hasField5, keeps, hasGroups, nibbleFits, field4Fits, field5Fits, fitOf};
 ghost use Rattle.decoder.specs.Sound.{insideSlow, soundOf};
 use recogniser::Phase;
 use recogniser::Recogniser;
@@ -86,6 +86,17 @@ fn keeps_bits(command: u8) -> bool
     }
 }
 
+// Whether the command carries each bit for eight cycles.
+fn has_groups(command: u8) -> bool
+    ensures { λ r. ⌜ r ≡ hasGroups command ⌝ }
+{
+    match command {
+        4 => true,
+        5 => true,
+        _ => false,
+    }
+}
+
 // Whether the bits of a body, Field 3 or Field 4 are fewer than four and fit their width.
 fn nibble_fits(r: Recogniser) -> bool
     ensures { λ o. ⌜ o ≡ nibbleFits r ⌝ }
@@ -120,6 +131,9 @@ fn field5_fits(r: Recogniser, cnt: u16) -> bool
     }
     if keeps_bits(command) {
         return r.held < power(r.count);
+    }
+    if has_groups(command) {
+        return groups::is_left(r.group, r.count % 8);
     }
     true
 }

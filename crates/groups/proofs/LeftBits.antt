@@ -1,18 +1,19 @@
 -- What bits leave behind a number: a whole group's byte has its bits, and so many bits leave exactly the numbers below two to their power.
 -- Assumes nothing.
 use mathlib.Core.Bool.{Bool, _||_}
-use mathlib.Core.List.{List, [], _∷_}
+use mathlib.Core.List.{List, [], _∷_, _++_}
 use mathlib.Core.Logic.{⊎-elim}
 use mathlib.Core.Path.{_≡_, _∙_, refl, sym, ap, ap₂}
 use Prim.Native.Nat.{ℕ, zero, suc, _+_, _*_, _/_, _%_, _^_, _<_, _≤_}
 use native.Mathlib.Nat.{one-le-pow, pow-suc, div-div-eq-div-mul, div-lt-iff-lt-mul}
 use native.Mathlib.Omega.{arith}
-use lib.Dec.{T, eqb, ltb, ltb→lt}
+use lib.Dec.{T, eqb, ltb, ltb→lt, lt→ltb}
 use lib.ListN.{length}
 use lib.Pow.{pow-mono}
 use borrow.Author.Tests.{eq-eqb, ne-eqb, eqb-true, eqb-false, ltb-true, ltb-false}
 use Rattle.bits.proofs.Truth.{cases, or-left, or-right, and-left, and-right}
 use Rattle.bits.proofs.BitRanges.{binary}
+use Rattle.bits.proofs.Shift.{shifted-grows}
 use Rattle.groups.specs.Received.{withBit, bitsIn, leftBy, someBits, leftBySome}
 
 -- One digit less.
@@ -55,6 +56,11 @@ left-digits (bit ∷ bits) held k fits room b =
 -- A whole group's byte has the group's bits.
 pub bits-left : (bits : List ℕ) → length bits ≡ 8 → T (binary bits) → bitsIn (leftBy 0 bits) ≡ bits
 bits-left bits whole b = rw whole at (left-digits bits 0 0 (omega arith) (omega arith) b)
+
+-- The last bit is shifted in last.
+pub left-last : (bits : List ℕ) (held bit : ℕ) → leftBy held (bits ++ (bit ∷ [])) ≡ withBit (leftBy held bits) bit
+left-last [] held bit = refl
+left-last (next ∷ bits) held bit = left-last bits (withBit held next) bit
 
 -- Some bits leave a number exactly where what was held stands ahead of that many digits of it.
 same : (held number : ℕ) → eqb held number ≡ eqb (number / 1) held
@@ -103,3 +109,9 @@ no-digit-above n group =
 
 pub left-below : (n group : ℕ) → n ≤ 8 → leftBySome n group ≡ ltb group (2 ^ n)
 left-below n group room = some-left n 0 0 group (omega arith) (omega arith) ∙ no-digit-above n group
+
+-- One bit more.
+pub left-more : (n group bit : ℕ) → n < 8 → bit < 2 → T (leftBySome n group) → T (leftBySome (n + 1) (withBit group bit))
+left-more n group bit room low t =
+    rw (left-below (n + 1) (withBit group bit) (omega arith))
+    (lt→ltb (withBit group bit) (2 ^ (n + 1)) (shifted-grows group bit low 8 n (ltb→lt group (2 ^ n) (rw (left-below n group (omega arith)) at t))))

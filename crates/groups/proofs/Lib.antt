@@ -1,2 +1,3 @@
 pub mod Ones
 pub mod LeftBits
+pub mod GroupLists

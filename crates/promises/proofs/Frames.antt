@@ -10,7 +10,7 @@ use lib.ListN.{length, length-append, length-set, take}
 use borrow.Author.Tests.{eqb-true, eqb-false, leb-true, lt-leb, le-leb, ne-eqb}
 use Rattle.limits.specs.Limits.{storeLength, trayLength}
 use Rattle.bits.proofs.Truth.{both, cond-most, choice, and-right}
-use Rattle.bits.proofs.BitRanges.{binary}
+use Rattle.bits.proofs.BitRanges.{binary, binary-behind}
 use Rattle.recogniser.specs.declared.Phase.the-variants.{Field5}
 use Rattle.recogniser.specs.declared.Recogniser.{Recogniser}
 use Rattle.recogniser.specs.declared.FrameBit.{FrameBit}
@@ -87,10 +87,6 @@ kept (bit ∷ bits) s =
       tray = k .tray ∙ tray-kept (m .tray) (t .frame);
       model = λ f. k .model (model-fits (m .plan) (m .model) (t .request) (m .next) (m .store) f);
     }
-
-binary-behind : (xs ys : List ℕ) → T (binary (xs ++ ys)) → T (binary ys)
-binary-behind [] ys t = t
-binary-behind (x ∷ xs) ys t = binary-behind xs ys (and-right (ltb x 2) (binary (xs ++ ys)) t)
 
 -- Where a list of calls takes bits, some call is not refused: so the tray has its length.
 abbrev Long : System → List ℕ → Type 0

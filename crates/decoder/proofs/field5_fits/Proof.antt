@@ -5,17 +5,20 @@ use mathlib.Core.Path.{_≡_, sym, _∙_}
 use borrow.Author.Needs.{needs}
 use borrow.Author.Tests.{lt-ltb, le-ltb, not-true, not-false}
 use native.Mathlib.Omega.{arith}
-use Rattle.decoder.specs.Fit.{hasField5, heldFits, field5Fits}
+use Rattle.decoder.specs.Fit.{hasField5, groupFits, heldFits, field5Fits}
 use Rattle.decoder.proofs.Field5Commands.{kept-most}
 use Rattle.decoder.proofs.field5_fits.Statement.{statement}
 use Rattle.decoder.proofs.field5_fits.Tie as tie
 
--- The places looked back to, each by the one after it: past the command's test, the address's and the count's.
+-- The places looked back to, each by the one after it: past the command's test, the address's, the count's, and that bits are kept.
 abbrev named : tie.Else2 → tie.Else1
 named c = c .before .before
 
 abbrev addressed : tie.Else3 → tie.Else2
 addressed c = c .before .before .before
+
+abbrev kept : tie.Else4 → tie.Else3
+kept c = c .before .before
 
 abbrev start : tie.Else1 → tie.Start
 start c = c .before .before
@@ -28,6 +31,10 @@ held-decides : (c : tie.Else3) → let a = start (named (addressed c)) .args in 
 held-decides c =
     let d = addressed c in
     simp (has (named d), lt-ltb _ _ (d .if2 .left), ← c .before .before .length .ensures, lt-ltb _ _ (c .if3 .left))
+
+-- Where no bits are kept, the group decides.
+groups-decide : (c : tie.Else4) → let a = start (named (addressed (kept c))) .args in field5Fits (a .r) (a .cnt) ≡ groupFits (a .r)
+groups-decide c = held-decides (kept c) ∙ simp (← c .before .keeps-bits .ensures, c .if4 .left)
 
 has-field5-requires : tie.Need-has-field5-requires
 has-field5-requires c κs = search needs
@@ -59,8 +66,19 @@ returns-4 c =
     let k = c .before .before .before in
     sym (held-decides (k .before) ∙ simp (← k .keeps-bits .ensures, c .before .before .if4 .taken, c .before .power .ensures))
 
+has-groups-requires : tie.Need-has-groups-requires
+has-groups-requires c κs = search needs
+
+is-left-requires : tie.Need-is-left-requires
+is-left-requires c κs = omega arith
+
 returns-5 : tie.Need-returns-5
-returns-5 c = sym (held-decides (c .before .before) ∙ simp (← c .before .keeps-bits .ensures, c .if4 .left))
+returns-5 c =
+    let g = c .before .before .before in
+    sym (groups-decide (g .before) ∙ simp (← g .has-groups .ensures, c .before .before .if5 .taken, c .is-left .ensures))
+
+returns-6 : tie.Need-returns-6
+returns-6 c = sym (groups-decide (c .before .before) ∙ simp (← c .before .has-groups .ensures, c .if5 .left))
 
 pub field5-fits-spec : {M : Type 1} → statement M
 field5-fits-spec =
@@ -74,4 +92,7 @@ field5-fits-spec =
     keeps-bits-requires
     power-requires
     returns-4
-    returns-5)
+    has-groups-requires
+    is-left-requires
+    returns-5
+    returns-6)
