@@ -47,7 +47,7 @@ module _ (command address place : ℕ) (part : List ℕ) (u : Bool) where
     -- one bit more of an unfinished group
     group-on : length part < 7 → (n : ℕ) (bits : List ℕ) (m : Machine) → count + 1 < lengthOf command (cntAt m)
         → FrameTaken command place (votesOf n ((part ++ (bit ∷ [])) ++ bits)) (u || someUnsteady n ((part ++ (bit ∷ [])) ++ bits)) bits
-          (system (at command address (8 * place + length (part ++ (bit ∷ []))) (leftBy 0 (part ++ (bit ∷ []))) u) (moved None m))
+        (system (at command address (8 * place + length (part ++ (bit ∷ []))) (leftBy 0 (part ++ (bit ∷ []))) u) (moved None m))
         → Taken n (bit ∷ bits) m
     unfolding trayOf
     group-on early n bits m more f =
@@ -90,7 +90,7 @@ module _ (command address place : ℕ) (part : List ℕ) (u : Bool) where
 
       pub group-done : (n : ℕ) (bits : List ℕ) (m : Machine) → count + 1 < lengthOf command (cntAt m)
           → FrameTaken command (place + 1) (votesOf n bits) ((u || unsteady (part ++ (bit ∷ []))) || someUnsteady n bits) bits
-            (behind m)
+          (behind m)
           → Taken (suc n) (bit ∷ bits) m
       unfolding trayOf
       group-done n bits m more f =

@@ -9,9 +9,11 @@ use native.Mathlib.Omega.{arith}
 use lib.Dec.{T, ltb, leb, eqb, ltb→lt, leb→le, eqb→eq}
 use lib.ListN.{length, take}
 use borrow.Author.Tests.{leb-true, not-false}
+use Rattle.limits.specs.Limits.{clockLimit}
 use Rattle.bits.specs.Bits.{bitOf, bitsOf, shifted}
 use Rattle.bits.specs.Range.{rangeFits}
 use Rattle.bits.proofs.Truth.{choice, cond-case, and-left, and-right, or-case}
+use Rattle.bits.proofs.Shift.{shifted-fits}
 use Rattle.recogniser.specs.declared.Phase.{Phase}
 use Rattle.recogniser.specs.declared.Phase.the-variants.{Hunt, Body, Field3, Field4, Field5}
 use Rattle.recogniser.specs.declared.Recogniser.{Recogniser}
@@ -19,13 +21,11 @@ use Rattle.recogniser.specs.declared.Transition.{Transition}
 use Rattle.recogniser.specs.Hunting.{isLv1, meaningOf, huntBy, isFast}
 use Rattle.recogniser.specs.Fields.{isSlow, isFrame, lengthOf, endsOf}
 use Rattle.recogniser.specs.Step.{stepBy, stepOf}
-use Rattle.bits.proofs.Shift.{shifted-fits}
 use Rattle.recogniser.proofs.Positions.{position-low}
 use Rattle.decoder.specs.declared.Decoder.{Decoder}
 use Rattle.decoder.specs.Fit.{hasField5, nibbleFits, fitBy, fitOf}
 use Rattle.decoder.specs.Sound.{soundOf}
 use Rattle.decoder.proofs.Soundness.{sound-parts}
-use Rattle.limits.specs.Limits.{clockLimit}
 use Rattle.controller.specs.Records.{wordsOf}
 use Rattle.controller.specs.Widths.{ModelFits, Narrow, WordsFit}
 use Rattle.controller.proofs.EffectKeeps.{model-fits}

@@ -4,6 +4,7 @@ use mathlib.Core.Bool.{false}
 use mathlib.Core.Path.{_≡_, refl}
 use Prim.Native.Nat.{ℕ}
 use lib.Dec.{T, ltb, eqb}
+use Rattle.bits.specs.Bits.{shifted}
 use Rattle.bits.proofs.Truth.{cond-case}
 use Rattle.recogniser.specs.declared.Phase.{Phase}
 use Rattle.recogniser.specs.declared.Phase.the-variants.{Hunt, Body, Field3, Field4, Field5}
@@ -15,7 +16,6 @@ use Rattle.recogniser.specs.declared.Request.the-variants.{Nothing, Slow}
 use Rattle.recogniser.specs.declared.SlowRequest.the-variants.{LeaveRunMode}
 use Rattle.recogniser.specs.declared.Recogniser.{Recogniser}
 use Rattle.recogniser.specs.declared.Transition.{Transition}
-use Rattle.bits.specs.Bits.{shifted}
 use Rattle.recogniser.specs.Parts.{idle, transition}
 use Rattle.recogniser.specs.Hunting.{isFast, meaningOf, huntBy}
 use Rattle.recogniser.specs.Fields.{isFrame, lengthOf, endsOf}

@@ -5,7 +5,9 @@ use mathlib.Core.Bool.{Bool, not, _||_}
 use Prim.Native.Nat.{ℕ, _+_, _%_, _^_, _<_}
 use native.Mathlib.Omega.{arith}
 use lib.Dec.{T, ltb, eqb, ltb→lt, lt→ltb, nleb→lt, eqb→eq, T-not}
+use Rattle.bits.specs.Bits.{shifted}
 use Rattle.bits.proofs.Truth.{cond-case, cond-taken, cond-left, and-both, and-left, and-right}
+use Rattle.bits.proofs.Shift.{shifted-fits, fits-wider, shifted-grows}
 use Rattle.groups.specs.Received.{leftBySome}
 use Rattle.groups.proofs.LeftBits.{left-more}
 use Rattle.recogniser.specs.declared.Phase.{Phase}
@@ -14,13 +16,11 @@ use Rattle.recogniser.specs.declared.Meaning.{Meaning}
 use Rattle.recogniser.specs.declared.Meaning.the-variants.{Quiet, Trigger, Header}
 use Rattle.recogniser.specs.declared.Recogniser.{Recogniser}
 use Rattle.recogniser.specs.declared.Transition.{Transition}
-use Rattle.bits.specs.Bits.{shifted}
 use Rattle.recogniser.specs.Parts.{startOf, gatheredOf}
 use Rattle.recogniser.specs.Hunting.{isFast, meaningOf, huntBy, bodyOf}
 use Rattle.recogniser.specs.Fields.{isFrame, lengthOf, endsOf, keptOf, field3Of, field4Of}
 use Rattle.recogniser.specs.Groups.{isEighth, groupOf, unsteadyOf}
 use Rattle.recogniser.specs.Step.{field5Of, stepBy, stepOf}
-use Rattle.bits.proofs.Shift.{shifted-fits, fits-wider, shifted-grows}
 use Rattle.decoder.specs.Fit.{hasField5, keeps, hasGroups, nibbleFits, field4Fits, heldFits, field5Fits, fitBy, fitOf}
 use Rattle.decoder.proofs.Field5Commands.{length-has, by-front-end}
 

@@ -99,7 +99,7 @@ read-widths image = record {
           omega arith,
           (
             tt,
-            (omega arith, (omega arith, (omega arith, (omega arith, (omega arith, (omega arith, (tt, tt))))))),
+            (omega arith, (omega arith, (omega arith, (omega arith, (omega arith, (omega arith, (omega arith, (tt, tt)))))))),
           ),
         ),
       ),

@@ -43,7 +43,7 @@ scalars =
     ∷ number "address" (bits 8) (λ d. d .recogniser .address)
     ∷ number "count" (bits 32) (λ d. d .recogniser .count)
     ∷ number "held" (bits 32) (λ d. d .recogniser .held)
-    ∷ flag "first" (λ d. d .recogniser .group .first)
+    ∷ number "group" (bits 8) (λ d. d .recogniser .group)
     ∷ flag "unsteady" (λ d. d .recogniser .unsteady)
     ∷ flag "running" (λ d. d .model .running)
     ∷ number "l1id" (bits 8) (λ d. d .model .counters .l1id)
@@ -120,7 +120,7 @@ recogniserFrom p of = record {
   address = one (of "address");
   count = one (of "count");
   held = one (of "held");
-  group = record { first = on (of "first") };
+  group = one (of "group");
   unsteady = on (of "unsteady");
 }
 

@@ -6,7 +6,6 @@ ghost use lib.Seq.{sets};
 ghost use Rattle.image.specs.Fields.{bits, phaseNumber, phaseOf, planFrom, recogniserFrom, modelFrom};
 ghost use Rattle.image.specs.Image.{imageLength, wordPlace, scalarsOf, imageOf, lowWords, numbersOf, stateOf, sameWords, imageFits};
 use decoder::Decoder;
-use recogniser::Group;
 use recogniser::Phase;
 use recogniser::Recogniser;
 use registers::Counters;
@@ -16,7 +15,7 @@ use registers::Pointers;
 use registers::Warnings;
 
 // The number of this layout; another layout takes another.
-const LAYOUT: u64 = 1;
+const LAYOUT: u64 = 2;
 
 // Where each field stands, by the order of the fields.
 const MASK: usize = 1;
@@ -41,9 +40,9 @@ const COUNT: usize = ADDRESS + 1;
 
 const HELD: usize = COUNT + 1;
 
-const FIRST: usize = HELD + 1;
+const GROUP: usize = HELD + 1;
 
-const UNSTEADY: usize = FIRST + 1;
+const UNSTEADY: usize = GROUP + 1;
 
 const RUNNING: usize = UNSTEADY + 1;
 
@@ -96,7 +95,6 @@ fn scalars(d: Decoder, phase: u64) -> [u64; REGISTERS]
 {
     let plan = d.plan;
     let recogniser = d.recogniser;
-    let group = recogniser.group;
     let model = d.model;
     let counters = model.counters;
     let warnings = model.warnings;
@@ -113,7 +111,7 @@ fn scalars(d: Decoder, phase: u64) -> [u64; REGISTERS]
         recogniser.address as u64,
         recogniser.count as u64,
         recogniser.held as u64,
-        group.first as u64,
+        recogniser.group as u64,
         recogniser.unsteady as u64,
         model.running as u64,
         counters.l1id as u64,
@@ -228,9 +226,7 @@ fn recogniser_at(image: &[u64], phase: Phase) -> Recogniser
         address: (image[ADDRESS] % 256) as u8,
         count: (image[COUNT] % 4294967296) as u32,
         held: (image[HELD] % 4294967296) as u32,
-        group: Group {
-            first: image[FIRST] % 2 == 1,
-        },
+        group: (image[GROUP] % 256) as u8,
         unsteady: image[UNSTEADY] % 2 == 1,
     }
 }

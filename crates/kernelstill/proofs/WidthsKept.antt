@@ -10,7 +10,9 @@ use lib.Dec.{T, ltb, eqb, ltb→lt, nleb→lt}
 use lib.ListN.{length, getD, set, length-set, getD-replicate, List·getD-eq-default}
 use lib.Seq.{getD-set-same, getD-set-other}
 use borrow.Author.Tests.{ltb-true, ltb-false, eqb-true, eqb-false}
+use Rattle.bits.specs.Bits.{shifted}
 use Rattle.bits.proofs.Truth.{cases, choice, cond-case}
+use Rattle.bits.proofs.Shift.{shifted-fits}
 use Rattle.recogniser.specs.declared.Phase.{Phase}
 use Rattle.recogniser.specs.declared.Phase.the-variants.{Hunt, Body, Field3, Field4, Field5}
 use Rattle.recogniser.specs.declared.Meaning.{Meaning}
@@ -18,12 +20,11 @@ use Rattle.recogniser.specs.declared.Meaning.the-variants.{Quiet, Trigger, Head
 use Rattle.recogniser.specs.declared.Request.{Request}
 use Rattle.recogniser.specs.declared.Recogniser.{Recogniser}
 use Rattle.recogniser.specs.declared.Transition.{Transition}
-use Rattle.bits.specs.Bits.{shifted}
 use Rattle.recogniser.specs.Parts.{startOf, standing}
 use Rattle.recogniser.specs.Hunting.{isFast, meaningOf, huntBy}
 use Rattle.recogniser.specs.Fields.{isFrame, lengthOf, endsOf, keptOf}
+use Rattle.recogniser.specs.Groups.{isEighth, groupOf}
 use Rattle.recogniser.specs.Step.{stepBy, stepOf}
-use Rattle.bits.proofs.Shift.{shifted-fits}
 use Rattle.recogniser.proofs.Field5Lengths.{length-most}
 use Rattle.registers.specs.declared.Plan.{Plan}
 use Rattle.registers.specs.declared.Model.{Model}
@@ -50,15 +51,16 @@ record Narrow (r : Recogniser) : Type 0 where
   address : r .address < 2 ^ 8
   count : r .count < 2 ^ 32
   held : r .held < 2 ^ 32
+  group : r .group < 2 ^ 8
 
 abbrev NarrowNext : Transition → Type 0
 NarrowNext h = Narrow (h .next)
 
 start-narrow : (p : Phase) → Narrow (startOf p 0 0 0)
-start-narrow p = record { shift = omega arith; command = omega arith; address = omega arith; count = omega arith; held = omega arith }
+start-narrow p = record { shift = omega arith; command = omega arith; address = omega arith; count = omega arith; held = omega arith; group = omega arith }
 
 hunt-narrow : (w : ℕ) → w < 32 → (m : Meaning) → NarrowNext (huntBy w m)
-hunt-narrow w h Quiet = record { shift = omega arith; command = omega arith; address = omega arith; count = omega arith; held = omega arith }
+hunt-narrow w h Quiet = record { shift = omega arith; command = omega arith; address = omega arith; count = omega arith; held = omega arith; group = omega arith }
 hunt-narrow w h (Trigger position) = start-narrow Hunt
 hunt-narrow w h Header = start-narrow Body
 
@@ -68,7 +70,7 @@ module _ (r : Recogniser) (bit cnt : ℕ) (low : cnt < 2 ^ 16) (n : Narrow r) wh
   gathered-narrow t =
       let few = ltb→lt (r .count) 3 t in
       let s = shifted-fits 4 (r .shift) bit in
-      record { shift = omega arith; command = n .command; address = n .address; count = omega arith; held = n .held }
+      record { shift = omega arith; command = n .command; address = n .address; count = omega arith; held = n .held; group = n .group }
 
   further : T (not (endsOf r cnt)) → r .count + 1 < 2 ^ 32
   further t = omega (arith, nleb→lt (lengthOf (r .command) cnt) (r .count + 1) t, length-most (r .command) cnt low)
@@ -82,23 +84,26 @@ module _ (r : Recogniser) (bit cnt : ℕ) (low : cnt < 2 ^ 16) (n : Narrow r) wh
   phase-narrow Field3 =
       let s = shifted-fits 4 (r .shift) bit in
       cond-case NarrowNext (ltb (r .count) 3) gathered-narrow
-      (λ _. record { shift = omega arith; command = omega arith; address = omega arith; count = omega arith; held = omega arith })
+      (λ _. record { shift = omega arith; command = omega arith; address = omega arith; count = omega arith; held = omega arith; group = omega arith })
   phase-narrow Field4 =
       let s = shifted-fits 4 (r .shift) bit in
       cond-case NarrowNext (ltb (r .count) 3) gathered-narrow
       (λ _. cond-case NarrowNext (ltb 0 (lengthOf (r .command) cnt))
-      (λ _. record { shift = omega arith; command = n .command; address = omega arith; count = omega arith; held = omega arith })
+      (λ _. record { shift = omega arith; command = n .command; address = omega arith; count = omega arith; held = omega arith; group = omega arith })
       (λ _. cond-case NarrowNext (isFrame (r .command)) (λ _. start-narrow Hunt) (λ _. start-narrow Hunt)))
   phase-narrow Field5 =
       cond-case NarrowNext (isFrame (r .command))
       (λ _. cond-case NarrowNext (endsOf r cnt) (λ _. start-narrow Hunt)
-      (λ t. record { shift = n .shift; command = n .command; address = n .address; count = further t; held = n .held }))
+      (λ t. record { shift = n .shift; command = n .command; address = n .address; count = further t; held = n .held; group = group-low }))
       (λ _. cond-case NarrowNext (endsOf r cnt) (λ _. start-narrow Hunt)
-      (λ t. record { shift = n .shift; command = n .command; address = n .address; count = further t; held = kept-low }))
+      (λ t. record { shift = n .shift; command = n .command; address = n .address; count = further t; held = kept-low; group = n .group }))
     where
       kept-low : keptOf (r .command) (r .held) bit < 2 ^ 32
       kept-low =
           choice (λ v. v < 2 ^ 32) (eqb (r .command) 1 || eqb (r .command) 3) (λ _. omega arith) (λ _. shifted-fits 32 (r .held) bit)
+
+      group-low : groupOf (r .group) (r .count) bit < 2 ^ 8
+      group-low = choice (λ v. v < 2 ^ 8) (isEighth (r .count)) (λ _. omega arith) (λ _. shifted-fits 8 (r .group) bit)
 
   step-narrow : NarrowNext (stepOf r bit cnt)
   unfolding stepOf
@@ -183,10 +188,10 @@ register-low registers k n =
 narrow-of : (d : Decoder) → Widths d → Narrow (d .recogniser)
 narrow-of d w =
     let r = w .numbers .1 .1 .1 .1 .1 in
-    record { shift = r .0; command = r .1 .0; address = r .1 .1 .0; count = r .1 .1 .1 .0; held = r .1 .1 .1 .1 .0 }
+    record { shift = r .0; command = r .1 .0; address = r .1 .1 .0; count = r .1 .1 .1 .0; held = r .1 .1 .1 .1 .0; group = r .1 .1 .1 .1 .1 .0 }
 
 pub model-widths : (d : Decoder) → Widths d → ModelFits (d .model)
-model-widths d w = record { l1id = w .numbers .1 .1 .1 .1 .1 .1 .1 .1 .1 .1 .0; each-register = register-low (d .model .registers) (w .arrays .0) }
+model-widths d w = record { l1id = w .numbers .1 .1 .1 .1 .1 .1 .1 .1 .1 .1 .1 .0; each-register = register-low (d .model .registers) (w .arrays .0) }
 
 kept-of : (d : Decoder) (store tray : List ℕ) → Widths d → Kept (systemOf d store tray)
 kept-of d store tray w = record {
@@ -210,7 +215,7 @@ widths-of d plan w s k e =
               rw e (p .1 .1 .1 .0),
               (
                 tt,
-                (r .shift, (r .command, (r .address, (r .count, (r .held, (k .model .l1id, (tt, tt))))))),
+                (r .shift, (r .command, (r .address, (r .count, (r .held, (r .group, (k .model .l1id, (tt, tt)))))))),
               ),
             ),
           ),

@@ -3,13 +3,13 @@
 use mathlib.Core.Bool.{Bool, false, cond, _&&_, _||_}
 use Prim.Native.Nat.{ℕ, _+_, _*_, _/_, _%_, _^_}
 use lib.Dec.{ltb, leb, eqb}
+use Rattle.bits.specs.Bits.{shifted}
 use Rattle.recogniser.specs.declared.Phase.the-variants.{Field4, Field5}
 use Rattle.recogniser.specs.declared.Request.{Request}
 use Rattle.recogniser.specs.declared.Request.the-variants.{Nothing, Slow}
 use Rattle.recogniser.specs.declared.SlowRequest.the-variants.{Command, Bad, Frame}
 use Rattle.recogniser.specs.declared.Recogniser.{Recogniser}
 use Rattle.recogniser.specs.declared.Transition.{Transition}
-use Rattle.bits.specs.Bits.{shifted}
 use Rattle.recogniser.specs.Parts.{startOf, idle, moveTo, gatheredOf}
 
 -- The values of Field 3 that name a command: 0 to 6 and 8 to 10. "Other values of Field 3 are a bad Slow."

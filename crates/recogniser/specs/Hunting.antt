@@ -5,6 +5,7 @@ use mathlib.Core.List.{List, [], _∷_}
 use Prim.Native.Nat.{ℕ, _-_, _/_, _%_, _^_}
 use lib.Dec.{ltb, eqb}
 use lib.ListN.{getD}
+use Rattle.bits.specs.Bits.{shifted}
 use Rattle.recogniser.specs.declared.Phase.the-variants.{Hunt, Body, Field3}
 use Rattle.recogniser.specs.declared.Meaning.{Meaning}
 use Rattle.recogniser.specs.declared.Meaning.the-variants.{Quiet, Trigger, Header}
@@ -12,7 +13,6 @@ use Rattle.recogniser.specs.declared.Request.the-variants.{Nothing, Lv1,
 use Rattle.recogniser.specs.declared.SlowRequest.the-variants.{LeaveRunMode}
 use Rattle.recogniser.specs.declared.Recogniser.{Recogniser}
 use Rattle.recogniser.specs.declared.Transition.{Transition}
-use Rattle.bits.specs.Bits.{shifted}
 use Rattle.recogniser.specs.Parts.{startOf, idle, moveTo, gatheredOf}
 
 -- "11101 is an exact LV1"; "11100, 11111, 11001, 10101 and 01101 are an LV1 with flip."

@@ -8,6 +8,7 @@ use lib.Dec.{ltb}
 use lib.ListN.{length}
 use types.Run.{OneOf, miss}
 use denote.Enum.Declared.{tagOf}
+use Rattle.bits.specs.Bits.{shifted}
 use Rattle.bits.proofs.Truth.{cond-case, cond-taken}
 use Rattle.recogniser.specs.declared.Phase.{Phase}
 use Rattle.recogniser.specs.declared.Phase.the-variants.{Hunt, Body, Field3, Field4, Field5}
@@ -16,7 +17,6 @@ use Rattle.recogniser.specs.declared.Meaning.the-variants.{Quiet, Trigger, Head
 use Rattle.recogniser.specs.declared.Request.the-variants.{Nothing}
 use Rattle.recogniser.specs.declared.Recogniser.{Recogniser}
 use Rattle.recogniser.specs.declared.Transition.{Transition}
-use Rattle.bits.specs.Bits.{shifted}
 use Rattle.recogniser.specs.Parts.{startOf, noEvent, moveTo, gatheredOf}
 use Rattle.recogniser.specs.Hunting.{meaningOf, huntBy, bodyOf}
 use Rattle.recogniser.specs.Step.{stepOf}
