@@ -112,8 +112,11 @@ extern "C" {
  * words below 2^27, RdFifo reads the low 27 bits.
  *
  * The tray: a frame's first bit is the highest of byte 0, and each byte is
- * zeroed as its first bit arrives. A frame stands there whole if the tray was
- * carried over from the frame's first bit on, and until the next call.
+ * zeroed as its first bit is stored. A front-end bit is stored in the last of
+ * its eight cycles: 1 with five ones or more among them, 0 with three or
+ * fewer, and with four what the first one has. A frame stands there whole if
+ * the tray was carried over from the frame's first bit on, and until the next
+ * call.
  *
  * Both may hold anything at an opening; a module's FIFO words start at 0.
  *
@@ -130,14 +133,15 @@ extern "C" {
  * 1 to 3, COUNT is below 4 and SHIFT below 2^COUNT; in phase 3, COMMAND is
  * below 16; in phase 4, COMMAND is 0 to 6 or 10, ADDRESS is below 16, COUNT is
  * below the length of Field 5, which for commands 4 to 6 goes by the register
- * CNT, and HELD is below 2^COUNT for the commands that use it. Every state
- * that an opening or a taking call wrote is sound.
+ * CNT, HELD is below 2^COUNT for the commands that use it, and for commands 4
+ * and 5 GROUP is below 2^(COUNT modulo 8). Every state that an opening or a
+ * taking call wrote is sound.
  *
  * Words 7 to 13 are the recogniser's. What those hold that the present phase
  * does not use means nothing. From an opening on they are 0 there, but for
  * word 12, which changes inside a WrReceiver too.
  */
-#define KERNELSTILL_LAYOUT 1
+#define KERNELSTILL_LAYOUT 2
 #define KERNELSTILL_AT_LAYOUT 0    /* KERNELSTILL_LAYOUT */
 #define KERNELSTILL_AT_MASK 1      /* the plan: the addresses that exist, 16 bits; bit n for address n */
 #define KERNELSTILL_AT_CSR 2       /* the address of CSR, 8 bits */
@@ -150,8 +154,8 @@ extern "C" {
 #define KERNELSTILL_AT_ADDRESS 9   /* in Field 5, Field 4; 8 bits */
 #define KERNELSTILL_AT_COUNT 10    /* how many bits of the present body or field are received, 32 bits */
 #define KERNELSTILL_AT_HELD 11     /* in Field 5 of WrRegister, WrFifo and GlobalResetFE, its bits so far; 32 bits */
-#define KERNELSTILL_AT_FIRST 12    /* in a front-end frame, the first bit of the last group begun; 0 or 1 */
-#define KERNELSTILL_AT_UNSTEADY 13 /* in a front-end frame, whether one of its groups was unsteady; 0 or 1 */
+#define KERNELSTILL_AT_GROUP 12    /* in a front-end frame, the bits received of the present group, the last one lowest; 8 bits */
+#define KERNELSTILL_AT_UNSTEADY 13 /* in a front-end frame, whether one of its finished groups was unsteady; 0 or 1 */
 #define KERNELSTILL_AT_RUN_MODE 14 /* RunMode, 0 or 1 */
 #define KERNELSTILL_AT_L1ID 15     /* the trigger number, 8 bits */
 #define KERNELSTILL_AT_BASE 16     /* the cycle from which the bunch number counts, 64 bits */

@@ -58,6 +58,68 @@ pub fn flipped_commands_at(at: Addresses, random: &mut Random, count: usize) -> 
     stream
 }
 
+/// How the cycles of a front-end group differ.
+#[derive(Clone, Copy, Debug, PartialEq, Eq)]
+pub enum Noise {
+    /// The first cycle still has the bit before.
+    Late,
+    /// One cycle in so many is wrong.
+    Cycles(u64),
+    /// Any eight cycles.
+    Any,
+}
+
+/// Whole commands by the default plan, with noisy front-end frames.
+pub fn noisy_commands(noise: Noise, random: &mut Random, count: usize) -> Stream {
+    noisy_commands_at(Addresses::DEFAULT, noise, random, count)
+}
+
+/// The same by any plan. One in four is a front-end frame with noise, by a CNT
+/// of its own.
+pub fn noisy_commands_at(at: Addresses, noise: Noise, random: &mut Random, count: usize) -> Stream {
+    let mut stream = Stream::new().en_data_take();
+    let mut cnt = 0;
+    for _ in 0..count {
+        stream = stream.zeros(gap(random));
+        stream = if random.one_in(4) {
+            cnt = random.word() as u16 & [0x003F, 0x003F, 0x0007, 0x01FF][random.below(4) as usize];
+            let field3 = [code::WR_FRONT_END, code::RD_FRONT_END][random.below(2) as usize];
+            let groups = noisy_groups(noise, random, code::front_end_bits(cnt));
+            stream.wr_register(at.cnt, cnt).groups(field3, &groups)
+        } else {
+            command(stream, at, random, &mut cnt)
+        };
+    }
+    stream
+}
+
+/// The groups of so many front-end bits, the first cycle highest.
+pub fn noisy_groups(noise: Noise, random: &mut Random, count: u32) -> Vec<u8> {
+    let steady = |bit: bool| if bit { 0xFF } else { 0x00 };
+    match noise {
+        Noise::Late => late_groups(&bits(random, count)),
+        Noise::Cycles(n) => {
+            let wrong = |random: &mut Random| {
+                (0..8).fold(0, |wrong, _| wrong << 1 | u8::from(random.one_in(n)))
+            };
+            let bits = bits(random, count).into_iter();
+            bits.map(|bit| steady(bit) ^ wrong(random)).collect()
+        }
+        Noise::Any => (0..count).map(|_| random.word() as u8).collect(),
+    }
+}
+
+/// The groups of a line that follows its driver a cycle late: the first cycle
+/// of each has the bit before, and 0 ahead of the first bit.
+pub fn late_groups(bits: &[bool]) -> Vec<u8> {
+    let before = [false].into_iter().chain(bits.iter().copied());
+    let group = |(before, &bit): (bool, &bool)| {
+        let (first, rest) = (u8::from(before) * 0x80, u8::from(bit) * 0x7F);
+        first | rest
+    };
+    before.zip(bits).map(group).collect()
+}
+
 fn command(stream: Stream, at: Addresses, random: &mut Random, cnt: &mut u16) -> Stream {
     match random.below(24) {
         0..=7 => stream.lv1(),

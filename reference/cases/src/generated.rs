@@ -1,6 +1,7 @@
 //! Generated streams, the same ones each time.
 
-use crate::{generate, Case, Random, Stream};
+use crate::generate::{self, Noise};
+use crate::{Case, Random, Stream};
 
 /// How a stream is made.
 #[derive(Clone, Copy)]
@@ -52,6 +53,30 @@ fn case(number: u64) -> Case {
     }
     let input = random_lines(&stream.bytes(), &mut random);
     Case::new(format!("generated/{number:03}"), input)
+}
+
+/// What the noisy streams have in turn. The cycles that are wrong leave most
+/// bits as they were sent, or few.
+const NOISES: [Noise; 5] = [
+    Noise::Late,
+    Noise::Any,
+    Noise::Cycles(20),
+    Noise::Cycles(4),
+    Noise::Cycles(2),
+];
+
+/// The first `count` streams with noisy front-end groups (document 02, F-4);
+/// each depends on its number only.
+pub fn noisy(count: u64) -> Vec<Case> {
+    (0..count).map(noisy_case).collect()
+}
+
+fn noisy_case(number: u64) -> Case {
+    let mut random = Random::new(0xF4_5EED_0000 + number);
+    let noise = NOISES[(number % NOISES.len() as u64) as usize];
+    let stream = generate::noisy_commands(noise, &mut random, 150);
+    let input = random_lines(&stream.bytes(), &mut random);
+    Case::new(format!("noisy/{number:03}"), input)
 }
 
 /// Lines of random lengths, empty ones too; now and then no last line feed.

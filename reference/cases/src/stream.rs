@@ -95,6 +95,13 @@ impl Stream {
         self
     }
 
+    /// A front-end frame by the eight cycles of each bit, the first highest.
+    pub fn groups(self, field3: u8, groups: &[u8]) -> Stream {
+        groups.iter().fold(self.slow(field3, 0), |stream, &group| {
+            stream.number(u32::from(group), 8)
+        })
+    }
+
     pub fn wr_receiver(self, frame: &[bool]) -> Stream {
         self.slow(code::WR_RECEIVER, 0).raw(frame)
     }

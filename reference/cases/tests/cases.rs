@@ -1,13 +1,13 @@
 //! The cases: names, repeatability, and what they cover.
 
-use cases::generate::without_frames;
-use cases::{fixed, generated, Case, Random};
+use cases::generate::{late_groups, noisy_groups, without_frames, Noise};
+use cases::{fixed, generated, noisy, Case, Random, Stream};
 use std::collections::HashSet;
 
 #[test]
 fn names_serve_as_file_names() {
     let mut names = HashSet::new();
-    for case in [fixed(), generated(40)].concat() {
+    for case in [fixed(), generated(40), noisy(40)].concat() {
         let mut parts = case.name.split('/');
         assert!(parts.all(|part| {
             let fit = |c: u8| c.is_ascii_alphanumeric() || c == b'-';
@@ -22,6 +22,61 @@ fn names_serve_as_file_names() {
 fn generated_cases_repeat() {
     let inputs = |count| generated(count).into_iter().map(|case| case.input);
     assert!(inputs(20).eq(inputs(40).take(20)));
+    let inputs = |count| noisy(count).into_iter().map(|case| case.input);
+    assert!(inputs(20).eq(inputs(40).take(20)));
+}
+
+/// How often groups of each count of ones occur, by the first cycle.
+fn by_ones(groups: &[u8]) -> [[u32; 2]; 9] {
+    let mut counts = [[0; 2]; 9];
+    for group in groups {
+        counts[group.count_ones() as usize][usize::from(group >> 7)] += 1;
+    }
+    counts
+}
+
+#[test]
+fn noise_is_of_every_kind() {
+    let mut random = Random::new(2);
+    let mut groups = |noise| noisy_groups(noise, &mut random, 20_000);
+    for noise in [Noise::Any, Noise::Cycles(2), Noise::Cycles(4)] {
+        let groups = groups(noise);
+        assert_eq!(groups.len(), 20_000);
+        let counts = by_ones(&groups);
+        let all = (0..=8).flat_map(|ones| [(ones, 0), (ones, 1)]);
+        // No ones with a first cycle of 1, and no zeros with one of 0.
+        let mut all = all.filter(|place| ![(0, 1), (8, 0)].contains(place));
+        assert!(all.all(|(ones, first)| counts[ones][first] > 20));
+    }
+    // One cycle in twenty: most groups are steady, some are not.
+    let counts = by_ones(&groups(Noise::Cycles(20)));
+    assert!(counts[0][0] + counts[8][1] > 10_000);
+    assert!(counts[1][0] > 1_000 && counts[7][1] > 1_000);
+    // A line that is late has the first cycle wrong, or none.
+    for group in groups(Noise::Late) {
+        assert!([0x00, 0x7F, 0x80, 0xFF].contains(&group));
+    }
+}
+
+#[test]
+fn a_late_line_has_the_bit_before() {
+    let bits = Stream::new().pattern("1 1 0 0 1 0").bits;
+    let groups = [0x7F, 0xFF, 0x80, 0x00, 0x7F, 0x80];
+    assert_eq!(late_groups(&bits), groups);
+    assert_eq!(late_groups(&[]), [0; 0]);
+}
+
+#[test]
+fn groups_are_a_frame_with_its_cycles() {
+    for field3 in [4, 5] {
+        let steady = Stream::new().groups(field3, &[0xFF, 0x00, 0xFF]);
+        assert_eq!(
+            steady,
+            Stream::new().front_end(field3, &[true, false, true])
+        );
+        let cycles = Stream::new().slow(field3, 0).pattern("10010110 01111111");
+        assert_eq!(Stream::new().groups(field3, &[0x96, 0x7F]), cycles);
+    }
 }
 
 #[test]
@@ -49,6 +104,13 @@ fn cases_cover_what_they_should() {
         }
     }
     assert!(names.contains(&"frames/receiver-65528".to_string()));
+    // Sixteen by their ones and first cycle, and six others.
+    assert_eq!(count("votes/"), 2 * (16 + 6));
+    for kind in ["wr", "rd"] {
+        assert_eq!(count(&format!("votes/{kind}-4-ones-")), 2);
+        assert!(names.contains(&format!("votes/{kind}-slow-drivers")));
+        assert!(names.contains(&format!("votes/{kind}-all-groups")));
+    }
     let lines = |case: &Case| case.input.iter().filter(|&&byte| byte == b'\n').count();
     let long = generated(450)
         .iter()

@@ -5,11 +5,11 @@ use cases::Random;
 use compare::interface::call::{Call, Open, Take};
 use compare::interface::difference::{difference, reply_bytes};
 use compare::interface::expected::{expected, Expected};
-use compare::interface::image::{first_is_unspecified, image, state, uses};
+use compare::interface::image::{group_is_unspecified, image, state, uses};
 use compare::interface::layout::{self, at, largest, IMAGE_WORDS, LAYOUT, RECOGNISER};
 use compare::interface::states::{random_cycle, random_state, PLANS};
 use compare::interface::streams::addresses;
-use compare::interface::{checker, fit, large, prefilled};
+use compare::interface::{checker, fit, large, prefilled, votes};
 use compare::tally::Tally;
 use reader::limits::{input_fits, CLOCK_LIMIT, RECORD_WORDS, STORE_WORDS, TRAY_BYTES};
 use reader::listing::push_record;
@@ -65,7 +65,7 @@ fn number(text: &str) -> Option<u64> {
 fn in_reader() -> BTreeMap<String, u64> {
     let places = [
         "LAYOUT", "MASK", "CSR", "FEEN", "CNT", "NEXT", "PHASE", "SHIFT", "COMMAND", "ADDRESS",
-        "COUNT", "HELD", "FIRST", "UNSTEADY", "RUN_MODE", "L1ID", "BASE", "WLV1", "WFST", "WSLW",
+        "COUNT", "HELD", "GROUP", "UNSTEADY", "RUN_MODE", "L1ID", "BASE", "WLV1", "WFST", "WSLW",
     ];
     let places = places.into_iter().zip(0..);
     let blocks = [
@@ -291,8 +291,89 @@ fn each_word_beyond_its_width_is_malformed() {
     }
 }
 
+/// Layout 1 had a group's first bit in the place of its bits.
 #[test]
-fn the_first_bit_is_without_a_meaning_inside_a_wr_receiver_only() {
+fn an_image_of_another_layout_is_malformed() {
+    for (name, made) in fit::states_by_both_plans() {
+        let mut words = image(&made);
+        assert_eq!(words[at::LAYOUT], 2);
+        for layout in [0, 1, 3, 258, 1 << 33 | 2, u64::MAX] {
+            words[at::LAYOUT] = layout;
+            for group in [0, 1] {
+                words[at::GROUP] = group;
+                assert_eq!(state(&words), None, "{name}, layout {layout}");
+            }
+        }
+    }
+}
+
+/// Any byte is well-formed; whether it is sound is another matter.
+#[test]
+fn a_group_is_any_byte() {
+    for (name, made) in fit::states() {
+        let mut words = image(&made);
+        let in_frame = uses(&words, at::GROUP);
+        for group in 0..=255 {
+            words[at::GROUP] = group;
+            let read = state(&words).expect("well-formed");
+            // The states have three bits received.
+            assert_eq!(sound(&read), !in_frame || group < 8, "{name}, {group}");
+            let kept = if in_frame { group } else { 0 };
+            assert_eq!(image(&read)[at::GROUP], kept, "{name}");
+        }
+        words[at::GROUP] = 256;
+        assert_eq!(state(&words), None, "{name}");
+    }
+}
+
+/// All that so many cycles can leave of a group, in both commands.
+#[test]
+fn random_states_hold_every_group() {
+    let mut random = Random::new(83);
+    let mut seen = BTreeSet::new();
+    for number in 0..60_000 {
+        let made = random_state(&mut random, PLANS[number % PLANS.len()]);
+        if let Recogniser::Field5 {
+            field3: field3 @ (slow::WR_FRONT_END | slow::RD_FRONT_END),
+            received,
+            group,
+            ..
+        } = made.recogniser
+        {
+            let cycles = received % 8;
+            assert!(u32::from(group.bits) < 1 << cycles);
+            seen.insert((field3, cycles, group.bits));
+        }
+    }
+    assert!(seen.len() > 2 * 200, "{}", seen.len());
+    for (field3, cycles) in [4, 5].into_iter().flat_map(|f| (0..8).map(move |c| (f, c))) {
+        let largest = (1_u16 << cycles) - 1;
+        assert!(seen.contains(&(field3, cycles, 0)));
+        assert!(cycles > 4 || seen.contains(&(field3, cycles, largest as u8)));
+    }
+}
+
+#[test]
+fn the_groups_of_the_vote_are_of_every_count_of_ones() {
+    let groups = votes::some_groups();
+    let of = |ones, first| {
+        let fits = |group: &&u8| group.count_ones() == ones && **group >> 7 == first;
+        groups.iter().filter(fits).count()
+    };
+    for ones in 0..=8 {
+        // Of those there are many, one, or none.
+        let expected = |rest: u32| match rest {
+            0..=7 if [0, 7].contains(&rest) => 1,
+            1..=6 => 3,
+            _ => 0,
+        };
+        assert_eq!(of(ones, 0), expected(ones));
+        assert_eq!(of(ones, 1), expected(ones.wrapping_sub(1)));
+    }
+}
+
+#[test]
+fn the_group_is_without_a_meaning_inside_a_wr_receiver_only() {
     for (name, made) in fit::states() {
         let inside = matches!(
             made.recogniser,
@@ -301,7 +382,7 @@ fn the_first_bit_is_without_a_meaning_inside_a_wr_receiver_only() {
                 ..
             }
         );
-        assert_eq!(first_is_unspecified(&image(&made)), inside, "{name}");
+        assert_eq!(group_is_unspecified(&image(&made)), inside, "{name}");
     }
 }
 
@@ -575,22 +656,23 @@ fn a_refused_call_that_changes_a_byte_is_a_difference() {
 #[test]
 fn an_unspecified_word_may_be_any_of_its_width_and_no_other() {
     let mut random = Random::new(79);
-    let inside = |(_, made): &(String, State)| first_is_unspecified(&image(made));
+    let inside = |(_, made): &(String, State)| group_is_unspecified(&image(made));
     let (_, made) = fit::states().into_iter().find(inside).expect("WrReceiver");
     let mut take = fit::call(&image(&made), &mut random);
     take.count = 1;
     let expected = expected(&Call::Take(take));
-    assert_eq!(expected.unspecified, [at::FIRST]);
+    assert_eq!(expected.unspecified, [at::GROUP]);
     let with = |place: usize, word: u64| {
         let mut reply = right_reply(&expected);
         reply[8 + 8 * place..][..8].copy_from_slice(&word.to_le_bytes());
         difference(&expected, &reply)
     };
-    assert_eq!(with(at::FIRST, 0), None);
-    assert_eq!(with(at::FIRST, 1), None);
-    for beyond in [2, 256, 1 << 63, u64::MAX] {
-        let found = with(at::FIRST, beyond).expect("a difference");
-        assert!(found.starts_with("image word 12 (first) "), "{found}");
+    for group in 0..=255 {
+        assert_eq!(with(at::GROUP, group), None);
+    }
+    for beyond in [256, 257, 1 << 63, u64::MAX] {
+        let found = with(at::GROUP, beyond).expect("a difference");
+        assert!(found.starts_with("image word 12 (group) "), "{found}");
     }
     // The next word is specified, though unused.
     let found = with(at::UNSTEADY, 1).expect("a difference");

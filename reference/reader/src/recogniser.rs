@@ -218,7 +218,7 @@ impl Recogniser {
         };
         let mut frame_bit = None;
         match *field3 {
-            slow::WR_FRONT_END | slow::RD_FRONT_END => {
+            grouped if slow::has_groups(grouped) => {
                 frame_bit = group
                     .take(*received % slow::GROUP_CYCLES, bit)
                     .map(|bit| FrameBit {

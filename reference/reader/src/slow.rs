@@ -48,6 +48,11 @@ pub fn keeps_field5(field3: u8) -> bool {
     matches!(field3, WR_REGISTER | WR_FIFO | GLOBAL_RESET_FE)
 }
 
+/// Whether the command carries each bit for eight cycles.
+pub fn has_groups(field3: u8) -> bool {
+    matches!(field3, WR_FRONT_END | RD_FRONT_END)
+}
+
 /// Whether the command has a Field 5 at all.
 pub fn has_field5(field3: u8) -> bool {
     matches!(field3, WR_REGISTER..=WR_RECEIVER | GLOBAL_RESET_FE)

@@ -1,4 +1,5 @@
-//! When a state is sound (the last paragraph of "A taking call").
+//! When a state is sound (the last paragraph of "A taking call"; of groups,
+//! document 02, F-4).
 
 use crate::limits::{CLOCK_LIMIT, FIFO_WORDS};
 use crate::recogniser::{Recogniser, FIELD_BITS};
@@ -49,12 +50,13 @@ fn recogniser_sound(recogniser: &Recogniser, cnt: u16) -> bool {
             field4,
             held,
             received,
-            ..
+            group,
         } => {
             slow::has_field5(field3)
                 && field4 < 16
                 && slow::field5_cycles(field3, cnt).is_some_and(|cycles| received < cycles)
                 && (!slow::keeps_field5(field3) || fits(held, received))
+                && (!slow::has_groups(field3) || group.fits(received))
         }
     }
 }

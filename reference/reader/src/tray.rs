@@ -7,8 +7,8 @@ pub struct FrameBit {
     pub bit: bool,
 }
 
-/// Stores a frame bit. The byte's first bit zeroes the rest, so that the
-/// unused end of a frame's last byte is 0.
+/// Stores a frame bit. The byte's first bit zeroes the rest as it is stored,
+/// so that the unused end of a frame's last byte is 0.
 pub fn store_bit(tray: &mut [u8], frame_bit: FrameBit) {
     let byte = &mut tray[(frame_bit.place / 8) as usize];
     let low = 7 - frame_bit.place % 8;

@@ -66,21 +66,43 @@ fn any_recogniser(random: &mut Random) -> Recogniser {
             held,
             received,
         },
-        _ => Recogniser::Field5 {
-            field3: random.below(17) as u8,
-            field4: random.below(17) as u8,
-            held: edge(random) as u32,
-            received: if random.bit() {
-                random.below(66_000) as u32
+        _ => any_field5(random),
+    }
+}
+
+fn any_field5(random: &mut Random) -> Recogniser {
+    let received = if random.bit() {
+        random.below(66_000) as u32
+    } else {
+        edge(random) as u32
+    };
+    Recogniser::Field5 {
+        field3: random.below(17) as u8,
+        field4: random.below(17) as u8,
+        held: edge(random) as u32,
+        received,
+        group: Group {
+            // One that a front-end frame can hold, or any.
+            bits: if random.one_in(3) {
+                random.word() as u8
             } else {
-                edge(random) as u32
+                random.below(1 << (received % 8)) as u8
             },
-            group: Group {
-                first: random.bit(),
-                unsteady: random.bit(),
-            },
+            unsteady: random.bit(),
         },
     }
+}
+
+/// Whether something is held of an unfinished front-end group.
+fn holds_group(state: &State) -> bool {
+    matches!(
+        state.recogniser,
+        Recogniser::Field5 {
+            field3: 4 | 5,
+            group: Group { bits: 1.., .. },
+            ..
+        }
+    )
 }
 
 fn any_state(random: &mut Random) -> State {
@@ -180,7 +202,7 @@ fn check_answer(state: &State, part: &Part, list: &[u64], first_free: u64, answe
 #[test]
 fn any_call() {
     let mut random = Random::new(5);
-    let (mut accepted, mut long, mut refused) = (0, 0, [0; 7]);
+    let (mut accepted, mut long, mut grouped, mut refused) = (0, 0, 0, [0; 7]);
     let room: Vec<u8> = (0..LONGEST + 2).map(|_| random.word() as u8).collect();
     let mut store: Vec<u32> = (0..2_049).map(|_| random.word() as u32).collect();
     let mut tray: Vec<u8> = (0..8_193).map(|_| random.word() as u8).collect();
@@ -210,9 +232,11 @@ fn any_call() {
         } else {
             accepted += 1;
             long += u32::from(part.bytes > 65_536);
+            grouped += u32::from(holds_group(&state));
         }
     }
     assert!(accepted > 10_000 && long > 1_000, "{accepted} {long}");
+    assert!(grouped > 300, "{grouped}");
     assert!(refused[3..].iter().all(|&count| count > 100), "{refused:?}");
 }
 

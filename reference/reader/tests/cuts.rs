@@ -4,7 +4,7 @@
 mod common;
 
 use cases::code::{FLIPPED_LV1, LV1_TAIL};
-use cases::generate;
+use cases::generate::{self, Noise};
 use cases::Random;
 use cases::Stream;
 use common::{Reader, PLANS};
@@ -93,6 +93,31 @@ fn random_cuts_and_short_lists() {
     }
     // The rounds must be about something.
     assert!(total > 40_000 && frames > 1_000, "{total} {frames}");
+}
+
+/// Document 02, F-4: the vote is that of the whole group, in whichever calls
+/// its cycles came.
+#[test]
+fn noisy_groups_cut_at_random_places() {
+    let mut random = Random::new(7);
+    let mut frames = 0;
+    let noises = [Noise::Late, Noise::Any, Noise::Cycles(3), Noise::Cycles(20)];
+    for round in 0..400 {
+        let noise = noises[round as usize % noises.len()];
+        let stream = generate::noisy_commands(noise, &mut random, 30);
+        let start = random_start(&mut random, plan(round / 4));
+        let mut whole = start.clone();
+        let bytes = stream.bytes();
+        let records = whole.read_part(&bytes, 0, stream.bits.len() as u64, 5_000);
+        frames += whole.frames.len();
+        for (longest, rooms) in [(1, 1), (3, 2), (11, 2), (40, 3), (700, 1)] {
+            let mut reader = start.clone();
+            let cut = read_cut(&mut reader, &stream, &mut random, longest, rooms);
+            assert_eq!(cut, records, "round {round}, parts up to {longest}");
+            assert_eq!(reader, whole, "round {round}, parts up to {longest}");
+        }
+    }
+    assert!(frames > 1_000, "{frames}");
 }
 
 /// The same bits lent as one byte a call, at shifting first bits.

@@ -386,23 +386,35 @@ fn wr_receiver_carries_one_bit_a_cycle() {
     assert_eq!(reader.tray[8_191], 0);
 }
 
-/// A byte is zeroed with its first bit and stored at once.
+/// A bit is stored, and a new byte zeroed, in its group's eighth cycle
+/// (document 02, F-4).
 #[test]
 fn the_tray_during_a_frame() {
-    let mut reader = Reader::opened();
-    reader.state.registers[5] = 9 << 3;
-    reader.tray.fill(0xFF);
-    let bytes = Stream::new().front_end(4, &[true; 9]).bytes();
-    reader.read_part(&bytes, 0, 17, 1);
-    assert_eq!(reader.tray[0], 0xFF);
-    for cycle in 0..64 {
-        reader.read_part(&bytes, 17 + cycle, 1, 1);
-        assert_eq!(reader.tray[0], !(0x7F >> (cycle / 8)), "cycle {cycle}");
-        assert_eq!(reader.tray[1], 0xFF);
+    for kind in [4, 5] {
+        let mut reader = Reader::opened();
+        reader.state.registers[5] = 9 << 3;
+        reader.tray.fill(0xFF);
+        let bytes = Stream::new().front_end(kind, &[true; 9]).bytes();
+        reader.read_part(&bytes, 0, 17, 1);
+        assert_eq!(reader.tray[0], 0xFF);
+        for cycle in 0..64 {
+            reader.read_part(&bytes, 17 + cycle, 1, 1);
+            let byte = match (cycle + 1) / 8 {
+                0 => 0xFF,
+                stored => !(0xFF_u16 >> stored) as u8,
+            };
+            assert_eq!(reader.tray[0], byte, "cycle {cycle}");
+            assert_eq!(reader.tray[1], 0xFF);
+        }
+        for cycle in 64..71 {
+            assert_eq!(reader.read_part(&bytes, 17 + cycle, 1, 1), []);
+            assert_eq!(reader.tray[..3], [0xFF; 3], "cycle {cycle}");
+        }
+        // The last bit comes with the record.
+        let records = reader.read_part(&bytes, 17 + 71, 1, 1);
+        assert_eq!(records, [rec(16 + 72, 0x20 + kind, 0x01, 9)]);
+        assert_eq!(reader.tray[..3], [0xFF, 0x80, 0xFF]);
     }
-    reader.read_part(&bytes, 17 + 64, 1, 1);
-    assert_eq!(reader.tray[1], 0x80);
-    assert_eq!(reader.tray[2], 0xFF);
 }
 
 #[test]
@@ -416,13 +428,8 @@ fn unsteady_groups() {
             let records = reader.read(&stream.slow(kind, 0).zeros(24));
             // The next frame's groups are steady again.
             assert_eq!(flags_of(&records), [0x11, 0x01], "bit {wrong}");
-            // The first of the eight decides.
-            let flipped = if wrong % 8 == 0 {
-                0x80 >> (wrong / 8)
-            } else {
-                0
-            };
-            assert_eq!(reader.frames[0], [0b1010_0000 ^ flipped], "bit {wrong}");
+            // One wrong cycle, the first too, loses the vote.
+            assert_eq!(reader.frames[0], [0b1010_0000], "bit {wrong}");
         }
     }
     // No groups in a WrReceiver.

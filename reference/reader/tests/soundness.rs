@@ -250,3 +250,78 @@ fn the_number_held_fits_where_it_is_kept() {
     assert!(!with(field5(2, 1 << 26, 26), 0));
     assert!(with(field5(6, u32::MAX, 0), 1));
 }
+
+/// What bits leave of a group, shifted in one after the other.
+fn left_by(bits: &[bool]) -> u32 {
+    bits.iter().fold(0, |left, &bit| 2 * left + u32::from(bit))
+}
+
+/// All lists of so many bits.
+fn lists(count: u32) -> Vec<Vec<bool>> {
+    (0..count).fold(vec![Vec::new()], |lists, _| {
+        let longer = |list: &Vec<bool>| [false, true].map(|bit| [&list[..], &[bit]].concat());
+        lists.iter().flat_map(longer).collect()
+    })
+}
+
+fn with_group(field3: u8, received: u32, bits: u8, unsteady: bool, cnt: u16) -> bool {
+    let group = Group { bits, unsteady };
+    let recogniser = Recogniser::Field5 {
+        field3,
+        field4: 0,
+        held: 0,
+        received,
+        group,
+    };
+    with(recogniser, cnt)
+}
+
+/// Document 02, F-4: what is held of an unfinished group is what some bits,
+/// as many as its cycles received, would leave. Nothing is asked of
+/// `unsteady`.
+#[test]
+fn the_group_held_is_left_by_as_many_bits() {
+    let last = 65_976 - 8;
+    for cycles in 0..8 {
+        let lists = lists(cycles);
+        assert_eq!(lists.len(), 1 << cycles);
+        for bits in 0..=255 {
+            let exists = lists.iter().any(|list| left_by(list) == u32::from(bits));
+            for ahead in [0, 8, 64, 248, 256, 4_096, 32_768, last] {
+                for field3 in [4, 5] {
+                    for unsteady in [false, true] {
+                        let answer = with_group(field3, ahead + cycles, bits, unsteady, 0xFFFF);
+                        assert_eq!(answer, exists, "{field3} {ahead} {cycles} {bits:08b}");
+                    }
+                }
+            }
+        }
+    }
+}
+
+/// A group fits whatever the length; one that is whole is none.
+#[test]
+fn a_fit_group_does_not_excuse_a_count() {
+    for field3 in [4, 5] {
+        for bits in 0..=255 {
+            assert_eq!(with_group(field3, 7, bits, false, 8), bits < 128);
+            assert!(!with_group(field3, 8, bits, false, 8));
+            assert!(!with_group(field3, 0, bits, false, 0));
+        }
+    }
+}
+
+/// The other commands have no groups. The other phases hold none at all.
+#[test]
+fn nothing_is_asked_of_a_group_elsewhere() {
+    for (field3, length) in [(0, 16), (1, 16), (2, 27), (3, 27), (6, 65_528), (10, 4)] {
+        for received in (0..16).filter(|&received| received < length) {
+            for bits in 0..=255 {
+                for unsteady in [false, true] {
+                    let answer = with_group(field3, received, bits, unsteady, 0xFFFF);
+                    assert!(answer, "{field3} {received} {bits:08b}");
+                }
+            }
+        }
+    }
+}

@@ -63,7 +63,7 @@ fn unsteady(kind: &str, field3: u8, wrong: usize) -> Case {
     stream.bits[first + wrong] ^= true;
     let stream = stream.front_end(field3, &[false, true]);
     let case = Case::stream(format!("frames/{kind}-unsteady-{wrong:02}"), &stream);
-    // A group's first cycle, whose bit is taken, and another.
+    // A group's first cycle, and another.
     case.golden_if([0, 9].contains(&wrong))
 }
 

@@ -7,6 +7,7 @@ mod flips;
 mod frames;
 mod lines;
 mod paper;
+mod votes;
 
 pub use paper::RECEIVED;
 
@@ -21,6 +22,7 @@ pub fn fixed() -> Vec<Case> {
     cases.extend(flips::cases());
     cases.extend(controller::cases());
     cases.extend(capture::cases());
+    cases.extend(votes::cases());
     cases
 }
 

@@ -1,14 +1,14 @@
 //! Writes each case's input and what the three programs print and say for it:
 //! `vectors FOLDER [--golden | --generated N | --stored]`.
 //!
-//! With `--golden` only the cases that have golden files, and files of cases
-//! that are no more are removed. With `--stored` the runs that are stored
-//! beside the programs, where FOLDER is that of the crates; what belonged to
-//! other runs is removed.
+//! With `--generated` also N streams of each generated list. With `--golden`
+//! only the cases that have golden files, and files of cases that are no more
+//! are removed. With `--stored` the runs that are stored beside the programs,
+//! where FOLDER is that of the crates; what belonged to other runs is removed.
 
 #![forbid(unsafe_code)]
 
-use cases::{fixed, generated, golden, Case};
+use cases::{fixed, generated, golden, noisy, Case};
 use compare::golden::{files, stored, strays, write};
 use std::fs;
 use std::io;
@@ -23,7 +23,10 @@ fn main() -> ExitCode {
         [folder, "--golden"] => write_golden(Path::new(folder)),
         [folder, "--stored"] => stored::write_all(Path::new(folder)).map(|()| 3),
         [folder, "--generated", count] => match count.parse() {
-            Ok(count) => write_all(Path::new(folder), [fixed(), generated(count)].concat()),
+            Ok(count) => {
+                let cases = [fixed(), generated(count), noisy(count)].concat();
+                write_all(Path::new(folder), cases)
+            }
             Err(_) => return usage(),
         },
         _ => return usage(),

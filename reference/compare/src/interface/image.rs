@@ -83,7 +83,7 @@ fn write_field5(field3: u8, held: u32, group: Group, words: &mut Image) {
         words[at::HELD] = u64::from(held);
     }
     if is_front_end(u64::from(field3)) {
-        words[at::FIRST] = u64::from(group.first);
+        words[at::GROUP] = u64::from(group.bits);
         words[at::UNSTEADY] = u64::from(group.unsteady);
     }
 }
@@ -140,7 +140,7 @@ fn read_recogniser(words: &Image) -> Recogniser {
             held: words[at::HELD] as u32,
             received: words[at::COUNT] as u32,
             group: Group {
-                first: words[at::FIRST] == 1,
+                bits: words[at::GROUP] as u8,
                 unsteady: words[at::UNSTEADY] == 1,
             },
         },
@@ -149,22 +149,22 @@ fn read_recogniser(words: &Image) -> Recogniser {
 
 /// The places at which an image may hold any word of its width: those that
 /// its phase does not use, if the image that was lent held something where
-/// its own phase does not; else only `at::FIRST` inside a WrReceiver.
+/// its own phase does not; else only `at::GROUP` inside a WrReceiver.
 pub fn unspecified_places(lent: &[u64], after: &[u64]) -> Vec<usize> {
     let (Ok(lent), Ok(after)) = (<&Image>::try_from(lent), <&Image>::try_from(after)) else {
         return Vec::new();
     };
     let unused = |words| RECOGNISER.filter(move |&place| !uses(words, place));
-    let is_first = |words: &Image, place| place == at::FIRST && first_is_unspecified(words);
-    let clean = unused(lent).all(|place| lent[place] == 0 || is_first(lent, place));
+    let is_group = |words: &Image, place| place == at::GROUP && group_is_unspecified(words);
+    let clean = unused(lent).all(|place| lent[place] == 0 || is_group(lent, place));
     unused(after)
-        .filter(|&place| !clean || is_first(after, place))
+        .filter(|&place| !clean || is_group(after, place))
         .collect()
 }
 
-/// Whether the word at `at::FIRST` changes without a meaning: inside a
+/// Whether the word at `at::GROUP` changes without a meaning: inside a
 /// WrReceiver.
-pub fn first_is_unspecified(words: &[u64]) -> bool {
+pub fn group_is_unspecified(words: &[u64]) -> bool {
     words.len() == IMAGE_WORDS
         && words[at::PHASE] == phase::FIELD5
         && words[at::COMMAND] == u64::from(slow::WR_RECEIVER)
@@ -181,7 +181,7 @@ pub fn uses(words: &Image, place: usize) -> bool {
         at::ADDRESS => in_field5,
         at::COUNT => !in_phases(&[phase::HUNTING]),
         at::HELD => in_field5 && keeps_bits(command),
-        at::FIRST | at::UNSTEADY => in_field5 && is_front_end(command),
+        at::GROUP | at::UNSTEADY => in_field5 && is_front_end(command),
         _ => true,
     }
 }
@@ -191,5 +191,5 @@ fn keeps_bits(command: u64) -> bool {
 }
 
 fn is_front_end(command: u64) -> bool {
-    command == u64::from(slow::WR_FRONT_END) || command == u64::from(slow::RD_FRONT_END)
+    u8::try_from(command).is_ok_and(slow::has_groups)
 }

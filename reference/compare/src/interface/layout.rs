@@ -7,7 +7,8 @@ pub const RESULT_WORDS: usize = 3;
 pub const RECORD_LINE_BYTES: usize = 28;
 pub const LINE_BYTES: usize = 32;
 pub const INPUT_BYTES: usize = 1_048_576;
-pub const LAYOUT: u64 = 1;
+/// Layout 1 had a group's first bit in the place of its bits.
+pub const LAYOUT: u64 = 2;
 
 // The header's lengths are the papers'.
 const _: () = assert!(STORE_WORDS == 2048 && TRAY_BYTES == 8192);
@@ -42,7 +43,7 @@ pub mod at {
     pub const ADDRESS: usize = 9;
     pub const COUNT: usize = 10;
     pub const HELD: usize = 11;
-    pub const FIRST: usize = 12;
+    pub const GROUP: usize = 12;
     pub const UNSTEADY: usize = 13;
     pub const RUN_MODE: usize = 14;
     pub const L1ID: usize = 15;
@@ -65,7 +66,7 @@ pub mod phase {
 }
 
 /// The recogniser's words. From an opening on, one that the phase does not
-/// use is 0, but for `at::FIRST` inside a WrReceiver.
+/// use is 0, but for `at::GROUP` inside a WrReceiver.
 pub const RECOGNISER: std::ops::RangeInclusive<usize> = at::SHIFT..=at::UNSTEADY;
 
 /// The largest value of the word at a place that is not beyond its width.
@@ -77,7 +78,8 @@ pub fn largest(place: usize) -> u64 {
         at::PHASE => phase::FIELD5,
         at::SHIFT | at::COMMAND | at::ADDRESS => bits(8),
         at::COUNT | at::HELD => bits(32),
-        at::FIRST | at::UNSTEADY | at::RUN_MODE => bits(1),
+        at::GROUP => bits(8),
+        at::UNSTEADY | at::RUN_MODE => bits(1),
         at::L1ID => bits(8),
         at::WLV1..=at::WSLW => bits(1),
         at::REGISTERS..at::WRITES => bits(16),
@@ -94,7 +96,7 @@ fn bits(width: u32) -> u64 {
 pub fn name(place: usize) -> String {
     const NAMES: [&str; at::REGISTERS] = [
         "layout", "mask", "CSR", "FEEN", "CNT", "next", "phase", "shift", "command", "address",
-        "count", "held", "first", "unsteady", "RunMode", "L1ID", "base", "WLV1", "WFST", "WSLW",
+        "count", "held", "group", "unsteady", "RunMode", "L1ID", "base", "WLV1", "WFST", "WSLW",
     ];
     match place {
         at::REGISTERS..at::WRITES => format!("register {}", place - at::REGISTERS),

@@ -14,6 +14,7 @@ pub fn check(checker: &mut Checker) -> io::Result<()> {
         let image = image(&state);
         lengths(checker, &phase, &image, &mut random)?;
         widths(checker, &phase, &image, &mut random)?;
+        old_layout(checker, &phase, &image, &mut random)?;
         unused(checker, &phase, &image, &mut random)?;
         sweep(checker, &phase, &image, &mut random)?;
     }
@@ -46,7 +47,7 @@ fn widths(
     for place in 0..IMAGE_WORDS {
         let word = image[place];
         let high = [8, 16, 32, 48, 63].map(|bit| word | 1 << bit);
-        let edges = [largest(place).wrapping_add(1), 0, 2, u64::MAX];
+        let edges = [largest(place).wrapping_add(1), 0, 1, 2, u64::MAX];
         for word in edges.into_iter().chain(high) {
             let beyond = word > largest(place) || (place == at::LAYOUT && word != LAYOUT);
             if !beyond {
@@ -57,6 +58,23 @@ fn widths(
             let name = format!("malformed, {phase}, {} {word:#X}", name(place));
             checker.check_number(name, UNSOUND, &Call::Take(take))?;
         }
+    }
+    Ok(())
+}
+
+/// An image of layout 1, which had a group's first bit where its bits are.
+fn old_layout(
+    checker: &mut Checker,
+    phase: &str,
+    image: &Image,
+    random: &mut Random,
+) -> io::Result<()> {
+    for first in [0, 1] {
+        let mut take = fit::call(image, random);
+        take.image[at::LAYOUT] = 1;
+        take.image[at::GROUP] = first;
+        let name = format!("malformed, {phase}, layout 1 with first bit {first}");
+        checker.check_number(name, UNSOUND, &Call::Take(take))?;
     }
     Ok(())
 }

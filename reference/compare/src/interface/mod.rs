@@ -25,6 +25,7 @@ pub mod registers;
 pub mod soundness;
 pub mod states;
 pub mod streams;
+pub mod votes;
 
 use crate::tally::Tally;
 use std::io;
@@ -42,6 +43,7 @@ pub fn compare(driver: &Path, tally: &mut Tally) -> io::Result<()> {
         malformed::check(checker)?;
         precedence::check(checker)?;
         flips::check(checker)?;
+        votes::check(checker)?;
         streams::check(checker)?;
         large::check(checker)
     })

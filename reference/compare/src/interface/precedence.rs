@@ -64,7 +64,7 @@ const DEFECTS: [Defect; 29] = [
         t.free = u64::MAX;
     }),
     defect(WRONG_BUFFERS, "no list", |t| t.list.clear()),
-    defect(UNSOUND, "another layout", |t| t.image[at::LAYOUT] = 2),
+    defect(UNSOUND, "another layout", |t| t.image[at::LAYOUT] = 1),
     defect(UNSOUND, "phase beyond its width", |t| {
         t.image[at::PHASE] = 5;
     }),

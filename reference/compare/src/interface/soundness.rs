@@ -23,12 +23,28 @@ pub fn check(checker: &mut Checker) -> io::Result<()> {
         clauses.extend(registers(&image));
         clauses.extend(run_modes(&image));
         clauses.extend(recognisers(&image));
-        for (name, sound, image) in clauses {
-            let number = if sound { OK } else { UNSOUND };
-            let name = format!("soundness, {phase}, {name}");
-            let take = fit::call(&image, &mut random);
-            checker.check_number(name, number, &Call::Take(take))?;
-        }
+        check_all(checker, &phase, clauses, &mut random)?;
+    }
+    let mut random = Random::new(0x0005_0DF4);
+    for (phase, state) in fit::states() {
+        let image = image(&state);
+        check_all(checker, &phase, groups(&image), &mut random)?;
+        check_all(checker, &phase, last_groups(&image), &mut random)?;
+    }
+    Ok(())
+}
+
+fn check_all(
+    checker: &mut Checker,
+    phase: &str,
+    clauses: Vec<Clause>,
+    random: &mut Random,
+) -> io::Result<()> {
+    for (name, sound, image) in clauses {
+        let number = if sound { OK } else { UNSOUND };
+        let name = format!("soundness, {phase}, {name}");
+        let take = fit::call(&image, random);
+        checker.check_number(name, number, &Call::Take(take))?;
     }
     Ok(())
 }
@@ -248,4 +264,58 @@ fn lengths(image: &Image) -> Vec<Clause> {
         }
     }
     clauses
+}
+
+/// What is held of an unfinished group (document 02, F-4): every byte, with
+/// every count modulo 8 that the phase can have.
+fn groups(image: &Image) -> Vec<Clause> {
+    let counts = match image[at::PHASE] {
+        phase::HUNTING => 1,
+        phase::FIELD5 => field5_length(image, fit::CNT).min(8),
+        _ => 4,
+    };
+    // Not in the first group alone, where the field has several.
+    let whole = if is_variable(image) { 8 } else { 0 };
+    let mut clauses = Vec::new();
+    for count in 0..counts {
+        for group in 0..=255 {
+            let count = count + whole * (group % 18);
+            clauses.push(group_clause(image, count, group));
+        }
+    }
+    clauses
+}
+
+/// The same at the end of the longest Field 5.
+fn last_groups(image: &Image) -> Vec<Clause> {
+    if !is_variable(image) {
+        return Vec::new();
+    }
+    let longest = with(image, &[(at::REGISTERS + image[at::CNT] as usize, 0xFFFF)]);
+    let last = field5_length(&longest, 0xFFFF) - 8;
+    let mut clauses = Vec::new();
+    for count in 0..8 {
+        for group in [0, (1 << count) - 1, 1 << count, 128, 255] {
+            clauses.push(group_clause(&longest, last + count, group));
+        }
+    }
+    clauses
+}
+
+fn field5_length(image: &Image, cnt: u16) -> u64 {
+    slow::field5_cycles(image[at::COMMAND] as u8, cnt).map_or(0, u64::from)
+}
+
+/// Sound if the group is none of a front-end frame's, or is below 2 to its
+/// cycles received. No other bits are held, whatever the count.
+fn group_clause(image: &Image, count: u64, group: u64) -> Clause {
+    let in_frame = image[at::PHASE] == phase::FIELD5
+        && [slow::WR_FRONT_END, slow::RD_FRONT_END].contains(&(image[at::COMMAND] as u8));
+    let words = [
+        (at::COUNT, count),
+        (at::SHIFT, 0),
+        (at::HELD, 0),
+        (at::GROUP, group),
+    ];
+    clause(!in_frame || group < 1 << (count % 8), image, &words)
 }

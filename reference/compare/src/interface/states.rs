@@ -106,7 +106,6 @@ fn random_field5(random: &mut Random, cnt: u16) -> Recogniser {
     let field3 = WITH_FIELD5[random.below(8) as usize];
     let cycles = slow::field5_cycles(field3, cnt).unwrap_or(0).max(1);
     let received = random.below(u64::from(cycles)) as u32;
-    let is_front_end = matches!(field3, slow::WR_FRONT_END | slow::RD_FRONT_END);
     let held = if slow::keeps_field5(field3) {
         random.below(1 << received) as u32
     } else {
@@ -117,9 +116,18 @@ fn random_field5(random: &mut Random, cnt: u16) -> Recogniser {
         field4: random.below(16) as u8,
         held,
         received,
-        group: Group {
-            first: is_front_end && random.bit(),
-            unsteady: is_front_end && random.bit(),
+        group: if slow::has_groups(field3) {
+            random_group(random, received)
+        } else {
+            Group::default()
         },
+    }
+}
+
+/// What so many cycles of a front-end frame can leave of its present group.
+fn random_group(random: &mut Random, received: u32) -> Group {
+    Group {
+        bits: random.below(1 << (received % slow::GROUP_CYCLES)) as u8,
+        unsteady: random.bit(),
     }
 }

@@ -1,4 +1,5 @@
-//! Generated streams of each recipe, cut into calls at random places.
+//! Generated streams of each recipe, and ones with noisy front-end groups, cut
+//! into calls at random places.
 
 use super::call::{Call, Open};
 use super::checker::Checker;
@@ -7,7 +8,9 @@ use super::image::image;
 use super::layout::IMAGE_WORDS;
 use super::prefilled;
 use super::states::{random_cycle, random_state, PLANS};
-use cases::generate::{bits, commands_at, flip_some, flipped_commands_at, Addresses};
+use cases::generate::{
+    bits, commands_at, flip_some, flipped_commands_at, noisy_commands_at, Addresses, Noise,
+};
 use cases::{Random, Stream};
 use reader::limits::CLOCK_LIMIT;
 use reader::{slow, Plan, State};
@@ -17,10 +20,16 @@ use std::io;
 const STREAMS: u64 = 48 * RECIPES * PLANS.len() as u64;
 const LONGEST: u64 = 24;
 
+/// Streams with noisy front-end groups (document 02, F-4), and what they have
+/// in turn.
+const NOISY: u64 = 24 * NOISES.len() as u64 * PLANS.len() as u64;
+const NOISES: [Noise; 4] = [Noise::Late, Noise::Any, Noise::Cycles(3), Noise::Cycles(20)];
+
 /// One stream in so many is cut a second time.
 const CUT_AGAIN: u64 = 4;
 
 const SEED: u64 = 0x1F4C_E000_0000;
+const NOISY_SEED: u64 = 0x1F4C_E0F4_0000;
 
 pub fn check(checker: &mut Checker) -> io::Result<()> {
     for number in 0..STREAMS {
@@ -42,6 +51,15 @@ pub fn check(checker: &mut Checker) -> io::Result<()> {
         let stream = longest(&mut random, number);
         let name = format!("longest stream {number}");
         check_stream(checker, &name, Plan::DEFAULT, false, &stream, &mut random)?;
+    }
+    for number in 0..NOISY {
+        let mut random = Random::new(NOISY_SEED + number);
+        let noise = NOISES[(number % NOISES.len() as u64) as usize];
+        let plan = PLANS[(number / NOISES.len() as u64 % PLANS.len() as u64) as usize];
+        let few = 3 + random.below(20) as usize;
+        let stream = noisy_commands_at(addresses(plan), noise, &mut random, few);
+        let name = format!("noisy stream {number}");
+        check_stream(checker, &name, plan, false, &stream, &mut random)?;
     }
     Ok(())
 }
