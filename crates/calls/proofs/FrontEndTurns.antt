@@ -53,7 +53,7 @@ module _ (command address place : ℕ) (part : List ℕ) (u : Bool) where
     group-on early n bits m more f =
         let not-yet : isEighth count ≡ false = ne-eqb (count % 8) 7 (omega arith) in
         let none : frameBitOf inside bit ≡ None = rw (groups, not-yet) in
-        let held : groupOf (leftBy 0 part) count bit ≡ leftBy 0 (part ++ (bit ∷ [])) = rw not-yet (sym (left-last part 0 bit)) in
+        let held : groupOf inside bit ≡ leftBy 0 (part ++ (bit ∷ [])) = rw (groups, not-yet) (sym (left-last part 0 bit)) in
         let same : unsteadyOf inside bit ≡ u = rw (groups, not-yet) (or-none u) in
         let one-on : count + 1 ≡ 8 * place + length (part ++ (bit ∷ [])) = rw length-append (omega arith) in
         cycle-taken command address frame count (leftBy 0 part) u m bit bits more place place
@@ -97,7 +97,7 @@ module _ (command address place : ℕ) (part : List ℕ) (u : Bool) where
           let flag : ((u || unsteady (part ++ (bit ∷ []))) || someUnsteady n bits) ≡ (u || someUnsteady (suc n) (part ++ (bit ∷ bits))) =
           or-join u _ _ ∙ ap (λ v. u || v) (sym (unsteady-first part bit bits seven n)) in
           let one-on : count + 1 ≡ 8 * (place + 1) + 0 = omega arith in
-          let none : groupOf (leftBy 0 part) count bit ≡ 0 = rw eighth in
+          let none : groupOf inside bit ≡ 0 = rw (groups, eighth) in
           cycle-taken command address frame count (leftBy 0 part) u m bit bits more place (place + 1)
           (votesOf (suc n) (part ++ (bit ∷ bits))) (votesOf n bits) (u || someUnsteady (suc n) (part ++ (bit ∷ bits)))
           (ap (λ f. filledOf (place + 1) (trayOf (m .tray) f) (votesOf n bits)) voted ∙ ap (filledOf place (m .tray)) (sym (votes-first part bit bits seven n)))

@@ -1,7 +1,7 @@
 -- A step keeps a recogniser fit, phase by phase.
 -- Assumes nothing.
 use mathlib.Core.Path.{_≡_, refl, ap}
-use mathlib.Core.Bool.{Bool, not, _||_}
+use mathlib.Core.Bool.{Bool, false, not, _||_}
 use Prim.Native.Nat.{ℕ, _+_, _%_, _^_, _<_}
 use native.Mathlib.Omega.{arith}
 use lib.Dec.{T, ltb, eqb, ltb→lt, lt→ltb, nleb→lt, eqb→eq, T-not}
@@ -139,9 +139,11 @@ module _ (r : Recogniser) (bit cnt : ℕ) (b : bit < 2) where
       cond-case (λ (v : ℕ). v < 2 ^ (r .count + 1)) (eqb (r .command) 1 || eqb (r .command) 3) (λ _. omega arith) (λ _. g)
 
   -- A group with one bit more; a finished one leaves nothing.
-  group-fits : T (leftBySome (r .count % 8) (r .group)) → T (leftBySome ((r .count + 1) % 8) (groupOf (r .group) (r .count) bit))
-  group-fits t =
-      cond-case (λ (g : ℕ). T (leftBySome ((r .count + 1) % 8) g)) (isEighth (r .count))
+  group-fits : T (hasGroups (r .command)) → T (leftBySome (r .count % 8) (r .group)) → T (leftBySome ((r .count + 1) % 8) (groupOf r bit))
+  group-fits g t =
+      let grouped : eqb (r .command) 6 ≡ false = by-front-end (λ c. eqb c 6 ≡ false) (r .command) g refl refl in
+      rw grouped
+      (cond-case (λ (g : ℕ). T (leftBySome ((r .count + 1) % 8) g)) (isEighth (r .count))
       (λ e.
       let seven = eqb→eq (r .count % 8) 7 e in
       let none : (r .count + 1) % 8 ≡ 0 = omega arith in
@@ -149,7 +151,7 @@ module _ (r : Recogniser) (bit cnt : ℕ) (b : bit < 2) where
       (λ n.
       let other : r .count % 8 ≡ 7 → ⊥ = λ e. T-not (isEighth (r .count)) n (rw e tt) in
       let more : (r .count + 1) % 8 ≡ r .count % 8 + 1 = omega arith in
-      rw more (left-more (r .count % 8) (r .group) bit (omega arith) b t))
+      rw more (left-more (r .count % 8) (r .group) bit (omega arith) b t)))
 
   pub field5-fits : r .phase ≡ Field5 → T (field5Fits r cnt) → Fit cnt (field5Of r bit cnt)
   unfolding fitOf
@@ -159,8 +161,8 @@ module _ (r : Recogniser) (bit cnt : ℕ) (b : bit < 2) where
       cond-case (Fit cnt) (isFrame (r .command))
       (λ i. cond-case (Fit cnt) (endsOf r cnt) (λ _. tt)
       (λ q. rw e
-      (goes-on (r .held) (groupOf (r .group) (r .count) bit) (unsteadyOf r bit) t q (λ k. fits-wider (r .held) (r .count) (h k))
-      (λ g. group-fits (f .group (by-front-end (λ c. T (not (keeps c))) (r .command) g tt tt) g)))))
+      (goes-on (r .held) (groupOf r bit) (unsteadyOf r bit) t q (λ k. fits-wider (r .held) (r .count) (h k))
+      (λ g. group-fits g (f .group (by-front-end (λ c. T (not (keeps c))) (r .command) g tt tt) g)))))
       (λ i. cond-case (Fit cnt) (endsOf r cnt) (λ _. tt)
       (λ q. rw e (goes-on (keptOf (r .command) (r .held) bit) (r .group) (r .unsteady) t q (λ k. kept-fits (h k)) (λ g. absurd (T-not (isFrame (r .command)) i (by-front-end (λ c. T (isFrame c)) (r .command) g tt tt))))))
 

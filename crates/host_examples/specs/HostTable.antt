@@ -30,7 +30,7 @@ someState = record {
     command = 23;
     address = 24;
     held = 25;
-    group = record { first = true };
+    group = 26;
     unsteady = false;
   };
   model = record {
@@ -47,8 +47,8 @@ someState = record {
 
 abbrev pub someImage : List ℕ
 someImage =
-    1 ∷ 0x1234 ∷ 11 ∷ 12 ∷ 13 ∷ 0x123456789ABC
-    ∷ 4 ∷ 21 ∷ 23 ∷ 24 ∷ 22 ∷ 25 ∷ 1 ∷ 0
+    2 ∷ 0x1234 ∷ 11 ∷ 12 ∷ 13 ∷ 0x123456789ABC
+    ∷ 4 ∷ 21 ∷ 23 ∷ 24 ∷ 22 ∷ 25 ∷ 26 ∷ 0
     ∷ 1 ∷ 31 ∷ 32 ∷ 0 ∷ 1 ∷ 0
     ∷ 101 ∷ 102 ∷ 103 ∷ 104 ∷ 105 ∷ 106 ∷ 107 ∷ 108 ∷ 109 ∷ 110 ∷ 111 ∷ 112 ∷ 113 ∷ 114 ∷ 115 ∷ 116
     ∷ 201 ∷ 202 ∷ 203 ∷ 204 ∷ 205 ∷ 206 ∷ 207 ∷ 208 ∷ 209 ∷ 210 ∷ 211 ∷ 212 ∷ 213 ∷ 214 ∷ 215 ∷ 216
@@ -94,10 +94,13 @@ table =
     hostRow start (enDataTake ++ lv1) 22 4 nines 0 (22 ∷ 2 ∷ 0 ∷ [])
     ∷ hostRow start (wrFrontEnd [] ++ lv1) 22 4 nines 0 (17 ∷ 1 ∷ 1 ∷ [])
     ∷ hostRow start (enDataTake ++ lv1) 22 3 nines 0 (17 ∷ 1 ∷ 2 ∷ [])
-    -- 3: an image of another length or layout, with a word beyond its width (RunMode, L1ID, register 1), or of an unsound state
-    ∷ hostRow (1 ∷ 0x07FF ∷ 0 ∷ 2 ∷ 5 ∷ replicate 62 0) lv1 5 4 nines 3 nines
-    ∷ hostRow (1 ∷ 0x07FF ∷ 0 ∷ 2 ∷ 5 ∷ replicate 64 0) lv1 5 4 nines 3 nines
-    ∷ hostRow (set start 0 2) lv1 5 4 nines 3 nines
+    -- 3: an image of another length or layout, with a word beyond its width (the group, RunMode, L1ID, register 1), or of an unsound state
+    ∷ hostRow (2 ∷ 0x07FF ∷ 0 ∷ 2 ∷ 5 ∷ replicate 62 0) lv1 5 4 nines 3 nines
+    ∷ hostRow (2 ∷ 0x07FF ∷ 0 ∷ 2 ∷ 5 ∷ replicate 64 0) lv1 5 4 nines 3 nines
+    ∷ hostRow (set start 0 1) lv1 5 4 nines 3 nines
+    ∷ hostRow (set start 0 3) lv1 5 4 nines 3 nines
+    ∷ hostRow (set start 12 255) lv1 5 4 nines 0 (5 ∷ 1 ∷ 0 ∷ [])
+    ∷ hostRow (set start 12 256) lv1 5 4 nines 3 nines
     ∷ hostRow (set start 14 2) lv1 5 4 nines 3 nines
     ∷ hostRow (set start 15 255) lv1 5 4 nines 0 (5 ∷ 1 ∷ 0 ∷ [])
     ∷ hostRow (set start 15 256) lv1 5 4 nines 3 nines

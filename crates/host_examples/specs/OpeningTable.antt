@@ -24,7 +24,7 @@ opens mask csr feen cnt cycle = record {
   cnt = cnt;
   cycle = cycle;
   number = 0;
-  image = 1 ∷ mask ∷ csr ∷ feen ∷ cnt ∷ cycle ∷ (replicate 10 0 ++ (cycle ∷ replicate 51 0));
+  image = 2 ∷ mask ∷ csr ∷ feen ∷ cnt ∷ cycle ∷ (replicate 10 0 ++ (cycle ∷ replicate 51 0));
 }
 
 -- "A refused opening gives the default start state at cycle 0": mask 07FF, CSR 0, FEEN 2, CNT 5.
@@ -36,7 +36,7 @@ rejects number mask csr feen cnt cycle = record {
   cnt = cnt;
   cycle = cycle;
   number = number;
-  image = 1 ∷ 0x07FF ∷ 0 ∷ 2 ∷ 5 ∷ replicate 63 0;
+  image = 2 ∷ 0x07FF ∷ 0 ∷ 2 ∷ 5 ∷ replicate 63 0;
 }
 
 abbrev pub openingShown : OpeningRow → ℕ × List ℕ

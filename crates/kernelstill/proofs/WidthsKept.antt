@@ -102,8 +102,10 @@ module _ (r : Recogniser) (bit cnt : ℕ) (low : cnt < 2 ^ 16) (n : Narrow r) wh
       kept-low =
           choice (λ v. v < 2 ^ 32) (eqb (r .command) 1 || eqb (r .command) 3) (λ _. omega arith) (λ _. shifted-fits 32 (r .held) bit)
 
-      group-low : groupOf (r .group) (r .count) bit < 2 ^ 8
-      group-low = choice (λ v. v < 2 ^ 8) (isEighth (r .count)) (λ _. omega arith) (λ _. shifted-fits 8 (r .group) bit)
+      group-low : groupOf r bit < 2 ^ 8
+      group-low =
+          choice (λ v. v < 2 ^ 8) (eqb (r .command) 6) (λ _. omega arith)
+          (λ _. choice (λ v. v < 2 ^ 8) (isEighth (r .count)) (λ _. omega arith) (λ _. shifted-fits 8 (r .group) bit))
 
   step-narrow : NarrowNext (stepOf r bit cnt)
   unfolding stepOf

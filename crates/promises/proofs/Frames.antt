@@ -4,6 +4,7 @@ use mathlib.Core.Path.{_≡_, _∙_, refl, sym, ap, subst}
 use mathlib.Core.Bool.{Bool, true, false, cond, _&&_}
 use mathlib.Core.List.{List, [], _∷_, _++_}
 use Prim.Native.Nat.{ℕ, _+_, _*_, _/_, _^_, _<_, _≤_}
+use native.Mathlib.Nat.{zero-add}
 use native.Mathlib.Omega.{arith}
 use lib.Dec.{eqb, leb, ltb, T}
 use lib.ListN.{length, length-append, length-set, take}
@@ -11,6 +12,7 @@ use borrow.Author.Tests.{eqb-true, eqb-false, leb-true, lt-leb, le-leb, ne-eqb}
 use Rattle.limits.specs.Limits.{storeLength, trayLength}
 use Rattle.bits.proofs.Truth.{both, cond-most, choice, and-right}
 use Rattle.bits.proofs.BitRanges.{binary, binary-behind}
+use Rattle.groups.proofs.GroupLists.{votes-binary, votes-length}
 use Rattle.recogniser.specs.declared.Phase.the-variants.{Field5}
 use Rattle.recogniser.specs.declared.Recogniser.{Recogniser}
 use Rattle.recogniser.specs.declared.FrameBit.{FrameBit}
@@ -18,7 +20,7 @@ use Rattle.recogniser.specs.declared.FrameBit.the-variants.{None, At}
 use Rattle.recogniser.specs.Parts.{startOf}
 use Rattle.recogniser.specs.Fields.{isFrame, lengthOf, dataBits, controlBits}
 use Rattle.frames.specs.Tray.{trayOf, partOf}
-use Rattle.frames.proofs.FrameFill.{trayBy, bitsIn, PartHolds, part-holds}
+use Rattle.frames.proofs.FrameFill.{filledOf, PartHolds, part-holds}
 use Rattle.decoder.specs.Sound.{soundOf}
 use Rattle.controller.specs.Records.{headOf, kindOf, kindSlow, flagUnsteady, frameBitsOf}
 use Rattle.controller.specs.Commands.{frameValueOf}
@@ -33,19 +35,22 @@ use Rattle.calls.proofs.Refusals.{unsound, wrong-buffers}
 use Rattle.calls.proofs.Refusals as refusals
 use Rattle.calls.proofs.CallLists.{carried-words, carried-system}
 use Rattle.calls.proofs.BitCalls.{carried-binary}
-use Rattle.calls.proofs.FrameTurns.{FrameTaken, frameRecord, frame-taken}
-use Rattle.promises.specs.Frames.{countOf, handedBack, Receives, HandsBack, Frames, EmptyFrame}
+use Rattle.calls.proofs.FrameTurns.{FrameTaken, frameRecord, receiver-taken}
+use Rattle.calls.proofs.FrontEndTurns.{front-end-taken}
+use Rattle.promises.specs.Frames.{cyclesEach, frameOf, unsteadyIn, countOf, handedBack, Receives, HandsBack, Frames, EmptyFrame}
 
 -- The count of a frame's bits, off its record, against the cycles of Field 5.
+abbrev counted : ℕ → ℕ → ℕ
+counted command cnt = frameBitsOf (kindSlow command) (frameValueOf command cnt)
+
 record Counted (command cnt : ℕ) : Type 0 where
-  bits : frameBitsOf (kindSlow command) (frameValueOf command cnt) ≡ bitsIn (eqb command 6) (lengthOf command cnt)
-  cycles : frameBitsOf (kindSlow command) (frameValueOf command cnt) * cond (eqb command 6) 1 8 ≡ lengthOf command cnt
-  low : bitsIn (eqb command 6) (lengthOf command cnt) ≤ 8 * trayLength
+  cycles : counted command cnt * cyclesEach command ≡ lengthOf command cnt
+  low : counted command cnt ≤ 8 * trayLength
 
 counted-by : (command cnt : ℕ) → isFrame command ≡ true → cnt < 2 ^ 16 → (one : Bool) → eqb command 6 ≡ one → Counted command cnt
 counted-by command cnt frame narrow true e =
     let six = eqb-true command 6 e in
-    record { bits = rw six; cycles = rw six (omega arith); low = rw six (omega arith) }
+    record { cycles = rw six (omega arith); low = rw six (omega arith) }
 counted-by command cnt frame narrow false e =
     let p = both (leb 4 command) (leb command 6) frame in
     let l = leb-true 4 command (p .0) in
@@ -54,14 +59,22 @@ counted-by command cnt frame narrow false e =
     let long : lengthOf command cnt ≡ dataBits cnt * 8 + controlBits cnt * 8 =
     simp (lt-leb command 1 (omega arith), lt-leb command 3 (omega arith), le-leb command 5 (omega arith)) in
     let other : eqb (kindSlow command) 0x26 ≡ false = ne-eqb (kindSlow command) 0x26 (omega arith) in
-    record {
-      bits = rw (long, e, other) (omega arith);
-      cycles = rw (long, e, other) (omega arith);
-      low = rw (long, e) (omega arith);
-    }
+    let sum : counted command cnt * 8 ≡ dataBits cnt * 8 + controlBits cnt * 8 = rw (e, other) (omega arith) in
+    record { cycles = rw (long, e, other) (omega arith); low = omega arith }
 
-counted : (command cnt : ℕ) → isFrame command ≡ true → cnt < 2 ^ 16 → Counted command cnt
-counted command cnt frame narrow = counted-by command cnt frame narrow (eqb command 6) refl
+-- A frame's bits, as many as the count.
+record FrameFits (command count : ℕ) (field : List ℕ) : Type 0 where
+  long : length (frameOf command field) ≡ count
+  bits : T (binary (frameOf command field))
+
+frame-fits : (command count : ℕ) (field : List ℕ) → count * cyclesEach command ≡ length field → T (binary field) → (one : Bool) → eqb command 6 ≡ one
+    → FrameFits command count field
+frame-fits command count field whole b true e =
+    let all : count * 1 ≡ length field = rw e at whole in
+    record { long = rw e (omega arith); bits = rw e b }
+frame-fits command count field whole b false e =
+    let all : count * 8 ≡ length field = rw e at whole in
+    record { long = rw e (votes-length (length field / 8) field ∙ omega arith); bits = rw e (votes-binary (length field / 8) field b) }
 
 -- What any bits keep: the clock goes on with each, and widths and the tray's length stay.
 tray-kept : (tray : List ℕ) (f : FrameBit) → length (trayOf tray f) ≡ length tray
@@ -115,21 +128,40 @@ module _ (s : System) (ps : List Part) (command address : ℕ) (before field : L
   abbrev here : System
   here = stateAfter turnOf s before
 
-  taken-from : (bits : List ℕ) → 0 < length bits → length bits ≡ lengthOf command (cntAt (here .machine))
-      → FrameTaken command 0 bits (record { recogniser = startOf Field5 0 command address; machine = here .machine })
-  taken-from [] some whole = absurd (omega arith)
-  taken-from (bit ∷ bits) some whole = frame-taken command address (r .frame) bits bit 0 _ _ (here .machine) (omega arith)
+  ahead : Kept s before
+  ahead = kept before s
 
-  taken : FrameTaken command 0 field here
-  taken =
-      subst (λ (q : Recogniser). FrameTaken command 0 field (record { recogniser = q; machine = here .machine })) (sym (r .begins))
-      (taken-from field (r .some) (r .whole))
+  counts : Counted command (cntAt (here .machine))
+  counts = counted-by command (cntAt (here .machine)) (r .frame) (ahead .model widths .each-register _) (eqb command 6) refl
 
-  abbrev one : Bool
-  one = eqb command 6
+  bits-are : T (binary field)
+  bits-are = binary-behind before field (subst (λ bits. T (binary bits)) (r .took) (carried-binary s ps))
+
+  fits : FrameFits command (counted command (cntAt (here .machine))) field
+  fits = frame-fits command _ field (counts .cycles ∙ sym (r .whole)) bits-are (eqb command 6) refl
+
+  abbrev Taken : List ℕ → Recogniser → Type 0
+  Taken bits q = FrameTaken command 0 (frameOf command bits) (unsteadyIn command bits) bits (record { recogniser = q; machine = here .machine })
+
+  taken-from : (bits : List ℕ) → 0 < length bits → length bits ≡ lengthOf command (cntAt (here .machine)) → T (binary bits)
+      → (one : Bool) → eqb command 6 ≡ one → Taken bits (startOf Field5 0 command address)
+  taken-from [] some whole b one e = absurd (omega arith)
+  taken-from (bit ∷ bits) some whole b true e =
+      let six = eqb-true command 6 e in
+      rw six (receiver-taken address bits bit 0 0 false (here .machine) (zero-add _ ∙ rw six at whole))
+  taken-from (bit ∷ bits) some whole b false e =
+      let eight : cyclesEach command ≡ 8 = rw e in
+      let groups : counted command (cntAt (here .machine)) * 8 ≡ length (bit ∷ bits) =
+      ap (λ k. counted command (cntAt (here .machine)) * k) (sym eight) ∙ counts .cycles ∙ sym whole in
+      rw e
+      (front-end-taken command address (r .frame) e bits bit [] 0 (length (bit ∷ bits) / 8) false (here .machine)
+      (omega arith) (omega arith) b (omega arith))
+
+  taken : Taken field (here .recogniser)
+  taken = subst (Taken field) (sym (r .begins)) (taken-from field (r .some) (r .whole) bits-are (eqb command 6) refl)
 
   abbrev head : ℕ
-  head = headOf (frameRecord (taken .time) command (taken .unsteady) (cntAt (here .machine)))
+  head = headOf (frameRecord (taken .time) command (unsteadyIn command field) (cntAt (here .machine)))
 
   abbrev value : ℕ
   value = frameValueOf command (cntAt (here .machine))
@@ -137,30 +169,24 @@ module _ (s : System) (ps : List Part) (command address : ℕ) (before field : L
   abbrev tray : List ℕ
   tray = carriedSystem s ps .machine .tray
 
-  ahead : Kept s before
-  ahead = kept before s
-
-  counts : Counted command (cntAt (here .machine))
-  counts = counted command (cntAt (here .machine)) (r .frame) (ahead .model widths .each-register _)
-
   low : command < 7
   low = omega (arith, leb-true command 6 (both (leb 4 command) (leb command 6) (r .frame) .1))
 
-  flags : flagUnsteady (taken .unsteady) ≤ 16
-  flags = cond-most (taken .unsteady) (omega arith) (omega arith)
+  flags : flagUnsteady (unsteadyIn command field) ≤ 16
+  flags = cond-most (unsteadyIn command field) (omega arith) (omega arith)
 
   kind-is : kindOf head ≡ kindSlow command
   kind-is = omega (arith, low, flags)
 
-  count-is : countOf head value ≡ bitsIn one (length field)
-  count-is = ap (λ k. frameBitsOf k value) kind-is ∙ counts .bits ∙ ap (bitsIn one) (sym (r .whole))
+  count-is : countOf head value ≡ length (frameOf command field)
+  count-is = ap (λ k. frameBitsOf k value) kind-is ∙ sym (fits .long)
 
-  tray-is : tray ≡ trayBy one 0 (here .machine .tray) field
+  tray-is : tray ≡ filledOf 0 (here .machine .tray) (frameOf command field)
   tray-is =
       ap (λ (u : System). u .machine .tray) (carried-system s ps ∙ ap (stateAfter turnOf s) (r .took) ∙ state-append turnOf s before field)
       ∙ taken .tray
 
-  part-is : handedBack tray head value ≡ partOf (trayBy one 0 (here .machine .tray) field) (bitsIn one (length field))
+  part-is : handedBack tray head value ≡ partOf (filledOf 0 (here .machine .tray) (frameOf command field)) (length (frameOf command field))
   part-is = λ i. partOf (tray-is i) (count-is i)
 
   long : length (here .machine .tray) ≡ trayLength
@@ -169,13 +195,10 @@ module _ (s : System) (ps : List Part) (command address : ℕ) (before field : L
       let all : length (carriedBits s ps) ≡ length before + length field = ap length (r .took) ∙ length-append before field in
       ahead .tray ∙ tray-fits ps s (omega arith)
 
-  bits-are : T (binary field)
-  bits-are = binary-behind before field (subst (λ bits. T (binary bits)) (r .took) (carried-binary s ps))
-
-  holds : PartHolds one field (handedBack tray head value)
+  holds : PartHolds (frameOf command field) (handedBack tray head value)
   holds =
-      subst (PartHolds one field) (sym part-is)
-      (part-holds one field (here .machine .tray) bits-are (rw (long, r .whole) (counts .low)))
+      subst (PartHolds (frameOf command field)) (sym part-is)
+      (part-holds (frameOf command field) (here .machine .tray) (fits .bits) (rw (long, fits .long) (counts .low)))
 
   hands-back : HandsBack s (carriedWords s ps) tray command before field
   hands-back = record {
@@ -184,6 +207,7 @@ module _ (s : System) (ps : List Part) (command address : ℕ) (before field : L
     written = carried-words s ps ∙ ap (wordsAfter turnOf s) (r .took) ∙ words-append turnOf s before field
         ∙ ap (λ words. wordsAfter turnOf s before ++ words) (taken .words);
     kind = kind-is;
+    flags = omega (arith, flags);
     time = omega (arith, low, flags, taken .last-bit, ahead .next);
     count = rw kind-is (counts .cycles ∙ sym (r .whole));
     bytes = holds .long ∙ ap (λ n. (n + 7) / 8) (sym count-is);

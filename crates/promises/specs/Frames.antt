@@ -1,17 +1,19 @@
--- The second demand's frames: what the part of the tray holds that the second call hands back (document 01, "What commands do").
+-- The second demand's frames: what the part of the tray holds that the second call hands back (document 01, "What commands do", with the vote of document
+-- 02, F-4).
 -- Assumes nothing.
 use mathlib.Core.Path.{_≡_}
-use mathlib.Core.Bool.{true, cond}
+use mathlib.Core.Bool.{Bool, true, false, cond}
 use mathlib.Core.List.{List, [], _∷_, _++_}
-use Prim.Native.Nat.{ℕ, _+_, _*_, _/_, _<_}
+use Prim.Native.Nat.{ℕ, _+_, _*_, _/_, _%_, _<_}
 use lib.Dec.{eqb}
 use lib.ListN.{length, getD}
 use Rattle.bits.specs.Bits.{bitOf}
+use Rattle.groups.specs.Vote.{votesOf, someUnsteady}
 use Rattle.recogniser.specs.declared.Phase.the-variants.{Field5}
 use Rattle.recogniser.specs.Parts.{startOf}
 use Rattle.recogniser.specs.Fields.{isFrame, lengthOf}
 use Rattle.frames.specs.Tray.{partOf}
-use Rattle.controller.specs.Records.{kindOf, kindSlow, frameBitsOf}
+use Rattle.controller.specs.Records.{kindOf, kindSlow, flagActed, flagUnsteady, frameBitsOf}
 use Rattle.controller.specs.Widths.{ModelFits}
 use Rattle.calls.specs.Run.{stateAfter, wordsAfter}
 use Rattle.calls.specs.Turn.{System, cntAt, turnOf}
@@ -21,9 +23,13 @@ use Rattle.calls.specs.Calls.{Part, carriedBits, carriedWords, carriedSystem}
 abbrev pub cyclesEach : ℕ → ℕ
 cyclesEach command = cond (eqb command 6) 1 8
 
--- The frame's bit at a place, as it arrived in Field 5: "the first of its eight"; 0 beyond the frame's last.
-abbrev pub frameBit : ℕ → List ℕ → ℕ → ℕ
-frameBit command field place = getD field (cyclesEach command * place) 0
+-- The frame's bits, by those that arrived in Field 5; a front-end bit is the vote of its eight.
+abbrev pub frameOf : ℕ → List ℕ → List ℕ
+frameOf command field = cond (eqb command 6) field (votesOf (length field / 8) field)
+
+-- "A group whose eight differ is unsteady"; a WrReceiver has no groups.
+abbrev pub unsteadyIn : ℕ → List ℕ → Bool
+unsteadyIn command field = cond (eqb command 6) false (someUnsteady (length field / 8) field)
 
 -- Calls take some bits, cut anywhere: first any bits, behind which Field 5 of a frame begins, then all of Field 5, as long as CNT says there.
 pub record Receives (s : System) (bits : List ℕ) (command address : ℕ) (before field : List ℕ) : Type 0 where
@@ -40,17 +46,19 @@ countOf head value = frameBitsOf (kindOf head) value
 abbrev pub handedBack : List ℕ → ℕ → ℕ → List ℕ
 handedBack tray head value = partOf tray (countOf head value)
 
--- Behind the records of the bits ahead of Field 5 the calls write one, the frame's, with the time of its last bit and the count of its bits. The part
--- handed back has as many bytes as they need; each of its bits, "highest bit first", is the frame's at that place, and 0 beyond the frame's last.
+-- Behind the records of the bits ahead of Field 5 the calls write one, the frame's, with the time of its last bit, flag 10 where a group was unsteady, and
+-- the count of its bits. The part handed back has as many bytes as they need; each of its bits, "highest bit first", is the frame's at that place, and 0
+-- beyond the frame's last.
 pub record HandsBack (s : System) (words tray : List ℕ) (command : ℕ) (before field : List ℕ) : Type 0 where
   pub head : ℕ
   pub value : ℕ
   pub written : words ≡ wordsAfter turnOf s before ++ (head ∷ value ∷ [])
   pub kind : kindOf head ≡ kindSlow command
+  pub flags : head % 256 ≡ flagActed true + flagUnsteady (unsteadyIn command field)
   pub time : head / 65536 + 1 ≡ s .machine .next + length before + length field
   pub count : countOf head value * cyclesEach command ≡ length field
   pub bytes : length (handedBack tray head value) ≡ (countOf head value + 7) / 8
-  pub bits : (i : ℕ) → i < 8 * length (handedBack tray head value) → bitOf (handedBack tray head value) i ≡ frameBit command field i
+  pub bits : (i : ℕ) → i < 8 * length (handedBack tray head value) → bitOf (handedBack tray head value) i ≡ getD (frameOf command field) i 0
 
 -- State, store and tray are carried over from call to call, whatever the tray holds at first.
 abbrev pub Frames : Type 0

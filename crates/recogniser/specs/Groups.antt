@@ -18,9 +18,9 @@ use Rattle.recogniser.specs.Fields.{endsOf}
 abbrev pub isEighth : ℕ → Bool
 isEighth count = eqb (count % 8) 7
 
--- What is held of the present group behind a cycle: the bits received of it, and nothing once it is finished.
-abbrev pub groupOf : ℕ → ℕ → ℕ → ℕ
-groupOf group count bit = cond (isEighth count) 0 (withBit group bit)
+-- What is held of the present group behind a cycle: the bits received of it, and nothing once it is finished. A WrReceiver has no groups.
+abbrev pub groupOf : Recogniser → ℕ → ℕ
+groupOf r bit = cond (eqb (r .command) 6) 0 (cond (isEighth (r .count)) 0 (withBit (r .group) bit))
 
 -- The frame bit of a cycle. "WrReceiver carries one bit a cycle." A front-end bit is the vote of its group, "stored .. in the eighth cycle".
 abbrev pub frameBitOf : Recogniser → ℕ → FrameBit
@@ -29,7 +29,7 @@ frameBitOf r bit =
     (cond (isEighth (r .count)) (At (r .count / 8) (voteOf (bitsIn (withBit (r .group) bit))))
     None)
 
--- "A group whose eight differ is unsteady": a group of this frame was, or the one that this bit finishes is. A WrReceiver has no groups.
+-- "A group whose eight differ is unsteady": a group of this frame was, or the one that this bit finishes is.
 abbrev pub unsteadyOf : Recogniser → ℕ → Bool
 unsteadyOf r bit =
     cond (eqb (r .command) 6) false
@@ -46,6 +46,6 @@ frameFieldOf r bit cnt =
       command = r .command;
       address = r .address;
       held = r .held;
-      group = groupOf (r .group) (r .count) bit;
+      group = groupOf r bit;
       unsteady = unsteadyOf r bit;
     }) (record { frame = frameBitOf r bit; request = Nothing }))

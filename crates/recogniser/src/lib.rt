@@ -248,17 +248,6 @@ fn is_eighth(count: u32) -> bool
     count % 8 == 7
 }
 
-// What is held of the present group behind a cycle.
-fn group_with(group: u8, count: u32, bit: u8) -> u8
-    requires { ⌜ bit < 2 ⌝ }
-    ensures { λ r. ⌜ r ≡ groupOf group count bit ⌝ }
-{
-    if is_eighth(count) {
-        return 0;
-    }
-    groups::with_bit(group, bit)
-}
-
 impl Transition {
     // A request, and hunting on with this window.
     pub fn hunting(window: u8, request: Request) -> Self
@@ -419,6 +408,20 @@ impl Recogniser {
         }
     }
 
+    // What is held of the present group behind this cycle.
+    fn group_with(self, bit: u8) -> u8
+        requires { ⌜ bit < 2 ⌝ }
+        ensures { λ r. ⌜ r ≡ groupOf self bit ⌝ }
+    {
+        if self.command == 6 {
+            return 0;
+        }
+        if is_eighth(self.count) {
+            return 0;
+        }
+        groups::with_bit(self.group, bit)
+    }
+
     // Whether a group of this frame was unsteady, the one that this bit finishes included.
     fn unsteady_with(self, bit: u8) -> bool
         requires { ⌜ bit < 2 ⌝ }
@@ -479,7 +482,7 @@ impl Recogniser {
         }
         let mut next = self;
         next.unsteady = unsteady;
-        next.group = group_with(self.group, self.count, bit);
+        next.group = self.group_with(bit);
         next.count = self.count + 1;
         Transition {
             next: next,

@@ -35,8 +35,8 @@ abbrev pub next : ℕ → Cell
 next n = cell (image-at 5) n
 
 -- The recogniser: its phase (0 hunting, 1 body, 2 Field 3, 3 Field 4, 4 Field 5), the window or the bits received of a body, Field 3 or Field 4, Fields 3
--- and 4 once received, how many bits of the present field are received, the bits held of Field 5, the first bit of a frame's present group of eight, and
--- whether a group of the frame was unsteady so far.
+-- and 4 once received, how many bits of the present field are received, the bits held of Field 5, those received of a front-end frame's present group of
+-- eight, the last one lowest, and whether a finished group of the frame was unsteady.
 abbrev pub phase : ℕ → Cell
 phase n = cell (image-at 6) n
 
@@ -55,8 +55,8 @@ count n = cell (image-at 10) n
 abbrev pub held : ℕ → Cell
 held n = cell (image-at 11) n
 
-abbrev pub first : ℕ → Cell
-first n = cell (image-at 12) n
+abbrev pub group : ℕ → Cell
+group n = cell (image-at 12) n
 
 abbrev pub unsteady : ℕ → Cell
 unsteady n = cell (image-at 13) n

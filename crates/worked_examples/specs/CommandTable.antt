@@ -3,7 +3,7 @@
 -- Assumes nothing.
 use mathlib.Core.List.{List, [], _∷_, _++_}
 use Rattle.worked_examples.specs.CommandBits.{line, field, lv1, bcr, ecr, cal, sync, slow, enDataTake, globalResetMcc, globalResetFe}
-use Rattle.worked_examples.specs.Cells.{phase, shift, command, address, count, held, first, unsteady}
+use Rattle.worked_examples.specs.Cells.{phase, shift, command, address, count, held, group, unsteady}
 use Rattle.worked_examples.specs.Cells.{runMode, l1id, base, wlv1, wfst, wslw, register}
 use Rattle.worked_examples.specs.Example.{Row, row, done}
 
@@ -63,7 +63,11 @@ table =
     ∷ row [] (line "10110 1011 0000 0101 1011") (done 21 0) [] (phase 4 ∷ command 0 ∷ address 0b0101 ∷ count 4 ∷ held 0b1011 ∷ [])
     ∷ row [] (line "10110 1011 0001 0101 1011") (done 21 0) [] (phase 4 ∷ command 1 ∷ address 0b0101 ∷ count 4 ∷ held 0 ∷ [])
     ∷ row [] (line "10110 1011 0011 1111 1011") (done 21 0) [] (phase 4 ∷ command 3 ∷ address 0b1111 ∷ count 4 ∷ held 0 ∷ [])
-    ∷ row (register 5 0x0008 ∷ []) (line "10110 1011 0100 0000 11110") (done 22 0) [] (phase 4 ∷ count 5 ∷ first 1 ∷ unsteady 1 ∷ [])
+    -- the bits of an unfinished group; a finished one leaves nothing but whether it was unsteady, and a WrReceiver has none
+    ∷ row (register 5 0x0010 ∷ []) (line "10110 1011 0100 0000 11110") (done 22 0) [] (phase 4 ∷ count 5 ∷ group 0b11110 ∷ unsteady 0 ∷ [])
+    ∷ row (register 5 0x0010 ∷ []) (line "10110 1011 0101 0000 11110000") (done 25 0) [] (phase 4 ∷ count 8 ∷ group 0 ∷ unsteady 1 ∷ [])
+    ∷ row (register 5 0x0010 ∷ []) (line "10110 1011 0100 0000 11111111 01") (done 27 0) [] (phase 4 ∷ count 10 ∷ group 0b01 ∷ unsteady 0 ∷ [])
+    ∷ row (register 5 0x0002 ∷ []) (line "10110 1011 0110 0000 10110") (done 22 0) [] (phase 4 ∷ count 5 ∷ group 0 ∷ unsteady 0 ∷ [])
     -- "Other values of Field 3 are a bad Slow, recorded after Field 4": kind 2F, never acted on; the value is Field 3
     ∷ row (runMode 1 ∷ [])
     (slow "0111" 0 [] ++ (slow "1011" 0 [] ++ (slow "1100" 0 [] ++ (slow "1101" 0 [] ++ (slow "1110" 0 [] ++ slow "1111" 0b1111 [])))))

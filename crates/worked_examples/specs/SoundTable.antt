@@ -2,7 +2,7 @@
 -- Assumes nothing.
 use mathlib.Core.List.{List, [], _∷_, _++_}
 use lib.ListN.{replicate}
-use Rattle.worked_examples.specs.Cells.{Cell, mask, csr, feen, cnt, next, phase, shift, command, address, count, held}
+use Rattle.worked_examples.specs.Cells.{Cell, mask, csr, feen, cnt, next, phase, shift, command, address, count, held, group, unsteady}
 use Rattle.worked_examples.specs.Cells.{wordsFrom, runMode, base, register, writePointer, writePointers, readPointer, readPointers}
 use Rattle.worked_examples.specs.Example.{Row, row, done, refused}
 
@@ -89,6 +89,26 @@ table =
     ∷ sound (register 5 0xE001 ∷ phase 4 ∷ command 6 ∷ count 7 ∷ [])
     ∷ unsound (register 5 0xE001 ∷ phase 4 ∷ command 6 ∷ count 8 ∷ [])
     ∷ unsound (phase 4 ∷ command 4 ∷ [])
+    -- document 02, F-4: "what is held of an unfinished group is what some bits, as many as its cycles received, would leave"; nothing else is asked of it
+    ∷ sound (register 5 0x0008 ∷ phase 4 ∷ command 4 ∷ count 7 ∷ group 0b1111111 ∷ [])
+    ∷ unsound (register 5 0x0008 ∷ phase 4 ∷ command 4 ∷ count 7 ∷ group 0b10000000 ∷ [])
+    ∷ sound (register 5 0x0008 ∷ phase 4 ∷ command 4 ∷ count 1 ∷ group 0b1 ∷ [])
+    ∷ unsound (register 5 0x0008 ∷ phase 4 ∷ command 4 ∷ count 1 ∷ group 0b10 ∷ [])
+    ∷ unsound (register 5 0x0008 ∷ phase 4 ∷ command 4 ∷ count 0 ∷ group 0b1 ∷ [])
+    ∷ sound (register 5 0x0010 ∷ phase 4 ∷ command 5 ∷ count 11 ∷ group 0b111 ∷ [])
+    ∷ unsound (register 5 0x0010 ∷ phase 4 ∷ command 5 ∷ count 11 ∷ group 0b1000 ∷ [])
+    ∷ sound (register 5 0x0010 ∷ phase 4 ∷ command 5 ∷ count 8 ∷ group 0 ∷ [])
+    ∷ unsound (register 5 0x0010 ∷ phase 4 ∷ command 5 ∷ count 8 ∷ group 0b11111111 ∷ [])
+    ∷ sound (register 5 0x0010 ∷ phase 4 ∷ command 4 ∷ count 0 ∷ unsteady 1 ∷ [])
+    ∷ sound (register 5 0x0010 ∷ phase 4 ∷ command 4 ∷ count 8 ∷ unsteady 1 ∷ [])
+    ∷ sound (register 5 0x0001 ∷ phase 4 ∷ command 6 ∷ count 7 ∷ group 0b11111111 ∷ unsteady 1 ∷ [])
+    ∷ sound (phase 4 ∷ command 0 ∷ group 0b11111111 ∷ [])
+    ∷ sound (phase 4 ∷ command 3 ∷ group 0b11111111 ∷ [])
+    ∷ sound (phase 4 ∷ command 10 ∷ group 0b11111111 ∷ [])
+    ∷ sound (group 0b11111111 ∷ [])
+    ∷ sound (phase 1 ∷ group 0b11111111 ∷ [])
+    ∷ sound (phase 2 ∷ group 0b11111111 ∷ [])
+    ∷ sound (phase 3 ∷ group 0b11111111 ∷ [])
     -- "inside Field 5 the command is one that has it"
     ∷ unsound (phase 4 ∷ command 7 ∷ [])
     ∷ unsound (phase 4 ∷ command 8 ∷ [])
