@@ -75,7 +75,7 @@ frame-fits command count field whole b true e =
 frame-fits command count field whole b false e =
     let all : count * 8 ≡ length field = rw e at whole in
     let groups : length field / 8 ≡ count = omega arith in
-    record { long = rw e (votes-length _ _ ∙ groups); bits = rw e (votes-binary _ _ b) }
+    record { long = rw e (votes-length _ _ ∙ groups); bits = rw e (votes-binary (length field / 8) field b) }
 
 -- What any bits keep: the clock goes on with each, and widths and the tray's length stay.
 tray-kept : (tray : List ℕ) (f : FrameBit) → length (trayOf tray f) ≡ length tray
