@@ -47,6 +47,14 @@ pub or-right : (a b : Bool) → b ≡ true → (a || b) ≡ true
 or-right true b e = refl
 or-right false b e = e
 
+pub or-none : (b : Bool) → (b || false) ≡ b
+or-none true = refl
+or-none false = refl
+
+pub or-join : (a b c : Bool) → ((a || b) || c) ≡ (a || (b || c))
+or-join true b c = refl
+or-join false b c = refl
+
 -- Tests that hold.
 pub cond-case : {A : Type 0} (P : A → Type 0) (b : Bool) {x y : A} → (T b → P x) → (T (not b) → P y) → P (cond b x y)
 cond-case P true f g = f tt

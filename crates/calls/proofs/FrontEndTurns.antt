@@ -9,7 +9,7 @@ use native.Mathlib.Omega.{arith}
 use lib.Dec.{T, eqb}
 use lib.ListN.{length, length-append}
 use borrow.Author.Tests.{eq-eqb, ne-eqb, eqb-true, eqb-false}
-use Rattle.bits.proofs.Truth.{cases}
+use Rattle.bits.proofs.Truth.{cases, or-none, or-join}
 use Rattle.bits.proofs.BitRanges.{binary, binary-ahead, binary-behind}
 use Rattle.groups.specs.Vote.{voteOf, unsteady, votesOf, someUnsteady}
 use Rattle.groups.specs.Received.{withBit, bitsIn, leftBy}
@@ -19,18 +19,11 @@ use Rattle.recogniser.specs.declared.FrameBit.the-variants.{None, At}
 use Rattle.recogniser.specs.declared.Recogniser.{Recogniser}
 use Rattle.recogniser.specs.Fields.{isFrame, lengthOf}
 use Rattle.recogniser.specs.Groups.{isEighth, groupOf, unsteadyOf, frameBitOf}
+use Rattle.recogniser.proofs.GroupCycles.{no-bit, gathered, as-before, voted, finished, joined}
 use Rattle.frames.specs.Tray.{trayOf}
 use Rattle.frames.proofs.FrameFill.{filledOf}
 use Rattle.calls.specs.Turn.{System, Machine, cntAt}
 use Rattle.calls.proofs.FrameTurns.{FrameTaken, system, at, moved, last-taken, cycle-taken}
-
-or-none : (b : Bool) → (b || false) ≡ b
-or-none true = refl
-or-none false = refl
-
-or-join : (a b c : Bool) → ((a || b) || c) ≡ (a || (b || c))
-or-join true b c = refl
-or-join false b c = refl
 
 -- A front-end frame behind so many whole groups and some bits of the next.
 module _ (command address place : ℕ) (part : List ℕ) (u : Bool) where
@@ -52,9 +45,9 @@ module _ (command address place : ℕ) (part : List ℕ) (u : Bool) where
     unfolding trayOf
     group-on early n bits m more f =
         let not-yet : isEighth count ≡ false = ne-eqb (count % 8) 7 (omega arith) in
-        let none : frameBitOf inside bit ≡ None = rw (groups, not-yet) in
-        let held : groupOf inside bit ≡ leftBy 0 (part ++ (bit ∷ [])) = rw (groups, not-yet) (sym (left-last part 0 bit)) in
-        let same : unsteadyOf inside bit ≡ u = rw (groups, not-yet) (or-none u) in
+        let none = no-bit inside bit groups not-yet in
+        let held : groupOf inside bit ≡ leftBy 0 (part ++ (bit ∷ [])) = gathered inside bit groups not-yet ∙ sym (left-last part 0 bit) in
+        let same = as-before inside bit groups not-yet in
         let one-on : count + 1 ≡ 8 * place + length (part ++ (bit ∷ [])) = rw length-append (omega arith) in
         cycle-taken command address frame count (leftBy 0 part) u m bit bits more place place
         (votesOf n (part ++ (bit ∷ bits))) (votesOf n (part ++ (bit ∷ bits))) (u || someUnsteady n (part ++ (bit ∷ bits))) (rw none)
@@ -68,21 +61,23 @@ module _ (command address place : ℕ) (part : List ℕ) (u : Bool) where
       its-bits : bitsIn (withBit (leftBy 0 part) bit) ≡ part ++ (bit ∷ [])
       its-bits = rw (← left-last part 0 bit) (bits-left (part ++ (bit ∷ [])) (length-append part (bit ∷ []) ∙ omega arith) b)
 
-      voted : frameBitOf inside bit ≡ At place (voteOf (part ++ (bit ∷ [])))
-      voted = let e : count / 8 ≡ place = omega arith in rw (groups, eighth, e) (ap (λ g. At place (voteOf g)) its-bits)
+      stored : frameBitOf inside bit ≡ At place (voteOf (part ++ (bit ∷ [])))
+      stored =
+          let e : count / 8 ≡ place = omega arith in
+          voted inside bit groups eighth ∙ (λ i. At (e i) (voteOf (its-bits i)))
 
-      joined : unsteadyOf inside bit ≡ (u || unsteady (part ++ (bit ∷ [])))
-      joined = rw (groups, eighth) (ap (λ g. u || unsteady g) its-bits)
+      flagged : unsteadyOf inside bit ≡ (u || unsteady (part ++ (bit ∷ [])))
+      flagged = joined inside bit groups eighth ∙ ap (λ g. u || unsteady g) its-bits
 
       -- the last of all
       pub group-last : (m : Machine) → count + 1 ≡ lengthOf command (cntAt m) → Taken 1 (bit ∷ []) m
       unfolding trayOf
       group-last m end =
           let flag : unsteadyOf inside bit ≡ (u || someUnsteady 1 (part ++ (bit ∷ []))) =
-          joined ∙ ap (λ v. u || v) (sym (unsteady-first part bit [] seven 0 ∙ or-none _)) in
+          flagged ∙ ap (λ v. u || v) (sym (unsteady-first part bit [] seven 0 ∙ or-none _)) in
           subst (λ v. FrameTaken command place (votesOf 1 (part ++ (bit ∷ []))) v (bit ∷ []) (system inside m)) flag
           (last-taken command address frame count (leftBy 0 part) u m bit end place (votesOf 1 (part ++ (bit ∷ [])))
-          (ap (trayOf (m .tray)) voted ∙ ap (filledOf place (m .tray)) (sym (votes-first part bit [] seven 0))))
+          (ap (trayOf (m .tray)) stored ∙ ap (filledOf place (m .tray)) (sym (votes-first part bit [] seven 0))))
 
       -- one ahead of other groups
       abbrev behind : Machine → System
@@ -97,11 +92,11 @@ module _ (command address place : ℕ) (part : List ℕ) (u : Bool) where
           let flag : ((u || unsteady (part ++ (bit ∷ []))) || someUnsteady n bits) ≡ (u || someUnsteady (suc n) (part ++ (bit ∷ bits))) =
           or-join u _ _ ∙ ap (λ v. u || v) (sym (unsteady-first part bit bits seven n)) in
           let one-on : count + 1 ≡ 8 * (place + 1) + 0 = omega arith in
-          let none : groupOf inside bit ≡ 0 = rw (groups, eighth) in
+          let none = finished inside bit groups eighth in
           cycle-taken command address frame count (leftBy 0 part) u m bit bits more place (place + 1)
           (votesOf (suc n) (part ++ (bit ∷ bits))) (votesOf n bits) (u || someUnsteady (suc n) (part ++ (bit ∷ bits)))
-          (ap (λ f. filledOf (place + 1) (trayOf (m .tray) f) (votesOf n bits)) voted ∙ ap (filledOf place (m .tray)) (sym (votes-first part bit bits seven n)))
-          (rw (voted, none, joined, one-on) (subst (λ v. FrameTaken command (place + 1) (votesOf n bits) v bits (behind m)) flag f))
+          (ap (λ f. filledOf (place + 1) (trayOf (m .tray) f) (votesOf n bits)) stored ∙ ap (filledOf place (m .tray)) (sym (votes-first part bit bits seven n)))
+          (rw (stored, none, flagged, one-on) (subst (λ v. FrameTaken command (place + 1) (votesOf n bits) v bits (behind m)) flag f))
 
 -- All cycles that are left, so many groups with the bits that came before them.
 pub front-end-taken : (command address : ℕ) → isFrame command ≡ true → eqb command 6 ≡ false

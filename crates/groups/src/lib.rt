@@ -28,10 +28,7 @@ pub fn vote(group: u8) -> u8
 pub fn is_unsteady(group: u8) -> bool
     ensures { λ r. ⌜ r ≡ unsteady (bitsIn group) ⌝ }
 {
-    if group == 0 {
-        return false;
-    }
-    group != 0b11111111
+    (group != 0) & (group != 0b11111111)
 }
 
 // Whether some bits, as many as were received of an unfinished group, leave this.

@@ -1,3 +1,4 @@
 pub mod Positions
 pub mod Field5Lengths
 pub mod StepByPhase
+pub mod GroupCycles

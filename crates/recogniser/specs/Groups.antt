@@ -35,10 +35,10 @@ unsteadyOf r bit =
     cond (eqb (r .command) 6) false
     (r .unsteady || (isEighth (r .count) && unsteady (bitsIn (withBit (r .group) bit))))
 
--- Field 5 of a frame.
-abbrev pub frameFieldOf : Recogniser → ℕ → ℕ → Transition
-frameFieldOf r bit cnt =
-    cond (endsOf r cnt) (transition idle (record { frame = frameBitOf r bit; request = Slow (Frame (r .command) (unsteadyOf r bit)) }))
+-- One cycle of Field 5 of a frame, by its frame bit and what is held behind it of the groups.
+abbrev pub frameCycleOf : Recogniser → FrameBit → ℕ → Bool → ℕ → Transition
+frameCycleOf r frame group unsteady cnt =
+    cond (endsOf r cnt) (transition idle (record { frame = frame; request = Slow (Frame (r .command) unsteady) }))
     (transition (record {
       phase = r .phase;
       shift = r .shift;
@@ -46,6 +46,10 @@ frameFieldOf r bit cnt =
       command = r .command;
       address = r .address;
       held = r .held;
-      group = groupOf r bit;
-      unsteady = unsteadyOf r bit;
-    }) (record { frame = frameBitOf r bit; request = Nothing }))
+      group = group;
+      unsteady = unsteady;
+    }) (record { frame = frame; request = Nothing }))
+
+-- Field 5 of a frame.
+abbrev pub frameFieldOf : Recogniser → ℕ → ℕ → Transition
+frameFieldOf r bit cnt = frameCycleOf r (frameBitOf r bit) (groupOf r bit) (unsteadyOf r bit) cnt

@@ -8,7 +8,7 @@ ghost use Rattle.recogniser.specs.Parts.{startOf, moveTo, gatheredOf};
 ghost use Rattle.recogniser.specs.declared.Phase.the-variants.{Hunt};
 ghost use Rattle.recogniser.specs.Hunting.{isLv1, positionOf, meaningOf, isFast, huntBy, huntOf, bodyOf};
 ghost use Rattle.recogniser.specs.Fields.{lengthOf, isSlow, isFrame, keptOf, endsOf, slowRequestOf, field3Of, field4Of, keptFieldOf};
-ghost use Rattle.recogniser.specs.Groups.{isEighth, groupOf, unsteadyOf, frameBitOf, frameFieldOf};
+ghost use Rattle.recogniser.specs.Groups.{frameCycleOf, frameFieldOf};
 ghost use Rattle.recogniser.specs.Step.{field5Of, stepOf};
 
 // Where the recogniser stands.
@@ -241,13 +241,6 @@ fn slow(command: u8, address: u8, value: u32) -> Request
     }
 }
 
-// Whether a cycle, by those of Field 5 before it, is the eighth of its group.
-fn is_eighth(count: u32) -> bool
-    ensures { λ r. ⌜ r ≡ isEighth count ⌝ }
-{
-    count % 8 == 7
-}
-
 impl Transition {
     // A request, and hunting on with this window.
     pub fn hunting(window: u8, request: Request) -> Self
@@ -408,64 +401,10 @@ impl Recogniser {
         }
     }
 
-    // What is held of the present group behind this cycle.
-    fn group_with(self, bit: u8) -> u8
-        requires { ⌜ bit < 2 ⌝ }
-        ensures { λ r. ⌜ r ≡ groupOf self bit ⌝ }
+    // One cycle of a frame's Field 5, by the frame bit that it stores and what it leaves of the groups.
+    fn frame_cycle(self, frame: FrameBit, group: u8, unsteady: bool, cnt: u16) -> Transition
+        ensures { λ r. ⌜ r ≡ frameCycleOf self frame group unsteady cnt ⌝ }
     {
-        if self.command == 6 {
-            return 0;
-        }
-        if is_eighth(self.count) {
-            return 0;
-        }
-        groups::with_bit(self.group, bit)
-    }
-
-    // Whether a group of this frame was unsteady, the one that this bit finishes included.
-    fn unsteady_with(self, bit: u8) -> bool
-        requires { ⌜ bit < 2 ⌝ }
-        ensures { λ r. ⌜ r ≡ unsteadyOf self bit ⌝ }
-    {
-        if self.command == 6 {
-            return false;
-        }
-        if self.unsteady {
-            return true;
-        }
-        if is_eighth(self.count) {
-            return groups::is_unsteady(groups::with_bit(self.group, bit));
-        }
-        false
-    }
-
-    // The frame bit that this cycle stores.
-    fn frame_bit(self, bit: u8) -> FrameBit
-        requires { ⌜ bit < 2 ⌝ }
-        ensures { λ r. ⌜ r ≡ frameBitOf self bit ⌝ }
-    {
-        if self.command == 6 {
-            return FrameBit::At {
-                place: self.count,
-                bit: bit,
-            };
-        }
-        if is_eighth(self.count) {
-            return FrameBit::At {
-                place: self.count / 8,
-                bit: groups::vote(groups::with_bit(self.group, bit)),
-            };
-        }
-        FrameBit::None
-    }
-
-    // Field 5 of a frame.
-    fn frame_field(self, bit: u8, cnt: u16) -> Transition
-        requires { ⌜ bit < 2 ⌝ }
-        ensures { λ r. ⌜ r ≡ frameFieldOf self bit cnt ⌝ }
-    {
-        let frame = self.frame_bit(bit);
-        let unsteady = self.unsteady_with(bit);
         if self.ends(cnt) {
             return Transition {
                 next: Recogniser::start(Phase::Hunt, 0, 0, 0),
@@ -482,7 +421,7 @@ impl Recogniser {
         }
         let mut next = self;
         next.unsteady = unsteady;
-        next.group = self.group_with(bit);
+        next.group = group;
         next.count = self.count + 1;
         Transition {
             next: next,
@@ -491,6 +430,29 @@ impl Recogniser {
                 request: Request::Nothing,
             },
         }
+    }
+
+    // Field 5 of a frame: a WrReceiver's bit, the eighth cycle of a group, or another.
+    fn frame_field(self, bit: u8, cnt: u16) -> Transition
+        requires { ⌜ bit < 2 ⌝ }
+        ensures { λ r. ⌜ r ≡ frameFieldOf self bit cnt ⌝ }
+    {
+        if self.command == 6 {
+            let frame = FrameBit::At {
+                place: self.count,
+                bit: bit,
+            };
+            return self.frame_cycle(frame, 0, false, cnt);
+        }
+        let group = groups::with_bit(self.group, bit);
+        if self.count % 8 == 7 {
+            let frame = FrameBit::At {
+                place: self.count / 8,
+                bit: groups::vote(group),
+            };
+            return self.frame_cycle(frame, 0, self.unsteady | groups::is_unsteady(group), cnt);
+        }
+        self.frame_cycle(FrameBit::None, group, self.unsteady, cnt)
     }
 
     fn field5(self, bit: u8, cnt: u16) -> Transition

@@ -5,7 +5,6 @@ use mathlib.Core.Path.{_≡_, refl}
 use Prim.Native.Nat.{ℕ, _^_, _<_}
 use lib.Dec.{eqb}
 use borrow.Author.Needs.{needs}
-use borrow.Author.Tests.{ne-eqb}
 use Rattle.bits.proofs.Below.{below-at}
 use Rattle.groups.specs.Vote.{unsteady}
 use Rattle.groups.specs.Received.{bitsIn}
@@ -17,10 +16,7 @@ by-byte : (g : ℕ) → g < 2 ^ 8 → (not (eqb g 0) && not (eqb g 0b11111111)) 
 by-byte g low = below-at 256 (λ g. not (eqb g 0) && not (eqb g 0b11111111)) (λ g. unsteady (bitsIn g)) refl g low
 
 returns : tie.Need-returns
-returns c = rw (c .if1 .taken)
-
-returns-2 : tie.Need-returns-2
-returns-2 c = let low : c .before .args .group < 2 ^ 8 = search needs in simp (ne-eqb _ _ (c .if1 .left)) at (by-byte _ low)
+returns c = by-byte (c .args .group) (search needs)
 
 pub is-unsteady-spec : {M : Type 1} → statement M
-is-unsteady-spec = tie.close (tie.spec returns returns-2)
+is-unsteady-spec = tie.close (tie.spec returns)

@@ -1,59 +1,66 @@
--- `frame_field` is one cycle of the Field 5 of a frame.
+-- `frame_field` is Field 5 of a frame: a WrReceiver's bit, the eighth cycle of a group, or another.
 -- Assumes nothing.
 use mathlib.Core.Path.{sym, _∙_}
-use Rattle.recogniser.proofs.Field5Lengths.{count-fits}
 use borrow.Author.Needs.{needs}
+use borrow.Author.Tests.{eq-eqb, ne-eqb}
+use Rattle.recogniser.proofs.GroupCycles.{gathers}
 use Rattle.recogniser.proofs.Recogniser.frame_field.Statement.{statement}
 use Rattle.recogniser.proofs.Recogniser.frame_field.Tie as tie
 
-frame-bit-requires : tie.Need-frame-bit-requires
-frame-bit-requires c κs = search needs
-
-unsteady-with-requires : tie.Need-unsteady-with-requires
-unsteady-with-requires c κs = search needs
-
-ends-requires : tie.Need-ends-requires
-ends-requires c κs = search needs
-
-start-requires : tie.Need-start-requires
-start-requires c κs = search needs
+frame-cycle-requires : tie.Need-frame-cycle-requires
+frame-cycle-requires c κs = search needs
 
 returns : tie.Need-returns
-returns c =
-    let e = c .before .before in
-    simp (← e .ends .ensures, c .before .if1 .taken, e .before .before .frame-bit .ensures, e .before .unsteady-with .ensures, c .start .ensures)
+returns c = simp (eq-eqb _ _ (c .before .if1 .taken), c .frame-cycle .ensures)
 
-group-with-requires : tie.Need-group-with-requires
-group-with-requires c κs = search needs
+with-bit-requires : tie.Need-with-bit-requires
+with-bit-requires c κs = search needs
 
-add-next : tie.Need-add-next
-add-next c =
-    let left = c .before .before in
-    let e = left .before in
-    let s = e .before .before .before in
-    count-fits (s .args .self) (s .args .cnt) (s .fits .cnt .fits) (sym (e .ends .ensures) ∙ left .if1 .left)
+vote-requires : tie.Need-vote-requires
+vote-requires c κs = search needs
+
+is-unsteady-requires : tie.Need-is-unsteady-requires
+is-unsteady-requires c κs = search needs
+
+frame-cycle-requires-2 : tie.Need-frame-cycle-requires-2
+frame-cycle-requires-2 c κs = search needs
 
 returns-2 : tie.Need-returns-2
 returns-2 c =
-    let left = c .before .before in
-    let e = left .before in
+    let told = c .before .before in
+    let voted = told .before in
+    let eighth = voted .before .before in
+    let held = eighth .before .before in
     simp (
-      ← e .ends .ensures,
-      left .if1 .left,
-      e .before .before .frame-bit .ensures,
-      e .before .unsteady-with .ensures,
-      c .before .group-with .ensures,
+      ne-eqb _ _ (held .before .if1 .left),
+      eq-eqb _ _ (eighth .if2 .taken),
+      ← held .with-bit .ensures,
+      ← voted .vote .ensures,
+      ← told .is-unsteady .ensures,
+      c .frame-cycle2 .ensures,
     )
+
+frame-cycle-requires-3 : tie.Need-frame-cycle-requires-3
+frame-cycle-requires-3 c κs = search needs
+
+returns-3 : tie.Need-returns-3
+returns-3 c =
+    let other = c .before in
+    let held = other .before .before in
+    let a = held .before .before .before .args in
+    let early = gathers (a .self) (a .bit) (ne-eqb _ _ (held .before .if1 .left)) (ne-eqb _ _ (other .if2 .left)) (a .cnt) in
+    sym (early ∙ simp (← held .with-bit .ensures, c .frame-cycle3 .ensures))
 
 pub frame-field-spec : {M : Type 1} → statement M
 frame-field-spec =
     tie.close
     (tie.spec
-    frame-bit-requires
-    unsteady-with-requires
-    ends-requires
-    start-requires
+    frame-cycle-requires
     returns
-    group-with-requires
-    add-next
-    returns-2)
+    with-bit-requires
+    vote-requires
+    is-unsteady-requires
+    frame-cycle-requires-2
+    returns-2
+    frame-cycle-requires-3
+    returns-3)
