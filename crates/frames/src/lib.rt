@@ -40,7 +40,7 @@ pub fn keep(tray: &mut [u8], frame: FrameBit)
 {
     match frame {
         FrameBit::None => {}
-        FrameBit::At { place, bit } => store_bit(tray, place, bit),
+        FrameBit::At { bit, place } => store_bit(tray, place, bit),
     }
 }
 

@@ -28,8 +28,8 @@ frame-cycle-requires-2 c κs = search needs
 returns-2 : tie.Need-returns-2
 returns-2 c =
     let told = c .before .before in
-    let voted = told .before in
-    let eighth = voted .before .before in
+    let voted = told .before .before in
+    let eighth = voted .before in
     let held = eighth .before .before in
     simp (
       ne-eqb _ _ (held .before .if1 .left),
