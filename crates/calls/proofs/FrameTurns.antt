@@ -114,4 +114,4 @@ unfolding trayOf
 receiver-taken address [] bit count group unsteady m whole = last-taken 6 address refl count group unsteady m bit whole count (bit ∷ []) refl
 receiver-taken address (next ∷ bits) bit count group unsteady m whole =
     cycle-taken 6 address refl count group unsteady m bit (next ∷ bits) (omega arith) count (count + 1) (bit ∷ next ∷ bits) (next ∷ bits) false refl
-    (receiver-taken address bits next (count + 1) 0 false (moved (At bit count) m) (omega arith))
+    (receiver-taken address bits next (count + 1) 0 false (moved (At count bit) m) (omega arith))

@@ -61,10 +61,10 @@ module _ (command address place : ℕ) (part : List ℕ) (u : Bool) where
       its-bits : bitsIn (withBit (leftBy 0 part) bit) ≡ part ++ (bit ∷ [])
       its-bits = rw (← left-last part 0 bit) (bits-left (part ++ (bit ∷ [])) (length-append part (bit ∷ []) ∙ omega arith) b)
 
-      stored : frameBitOf inside bit ≡ At (voteOf (part ++ (bit ∷ []))) place
+      stored : frameBitOf inside bit ≡ At place (voteOf (part ++ (bit ∷ [])))
       stored =
           let e : count / 8 ≡ place = omega arith in
-          voted inside bit groups eighth ∙ (λ i. At (voteOf (its-bits i)) (e i))
+          voted inside bit groups eighth ∙ (λ i. At (e i) (voteOf (its-bits i)))
 
       flagged : unsteadyOf inside bit ≡ (u || unsteady (part ++ (bit ∷ [])))
       flagged = joined inside bit groups eighth ∙ ap (λ g. u || unsteady g) its-bits
@@ -81,7 +81,7 @@ module _ (command address place : ℕ) (part : List ℕ) (u : Bool) where
 
       -- one ahead of other groups
       abbrev behind : Machine → System
-      behind m = system (at command address (8 * (place + 1) + 0) 0 (u || unsteady (part ++ (bit ∷ [])))) (moved (At (voteOf (part ++ (bit ∷ []))) place) m)
+      behind m = system (at command address (8 * (place + 1) + 0) 0 (u || unsteady (part ++ (bit ∷ [])))) (moved (At place (voteOf (part ++ (bit ∷ [])))) m)
 
       pub group-done : (n : ℕ) (bits : List ℕ) (m : Machine) → count + 1 < lengthOf command (cntAt m)
           → FrameTaken command (place + 1) (votesOf n bits) ((u || unsteady (part ++ (bit ∷ []))) || someUnsteady n bits) bits
@@ -115,7 +115,7 @@ front-end-taken command address frame groups (next ∷ bits) bit part place (suc
     let seven = eqb-true (length part) 7 t in
     group-done command address place part u frame groups bit seven (binary-ahead (part ++ (bit ∷ [])) _ joined) n (next ∷ bits) m (omega arith)
     (front-end-taken command address frame groups bits next [] (place + 1) n (u || unsteady (part ++ (bit ∷ [])))
-    (moved (At (voteOf (part ++ (bit ∷ []))) place) m) (omega arith) (omega arith) (binary-behind (part ++ (bit ∷ [])) _ joined) (omega arith)))
+    (moved (At place (voteOf (part ++ (bit ∷ [])))) m) (omega arith) (omega arith) (binary-behind (part ++ (bit ∷ [])) _ joined) (omega arith)))
     (λ f.
     let early : length part ≡ 7 → ⊥ = eqb-false (length part) 7 f in
     let longer = length-append part (bit ∷ []) in

@@ -23,7 +23,7 @@ storedOf tray place bit =
 -- What a cycle's frame bit does to the tray.
 unfoldable pub trayOf : List ℕ → FrameBit → List ℕ
 trayOf tray None = tray
-trayOf tray (At bit place) = storedOf tray place bit
+trayOf tray (At place bit) = storedOf tray place bit
 
 -- "The frame is handed back as the part of the tray that it fills"; "a count beyond the tray's bits gives the empty part".
 abbrev pub partOf : List ℕ → ℕ → List ℕ

@@ -5,7 +5,7 @@ ghost use Rattle.frames.specs.Tray.{withBit, storedOf, trayOf, partOf};
 use recogniser::FrameBit;
 
 // A byte with one bit of it set to the frame's bit; places count from the highest.
-fn with_bit(byte: u8, place: u32, bit: u8) -> u8
+fn with_bit(byte: u8, place: u32, bit: u32) -> u8
     requires { ⌜ place < 8 ⌝ }
     ensures { λ r. ⌜ r ≡ withBit byte place bit ⌝ }
 {
@@ -18,7 +18,7 @@ fn with_bit(byte: u8, place: u32, bit: u8) -> u8
 }
 
 // The tray with the frame's bit at a place; a place past its end changes nothing.
-pub fn store_bit(tray: &mut [u8], place: u32, bit: u8)
+pub fn store_bit(tray: &mut [u8], place: u32, bit: u32)
     ensures { λ _. ⌜ now (tray .exit) ≡ storedOf (now (tray .entry)) place bit ⌝ }
 {
     let at = (place / 8) as usize;
@@ -40,7 +40,7 @@ pub fn keep(tray: &mut [u8], frame: FrameBit)
 {
     match frame {
         FrameBit::None => {}
-        FrameBit::At { bit, place } => store_bit(tray, place, bit),
+        FrameBit::At { place, bit } => store_bit(tray, place, bit),
     }
 }
 

@@ -18,7 +18,7 @@ inField5 = startOf Field5 0 4 0
 
 abbrev pub isFrameBit : FrameBit → ℕ
 isFrameBit None = 0
-isFrameBit (At bit place) = 1
+isFrameBit (At place bit) = 1
 
 -- How many frame bits are stored over so many cycles of ones, by a CNT.
 abbrev pub storedBits : ℕ → ℕ → Recogniser → ℕ

@@ -81,7 +81,7 @@ frame-fits command count field whole b false e =
 tray-kept : (tray : List ℕ) (f : FrameBit) → length (trayOf tray f) ≡ length tray
 unfolding trayOf
 tray-kept tray None = refl
-tray-kept tray (At bit place) = length-set tray (place / 8) _
+tray-kept tray (At place bit) = length-set tray (place / 8) _
 
 record Kept (s : System) (bits : List ℕ) : Type 0 where
   next : stateAfter turnOf s bits .machine .next ≡ s .machine .next + length bits

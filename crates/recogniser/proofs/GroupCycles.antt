@@ -29,7 +29,7 @@ module _ (r : Recogniser) (bit : ℕ) (groups : eqb (r .command) 6 ≡ false) wh
     abbrev whole : ℕ
     whole = withBit (r .group) bit
 
-    pub voted : frameBitOf r bit ≡ At (voteOf (bitsIn whole)) (r .count / 8)
+    pub voted : frameBitOf r bit ≡ At (r .count / 8) (voteOf (bitsIn whole))
     voted = rw (groups, eighth)
 
     pub finished : groupOf r bit ≡ 0

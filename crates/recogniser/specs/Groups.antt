@@ -25,8 +25,8 @@ groupOf r bit = cond (eqb (r .command) 6) 0 (cond (isEighth (r .count)) 0 (withB
 -- The frame bit of a cycle. "WrReceiver carries one bit a cycle." A front-end bit is the vote of its group, "stored .. in the eighth cycle".
 abbrev pub frameBitOf : Recogniser → ℕ → FrameBit
 frameBitOf r bit =
-    cond (eqb (r .command) 6) (At bit (r .count))
-    (cond (isEighth (r .count)) (At (voteOf (bitsIn (withBit (r .group) bit))) (r .count / 8))
+    cond (eqb (r .command) 6) (At (r .count) bit)
+    (cond (isEighth (r .count)) (At (r .count / 8) (voteOf (bitsIn (withBit (r .group) bit))))
     None)
 
 -- "A group whose eight differ is unsteady": a group of this frame was, or the one that this bit finishes is.

@@ -31,7 +31,7 @@ pub enum Meaning {
 // What one cycle does to the frame: nothing, or a bit at its place.
 pub enum FrameBit {
     None,
-    At { bit: u8, place: u32 },
+    At { place: u32, bit: u32 },
 }
 
 // What one cycle of a Slow command asks of the controller: leaving RunMode, or a record with its effect.
@@ -439,16 +439,16 @@ impl Recogniser {
     {
         if self.command == 6 {
             let frame = FrameBit::At {
-                bit: bit,
                 place: self.count,
+                bit: bit as u32,
             };
             return self.frame_cycle(frame, 0, false, cnt);
         }
         let group = groups::with_bit(self.group, bit);
         if self.count % 8 == 7 {
             let frame = FrameBit::At {
-                bit: groups::vote(group),
                 place: self.count / 8,
+                bit: groups::vote(group) as u32,
             };
             return self.frame_cycle(frame, 0, self.unsteady | groups::is_unsteady(group), cnt);
         }

@@ -19,6 +19,9 @@ with-bit-requires c κs = search needs
 vote-requires : tie.Need-vote-requires
 vote-requires c κs = search needs
 
+cast-t12 : tie.Need-cast-t12
+cast-t12 c = search needs
+
 is-unsteady-requires : tie.Need-is-unsteady-requires
 is-unsteady-requires c κs = search needs
 
@@ -28,8 +31,8 @@ frame-cycle-requires-2 c κs = search needs
 returns-2 : tie.Need-returns-2
 returns-2 c =
     let told = c .before .before in
-    let voted = told .before .before in
-    let eighth = voted .before in
+    let voted = told .before in
+    let eighth = voted .before .before in
     let held = eighth .before .before in
     simp (
       ne-eqb _ _ (held .before .if1 .left),
@@ -59,6 +62,7 @@ frame-field-spec =
     returns
     with-bit-requires
     vote-requires
+    cast-t12
     is-unsteady-requires
     frame-cycle-requires-2
     returns-2
