@@ -47,6 +47,10 @@ pub or-right : (a b : Bool) → b ≡ true → (a || b) ≡ true
 or-right true b e = refl
 or-right false b e = e
 
+pub and-all : (b : Bool) → (b && true) ≡ b
+and-all true = refl
+and-all false = refl
+
 pub or-none : (b : Bool) → (b || false) ≡ b
 or-none true = refl
 or-none false = refl

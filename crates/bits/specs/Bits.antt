@@ -1,4 +1,4 @@
--- Bytes as bits (document 01, "One cycle, one bit").
+-- Bytes as bits, bits as numbers, and a register that a bit is shifted into (document 01, "One cycle, one bit", "Hunting").
 -- Assumes nothing.
 use mathlib.Core.List.{List, [], _∷_}
 use Prim.Native.Nat.{ℕ, zero, suc, _+_, _*_, _-_, _/_, _%_, _^_}

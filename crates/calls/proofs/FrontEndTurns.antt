@@ -12,7 +12,7 @@ use borrow.Author.Tests.{eq-eqb, ne-eqb, eqb-true, eqb-false}
 use Rattle.bits.proofs.Truth.{cases, or-none, or-join}
 use Rattle.bits.proofs.BitRanges.{binary, binary-ahead, binary-behind}
 use Rattle.groups.specs.Vote.{voteOf, unsteady, votesOf, someUnsteady}
-use Rattle.groups.specs.Received.{withBit, bitsIn, leftBy}
+use Rattle.groups.specs.Received.{heldWith, bitsIn, leftBy}
 use Rattle.groups.proofs.LeftBits.{bits-left, left-last}
 use Rattle.groups.proofs.GroupLists.{votes-first, unsteady-first}
 use Rattle.recogniser.specs.declared.FrameBit.the-variants.{None, At}
@@ -58,7 +58,7 @@ module _ (command address place : ℕ) (part : List ℕ) (u : Bool) where
       eighth : isEighth count ≡ true
       eighth = eq-eqb (count % 8) 7 (omega arith)
 
-      its-bits : bitsIn (withBit (leftBy 0 part) bit) ≡ part ++ (bit ∷ [])
+      its-bits : bitsIn (heldWith (leftBy 0 part) bit) ≡ part ++ (bit ∷ [])
       its-bits = rw (← left-last part 0 bit) (bits-left (part ++ (bit ∷ [])) (length-append part (bit ∷ []) ∙ omega arith) b)
 
       stored : frameBitOf inside bit ≡ At place (voteOf (part ++ (bit ∷ [])))

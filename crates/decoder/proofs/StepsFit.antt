@@ -6,7 +6,7 @@ use Prim.Native.Nat.{ℕ, _+_, _%_, _^_, _<_}
 use native.Mathlib.Omega.{arith}
 use lib.Dec.{T, ltb, eqb, ltb→lt, lt→ltb, nleb→lt, eqb→eq, T-not}
 use Rattle.bits.specs.Bits.{shifted}
-use Rattle.bits.proofs.Truth.{cond-case, cond-taken, cond-left, and-both, and-left, and-right}
+use Rattle.bits.proofs.Truth.{cond-case, cond-taken, and-both, and-left, and-right}
 use Rattle.bits.proofs.Shift.{shifted-fits, fits-wider, shifted-grows}
 use Rattle.groups.specs.Received.{leftBySome}
 use Rattle.groups.proofs.LeftBits.{left-more}
@@ -21,7 +21,7 @@ use Rattle.recogniser.specs.Hunting.{isFast, meaningOf, huntBy, bodyOf}
 use Rattle.recogniser.specs.Fields.{isFrame, lengthOf, endsOf, keptOf, field3Of, field4Of}
 use Rattle.recogniser.specs.Groups.{isEighth, groupOf, unsteadyOf}
 use Rattle.recogniser.specs.Step.{field5Of, stepBy, stepOf}
-use Rattle.decoder.specs.Fit.{hasField5, keeps, hasGroups, nibbleFits, field4Fits, heldFits, field5Fits, fitBy, fitOf}
+use Rattle.decoder.specs.Fit.{hasField5, keeps, hasGroups, nibbleFits, field4Fits, heldFits, groupFits, field5Fits, fitBy, fitOf}
 use Rattle.decoder.proofs.Field5Commands.{length-has, by-front-end}
 
 -- What the test of Field 5 says.
@@ -30,7 +30,7 @@ record InField5 (r : Recogniser) (cnt : ℕ) : Type 0 where
   address : r .address < 16
   count : r .count < lengthOf (r .command) cnt
   held : T (keeps (r .command)) → r .held < 2 ^ r .count
-  group : T (not (keeps (r .command))) → T (hasGroups (r .command)) → T (leftBySome (r .count % 8) (r .group))
+  group : T (hasGroups (r .command)) → T (leftBySome (r .count % 8) (r .group))
 
 module _ (r : Recogniser) where
   nibble : r .count < 4 → r .shift < 2 ^ r .count → T (nibbleFits r)
@@ -44,20 +44,20 @@ module _ (r : Recogniser) where
       and-both (hasField5 (r .command)) _ (f .has)
       (and-both (ltb (r .address) 16) _ (lt→ltb (r .address) 16 (f .address))
       (and-both (ltb (r .count) (lengthOf (r .command) cnt)) _ (lt→ltb (r .count) _ (f .count))
-      (cond-case T (keeps (r .command)) (λ k. lt→ltb (r .held) (2 ^ r .count) (f .held k))
-      (λ n. cond-case T (hasGroups (r .command)) (f .group n) (λ _. tt)))))
+      (and-both (heldFits r) _ (cond-case T (keeps (r .command)) (λ k. lt→ltb (r .held) (2 ^ r .count) (f .held k)) (λ _. tt))
+      (cond-case T (hasGroups (r .command)) (f .group) (λ _. tt)))))
 
   of-field5 : (cnt : ℕ) → T (field5Fits r cnt) → InField5 r cnt
   of-field5 cnt t =
       let u = and-right (hasField5 (r .command)) _ t in
       let v = and-right (ltb (r .address) 16) _ u in
-      let w = and-right (ltb (r .count) (lengthOf (r .command) cnt)) (heldFits r) v in
+      let w = and-right (ltb (r .count) (lengthOf (r .command) cnt)) _ v in
       record {
         has = and-left (hasField5 (r .command)) _ t;
         address = ltb→lt (r .address) 16 (and-left (ltb (r .address) 16) _ u);
         count = ltb→lt (r .count) _ (and-left (ltb (r .count) (lengthOf (r .command) cnt)) _ v);
-        held = λ k. ltb→lt (r .held) (2 ^ r .count) (rw (cond-taken (keeps (r .command)) _ _ k) at w);
-        group = λ n g. rw (cond-left (keeps (r .command)) _ _ n, cond-taken (hasGroups (r .command)) _ _ g) at w;
+        held = λ k. ltb→lt (r .held) (2 ^ r .count) (rw (cond-taken (keeps (r .command)) _ _ k) at (and-left (heldFits r) _ w));
+        group = λ g. rw (cond-taken (hasGroups (r .command)) _ _ g) at (and-right (heldFits r) (groupFits r) w);
       }
 
 -- One bit further in Field 5, with what is held then.
@@ -115,7 +115,7 @@ module _ (r : Recogniser) (bit cnt : ℕ) (b : bit < 2) where
         address = shifted-fits 4 (r .shift) bit;
         count = ltb→lt 0 _ q;
         held = λ _. omega arith;
-        group = λ _ _. tt;
+        group = λ _. tt;
       }))
       (λ _. cond-case (Fit cnt) (isFrame (r .command)) (λ _. tt) (λ _. tt)))
 
@@ -130,7 +130,7 @@ module _ (r : Recogniser) (bit cnt : ℕ) (b : bit < 2) where
         address = f .address;
         count = nleb→lt (lengthOf (r .command) cnt) (r .count + 1) q;
         held = k;
-        group = λ _. g;
+        group = g;
       })
 
   kept-fits : r .held < 2 ^ r .count → keptOf (r .command) (r .held) bit < 2 ^ (r .count + 1)
@@ -162,7 +162,7 @@ module _ (r : Recogniser) (bit cnt : ℕ) (b : bit < 2) where
       (λ i. cond-case (Fit cnt) (endsOf r cnt) (λ _. tt)
       (λ q. rw e
       (goes-on (r .held) (groupOf r bit) (unsteadyOf r bit) t q (λ k. fits-wider (r .held) (r .count) (h k))
-      (λ g. group-fits g (f .group (by-front-end (λ c. T (not (keeps c))) (r .command) g tt tt) g)))))
+      (λ g. group-fits g (f .group g)))))
       (λ i. cond-case (Fit cnt) (endsOf r cnt) (λ _. tt)
       (λ q. rw e (goes-on (keptOf (r .command) (r .held) bit) (r .group) (r .unsteady) t q (λ k. kept-fits (h k)) (λ g. absurd (T-not (isFrame (r .command)) i (by-front-end (λ c. T (isFrame c)) (r .command) g tt tt))))))
 

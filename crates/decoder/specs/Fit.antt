@@ -1,4 +1,4 @@
--- The recogniser's part of a sound state (document 01, "A taking call").
+-- The recogniser's part of a sound state (document 01, "A taking call"; document 02, F-4).
 -- Assumes nothing.
 use mathlib.Core.Bool.{Bool, true, cond, _&&_, _||_}
 use Prim.Native.Nat.{ℕ, _%_, _^_}
@@ -13,7 +13,7 @@ use Rattle.recogniser.specs.Fields.{lengthOf}
 abbrev pub hasField5 : ℕ → Bool
 hasField5 command = leb command 6 || eqb command 10
 
--- The commands that keep the bits of Field 5 as a number: WrRegister, WrFifo, GlobalResetFE. Of what is not kept nothing is asked.
+-- The commands that keep the bits of Field 5 as a number: WrRegister, WrFifo, GlobalResetFE. Of other commands' numbers nothing is asked.
 abbrev pub keeps : ℕ → Bool
 keeps command = eqb command 0 || (eqb command 2 || eqb command 10)
 
@@ -24,22 +24,22 @@ nibbleFits r = ltb (r .count) 4 && ltb (r .shift) (2 ^ r .count)
 abbrev pub field4Fits : Recogniser → Bool
 field4Fits r = nibbleFits r && ltb (r .command) 16
 
--- WrFrontEnd and RdFrontEnd carry each bit for eight cycles. Document 02, F-4: "what is held of an unfinished group is what some bits, as many as its
--- cycles received, would leave."
+abbrev pub heldFits : Recogniser → Bool
+heldFits r = cond (keeps (r .command)) (ltb (r .held) (2 ^ r .count)) true
+
+-- WrFrontEnd and RdFrontEnd carry each bit for eight cycles. "What is held of an unfinished group is what some bits, as many as its cycles received, would
+-- leave" (document 02, F-4): those cycles are count % 8, none between two groups. Of other commands' groups nothing is asked.
 abbrev pub hasGroups : ℕ → Bool
 hasGroups command = eqb command 4 || eqb command 5
 
 abbrev pub groupFits : Recogniser → Bool
 groupFits r = cond (hasGroups (r .command)) (leftBySome (r .count % 8) (r .group)) true
 
--- What is held of Field 5: its number so far, or a group.
-abbrev pub heldFits : Recogniser → Bool
-heldFits r = cond (keeps (r .command)) (ltb (r .held) (2 ^ r .count)) (groupFits r)
-
 -- "The bits received of .. Field 5 are fewer than its length, the variable ones by the present CNT."
 abbrev pub field5Fits : Recogniser → ℕ → Bool
 field5Fits r cnt =
-    hasField5 (r .command) && (ltb (r .address) 16 && (ltb (r .count) (lengthOf (r .command) cnt) && heldFits r))
+    hasField5 (r .command)
+    && (ltb (r .address) 16 && (ltb (r .count) (lengthOf (r .command) cnt) && (heldFits r && groupFits r)))
 
 abbrev pub fitBy : Phase → Recogniser → ℕ → Bool
 fitBy Hunt r cnt = ltb (r .shift) 32

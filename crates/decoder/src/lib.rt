@@ -133,7 +133,7 @@ fn field5_fits(r: Recogniser, cnt: u16) -> bool
         return r.held < power(r.count);
     }
     if has_groups(command) {
-        return groups::is_left(r.group, r.count % 8);
+        return groups::is_left_by_some(r.group, r.count % 8);
     }
     true
 }

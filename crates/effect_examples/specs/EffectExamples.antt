@@ -11,6 +11,6 @@ pub record EffectExamples : Type 0 where
   pub registers-give : Gives 20 registers.table
   pub fifos-give : Gives 12 fifos.table
   pub counters-give : Gives 12 counters.table
-  pub frames-give : Gives 24 frames.table
+  pub frames-give : Gives 30 frames.table
   pub effects-give : Gives 29 effects.table
   pub parts-give : frames.FrameParts

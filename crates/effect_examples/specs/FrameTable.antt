@@ -6,7 +6,7 @@ use mathlib.Core.List.{List, [], _∷_, _++_, map}
 use Rattle.frames.specs.Tray.{partOf}
 use Rattle.controller.specs.Records.{frameBitsOf}
 use Rattle.worked_examples.specs.CommandBits.{line, eightfold, lv1, wrRegister, wrFrontEnd, rdFrontEnd, wrReceiver}
-use Rattle.worked_examples.specs.Cells.{phase, command, count, group, register, byte}
+use Rattle.worked_examples.specs.Cells.{phase, command, count, group, unsteady, register, byte}
 use Rattle.worked_examples.specs.Example.{Row, row, done, frame}
 
 -- CNT is register 5. "D is CNT<15:3>, the data bits; C is CNT<2:0>, the control bits divided by 8."
@@ -27,6 +27,10 @@ table =
     -- document 02, F-4: "The bit is stored, and a new byte zeroed, in the eighth cycle"
     ∷ row (register 5 0x0010 ∷ byte 0 0xFF ∷ []) (line "10110 1011 0100 0000 1111111") (done 24 0) [] (byte 0 0xFF ∷ [])
     ∷ row (register 5 0x0010 ∷ byte 0 0xFF ∷ []) (line "10110 1011 0100 0000 11111111") (done 25 0) [] (byte 0 0x80 ∷ [])
+    ∷ row (register 5 0x0010 ∷ byte 0 0xFF ∷ []) (line "10110 1011 0101 0000 00000000 1111111") (done 32 0) [] (byte 0 0x00 ∷ [])
+    ∷ row (register 5 0x0009 ∷ phase 4 ∷ command 5 ∷ count 64 ∷ byte 1 0xFF ∷ []) (line "1111111") (done 7 0) [] (byte 1 0xFF ∷ [])
+    ∷ row (register 5 0x0009 ∷ phase 4 ∷ command 5 ∷ count 64 ∷ byte 1 0xFF ∷ []) (line "11111111") (frame 8 1) (0x072501 ∷ 0x00080001 ∷ [])
+    (byte 1 0x80 ∷ [])
     -- the vote: first cycle 0 with none to seven ones, first cycle 1 with one to eight
     ∷ row (register 5 0x0080 ∷ [])
     (wrFrontEnd
@@ -42,14 +46,19 @@ table =
     (frame 145 1)
     (0x902511 ∷ 16 ∷ [])
     (byte 0 0b00000111 ∷ byte 1 0b00011111 ∷ [])
-    -- a group over two calls: three of its ones came ahead
+    -- three bits of a group came in an earlier call: five ones; four, the first 0; four, the first 1
     ∷ row (register 5 0x0008 ∷ phase 4 ∷ command 4 ∷ count 3 ∷ group 0b111 ∷ []) (line "10010") (frame 5 1) (0x042411 ∷ 1 ∷ []) (byte 0 0x80 ∷ [])
-    ∷ row (register 5 0x0008 ∷ phase 4 ∷ command 4 ∷ count 3 ∷ group 0b011 ∷ []) (line "10010") (frame 5 1) (0x042411 ∷ 1 ∷ []) (byte 0 0x00 ∷ [])
+    ∷ row (register 5 0x0008 ∷ phase 4 ∷ command 4 ∷ count 3 ∷ group 0b011 ∷ byte 0 0xFF ∷ []) (line "10010") (frame 5 1) (0x042411 ∷ 1 ∷ [])
+    (byte 0 0x00 ∷ [])
+    ∷ row (register 5 0x0008 ∷ phase 4 ∷ command 5 ∷ count 3 ∷ group 0b110 ∷ []) (line "10010") (frame 5 1) (0x042511 ∷ 1 ∷ []) (byte 0 0x80 ∷ [])
     -- flag 10, "a group whose eight differ is unsteady"
     ∷ row (register 5 0x0010 ∷ []) (wrFrontEnd (line "11111111 00000000")) (frame 33 1) (0x202401 ∷ 2 ∷ []) (byte 0 0x80 ∷ [])
     ∷ row (register 5 0x0010 ∷ []) (wrFrontEnd (line "01111111 11111111")) (frame 33 1) (0x202411 ∷ 2 ∷ []) (byte 0 0xC0 ∷ [])
     ∷ row (register 5 0x0010 ∷ []) (wrFrontEnd (line "11110111 00000000")) (frame 33 1) (0x202411 ∷ 2 ∷ []) (byte 0 0x80 ∷ [])
     ∷ row (register 5 0x0010 ∷ []) (rdFrontEnd (line "00000000 00000001")) (frame 33 1) (0x202511 ∷ 2 ∷ []) (byte 0 0x00 ∷ [])
+    -- of an earlier group too, in another call; never of a WrReceiver, whatever the state came with
+    ∷ row (register 5 0x0010 ∷ phase 4 ∷ command 4 ∷ count 8 ∷ unsteady 1 ∷ []) (line "00000000") (frame 8 1) (0x072411 ∷ 2 ∷ []) []
+    ∷ row (register 5 0x0001 ∷ phase 4 ∷ command 6 ∷ count 7 ∷ group 0b01 ∷ unsteady 1 ∷ []) (line "1") (frame 1 1) (0x2601 ∷ 8 ∷ []) []
     -- WrReceiver, kind 26, "CNT<12:0> × 8" cycles, "one bit a cycle": it has no groups
     ∷ row (register 5 0x0002 ∷ byte 2 0xFF ∷ []) (wrReceiver (line "10100101 11110001")) (frame 33 1)
     (0x202601 ∷ 16 ∷ [])

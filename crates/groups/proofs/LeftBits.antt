@@ -14,7 +14,7 @@ use borrow.Author.Tests.{eq-eqb, ne-eqb, eqb-true, eqb-false, ltb-true, ltb-fals
 use Rattle.bits.proofs.Truth.{cases, or-left, or-right, and-left, and-right}
 use Rattle.bits.proofs.BitRanges.{binary}
 use Rattle.bits.proofs.Shift.{shifted-grows}
-use Rattle.groups.specs.Received.{withBit, bitsIn, leftBy, someBits, leftBySome}
+use Rattle.groups.specs.Received.{heldWith, bitsIn, leftBy, someBits, leftBySome}
 
 -- One digit less.
 halved : (v n : ℕ) → v / 2 ^ suc n ≡ v / 2 ^ n / 2
@@ -22,7 +22,7 @@ halved v n = ap (λ p. v / p) (pow-suc 2 n) ∙ sym (div-div-eq-div-mul v (2 ^ n
 
 -- A number of so many bits with one bit more, where it stays within the byte.
 record Grown (held k bit : ℕ) : Type 0 where
-  is : withBit held bit ≡ held * 2 + bit
+  is : heldWith held bit ≡ held * 2 + bit
   fits : held * 2 + bit < 2 ^ suc k
 
 grown : (held k n bit : ℕ) → held < 2 ^ k → k + suc n ≤ 8 → bit < 2 → Grown held k bit
@@ -58,9 +58,9 @@ pub bits-left : (bits : List ℕ) → length bits ≡ 8 → T (binary bits) → 
 bits-left bits whole b = rw whole at (left-digits bits 0 0 (omega arith) (omega arith) b)
 
 -- The last bit is shifted in last.
-pub left-last : (bits : List ℕ) (held bit : ℕ) → leftBy held (bits ++ (bit ∷ [])) ≡ withBit (leftBy held bits) bit
+pub left-last : (bits : List ℕ) (held bit : ℕ) → leftBy held (bits ++ (bit ∷ [])) ≡ heldWith (leftBy held bits) bit
 left-last [] held bit = refl
-left-last (next ∷ bits) held bit = left-last bits (withBit held next) bit
+left-last (next ∷ bits) held bit = left-last bits (heldWith held next) bit
 
 -- Some bits leave a number exactly where what was held stands ahead of that many digits of it.
 same : (held number : ℕ) → eqb held number ≡ eqb (number / 1) held
@@ -111,7 +111,7 @@ pub left-below : (n group : ℕ) → n ≤ 8 → leftBySome n group ≡ ltb grou
 left-below n group room = some-left n 0 0 group (omega arith) (omega arith) ∙ no-digit-above n group
 
 -- One bit more.
-pub left-more : (n group bit : ℕ) → n < 8 → bit < 2 → T (leftBySome n group) → T (leftBySome (n + 1) (withBit group bit))
+pub left-more : (n group bit : ℕ) → n < 8 → bit < 2 → T (leftBySome n group) → T (leftBySome (n + 1) (heldWith group bit))
 left-more n group bit room low t =
-    rw (left-below (n + 1) (withBit group bit) (omega arith))
-    (lt→ltb (withBit group bit) (2 ^ (n + 1)) (shifted-grows group bit low 8 n (ltb→lt group (2 ^ n) (rw (left-below n group (omega arith)) at t))))
+    rw (left-below (n + 1) (heldWith group bit) (omega arith))
+    (lt→ltb (heldWith group bit) (2 ^ (n + 1)) (shifted-grows group bit low 8 n (ltb→lt group (2 ^ n) (rw (left-below n group (omega arith)) at t))))

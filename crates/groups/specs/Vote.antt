@@ -1,4 +1,5 @@
--- The eight cycles of a front-end bit: the vote among them (document 02, F-4), and whether they differ (document 01, "What commands do").
+-- The eight cycles of a front-end bit: the vote among them (document 02, F-4), and whether they differ (document 01, "What commands do"). Where a sender
+-- keeps each bit stable for its eight cycles, as the chip paper asks, the vote is that bit (`promises/specs/Frames`: `SteadyVote`).
 -- Assumes nothing.
 use mathlib.Core.Bool.{Bool, false, cond, not, _||_}
 use mathlib.Core.List.{List, [], _∷_}
@@ -6,7 +7,7 @@ use Prim.Native.Nat.{ℕ, zero, suc, _+_}
 use lib.Dec.{leb, eqb}
 use lib.ListN.{getD, take, drop}
 
--- How many ones are among bits.
+-- How many ones are among bits, each 0 or 1.
 abbrev pub onesOf : List ℕ → ℕ
 onesOf [] = 0
 onesOf (bit ∷ bits) = bit + onesOf bits

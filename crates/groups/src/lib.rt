@@ -1,14 +1,14 @@
 // The eight cycles of a front-end bit: what is held of them, the vote among them, and whether they differ.
-// A group is a byte: the bits received of it, the last one lowest, so that its first stands highest once it is whole.
+// A group is a byte: the bits received of it, the latest lowest, so that its first stands highest once it is whole.
 ghost use mathlib.Core.Path.{_≡_};
 ghost use Prim.Native.Nat.{_<_};
 ghost use Rattle.groups.specs.Vote.{voteOf, unsteady};
-ghost use Rattle.groups.specs.Received.{withBit, bitsIn, leftBySome};
+ghost use Rattle.groups.specs.Received.{heldWith, bitsIn, leftBySome};
 
 // What is held with one bit more.
-pub fn with_bit(group: u8, bit: u8) -> u8
+pub fn held_with(group: u8, bit: u8) -> u8
     requires { ⌜ bit < 2 ⌝ }
-    ensures { λ r. ⌜ r ≡ withBit group bit ⌝ }
+    ensures { λ r. ⌜ r ≡ heldWith group bit ⌝ }
 {
     (group << 1) | bit
 }
@@ -32,7 +32,7 @@ pub fn is_unsteady(group: u8) -> bool
 }
 
 // Whether some bits, as many as were received of an unfinished group, leave this.
-pub fn is_left(group: u8, received: u32) -> bool
+pub fn is_left_by_some(group: u8, received: u32) -> bool
     requires { ⌜ received < 8 ⌝ }
     ensures { λ r. ⌜ r ≡ leftBySome received group ⌝ }
 {

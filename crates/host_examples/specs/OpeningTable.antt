@@ -15,7 +15,7 @@ pub record OpeningRow : Type 0 where
   pub number : ℕ
   pub image : List ℕ
 
--- "An accepted opening": layout 1, the plan, the next cycle, and the base, word 16, at the opening cycle; all else is 0.
+-- "An accepted opening": layout 2, the plan, the next cycle, and the base, word 16, at the opening cycle; all else is 0.
 abbrev opens : ℕ → ℕ → ℕ → ℕ → ℕ → OpeningRow
 opens mask csr feen cnt cycle = record {
   mask = mask;

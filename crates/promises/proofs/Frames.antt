@@ -7,11 +7,13 @@ use Prim.Native.Nat.{ℕ, _+_, _*_, _/_, _^_, _<_, _≤_}
 use native.Mathlib.Nat.{zero-add}
 use native.Mathlib.Omega.{arith}
 use lib.Dec.{eqb, leb, ltb, T}
-use lib.ListN.{length, length-append, length-set, take}
+use lib.ListN.{length, length-append, length-set, take, replicate}
 use borrow.Author.Tests.{eqb-true, eqb-false, leb-true, lt-leb, le-leb, ne-eqb}
 use Rattle.limits.specs.Limits.{storeLength, trayLength}
 use Rattle.bits.proofs.Truth.{both, cond-most, choice, and-right}
+use Rattle.bits.proofs.Below.{below-at}
 use Rattle.bits.proofs.BitRanges.{binary, binary-behind}
+use Rattle.groups.specs.Vote.{voteOf}
 use Rattle.groups.proofs.GroupLists.{votes-binary, votes-length}
 use Rattle.recogniser.specs.declared.Phase.the-variants.{Field5}
 use Rattle.recogniser.specs.declared.Recogniser.{Recogniser}
@@ -37,7 +39,7 @@ use Rattle.calls.proofs.CallLists.{carried-words, carried-system}
 use Rattle.calls.proofs.BitCalls.{carried-binary}
 use Rattle.calls.proofs.FrameTurns.{FrameTaken, frameRecord, receiver-taken}
 use Rattle.calls.proofs.FrontEndTurns.{front-end-taken}
-use Rattle.promises.specs.Frames.{cyclesEach, frameOf, unsteadyIn, countOf, handedBack, Receives, HandsBack, Frames, EmptyFrame}
+use Rattle.promises.specs.Frames.{cyclesEach, frameBitsIn, unsteadyIn, countOf, handedBack, Receives, HandsBack, Frames, SteadyVote, EmptyFrame}
 
 -- The count of a frame's bits, off its record, against the cycles of Field 5.
 abbrev counted : ℕ → ℕ → ℕ
@@ -64,8 +66,8 @@ counted-by command cnt frame narrow false e =
 
 -- A frame's bits, as many as the count.
 record FrameFits (command count : ℕ) (field : List ℕ) : Type 0 where
-  long : length (frameOf command field) ≡ count
-  bits : T (binary (frameOf command field))
+  long : length (frameBitsIn command field) ≡ count
+  bits : T (binary (frameBitsIn command field))
 
 frame-fits : (command count : ℕ) (field : List ℕ) → count * cyclesEach command ≡ length field → T (binary field) → (one : Bool) → eqb command 6 ≡ one
     → FrameFits command count field
@@ -142,7 +144,7 @@ module _ (s : System) (ps : List Part) (command address : ℕ) (before field : L
   fits = frame-fits command _ field (counts .cycles ∙ sym (r .whole)) bits-are (eqb command 6) refl
 
   abbrev Taken : List ℕ → Recogniser → Type 0
-  Taken bits q = FrameTaken command 0 (frameOf command bits) (unsteadyIn command bits) bits (record { recogniser = q; machine = here .machine })
+  Taken bits q = FrameTaken command 0 (frameBitsIn command bits) (unsteadyIn command bits) bits (record { recogniser = q; machine = here .machine })
 
   taken-from : (bits : List ℕ) → 0 < length bits → length bits ≡ lengthOf command (cntAt (here .machine)) → T (binary bits)
       → (one : Bool) → eqb command 6 ≡ one → Taken bits (startOf Field5 0 command address)
@@ -179,15 +181,15 @@ module _ (s : System) (ps : List Part) (command address : ℕ) (before field : L
   kind-is : kindOf head ≡ kindSlow command
   kind-is = omega (arith, low, flags)
 
-  count-is : countOf head value ≡ length (frameOf command field)
+  count-is : countOf head value ≡ length (frameBitsIn command field)
   count-is = ap (λ k. frameBitsOf k value) kind-is ∙ sym (fits .long)
 
-  tray-is : tray ≡ filledOf 0 (here .machine .tray) (frameOf command field)
+  tray-is : tray ≡ filledOf 0 (here .machine .tray) (frameBitsIn command field)
   tray-is =
       ap (λ (u : System). u .machine .tray) (carried-system s ps ∙ ap (stateAfter turnOf s) (r .took) ∙ state-append turnOf s before field)
       ∙ taken .tray
 
-  part-is : handedBack tray head value ≡ partOf (filledOf 0 (here .machine .tray) (frameOf command field)) (length (frameOf command field))
+  part-is : handedBack tray head value ≡ partOf (filledOf 0 (here .machine .tray) (frameBitsIn command field)) (length (frameBitsIn command field))
   part-is = λ i. partOf (tray-is i) (count-is i)
 
   long : length (here .machine .tray) ≡ trayLength
@@ -196,10 +198,10 @@ module _ (s : System) (ps : List Part) (command address : ℕ) (before field : L
       let all : length (carriedBits s ps) ≡ length before + length field = ap length (r .took) ∙ length-append before field in
       ahead .tray ∙ tray-fits ps s (omega arith)
 
-  holds : PartHolds (frameOf command field) (handedBack tray head value)
+  holds : PartHolds (frameBitsIn command field) (handedBack tray head value)
   holds =
-      subst (PartHolds (frameOf command field)) (sym part-is)
-      (part-holds (frameOf command field) (here .machine .tray) (fits .bits) (rw (long, fits .long) (counts .low)))
+      subst (PartHolds (frameBitsIn command field)) (sym part-is)
+      (part-holds (frameBitsIn command field) (here .machine .tray) (fits .bits) (rw (long, fits .long) (counts .low)))
 
   hands-back : HandsBack s (carriedWords s ps) tray command before field
   hands-back = record {
@@ -217,6 +219,9 @@ module _ (s : System) (ps : List Part) (command address : ℕ) (before field : L
 
 pub frames : Frames
 frames = hands-back
+
+pub steady-vote : SteadyVote
+steady-vote = below-at 2 (λ bit. voteOf (replicate 8 bit)) (λ bit. bit) refl
 
 pub empty-frame : EmptyFrame
 empty-frame lent = choice (λ l. l ≡ []) (leb 0 (8 * length lent)) (λ _. refl) (λ _. refl)

@@ -15,7 +15,7 @@ use Rattle.calls.proofs.CallLists.{call-kept, carried-words, carried-system}
 use Rattle.calls.proofs.LoopInvariant.{length-bits}
 use Rattle.calls.proofs.SoundnessKept.{start-sound, take-sound}
 use Rattle.calls.proofs.RecordsFit.{words-fit}
-use Rattle.promises.proofs.Frames.{frames, empty-frame}
+use Rattle.promises.proofs.Frames.{frames, steady-vote, empty-frame}
 use Rattle.promises.proofs.ListParts.{same-parts}
 use Rattle.promises.proofs.RunGoesOn.{run-goes-on, run-last-bit}
 use Rattle.promises.proofs.RecordLines.{lines-tell}
@@ -70,6 +70,7 @@ second-demand = record {
   ends = ends;
   cuts = cuts;
   frames = frames;
+  steady-vote = steady-vote;
   empty-frame = empty-frame;
   opens-sound = start-sound;
   stays-sound = take-sound;

@@ -6,9 +6,9 @@ use mathlib.Core.Bool.{Bool, true, false, cond}
 use mathlib.Core.List.{List, [], _∷_, _++_}
 use Prim.Native.Nat.{ℕ, _+_, _*_, _/_, _%_, _<_}
 use lib.Dec.{eqb}
-use lib.ListN.{length, getD}
+use lib.ListN.{length, getD, replicate}
 use Rattle.bits.specs.Bits.{bitOf}
-use Rattle.groups.specs.Vote.{votesOf, someUnsteady}
+use Rattle.groups.specs.Vote.{voteOf, votesOf, someUnsteady}
 use Rattle.recogniser.specs.declared.Phase.the-variants.{Field5}
 use Rattle.recogniser.specs.Parts.{startOf}
 use Rattle.recogniser.specs.Fields.{isFrame, lengthOf}
@@ -24,8 +24,12 @@ abbrev pub cyclesEach : ℕ → ℕ
 cyclesEach command = cond (eqb command 6) 1 8
 
 -- The frame's bits, by those that arrived in Field 5; a front-end bit is the vote of its eight.
-abbrev pub frameOf : ℕ → List ℕ → List ℕ
-frameOf command field = cond (eqb command 6) field (votesOf (length field / 8) field)
+abbrev pub frameBitsIn : ℕ → List ℕ → List ℕ
+frameBitsIn command field = cond (eqb command 6) field (votesOf (length field / 8) field)
+
+-- The chip paper asks that each bit be kept stable for its eight cycles: of such a group the vote is that bit, as each of its cycles has it.
+abbrev pub SteadyVote : Type 0
+SteadyVote = (bit : ℕ) → bit < 2 → voteOf (replicate 8 bit) ≡ bit
 
 -- "A group whose eight differ is unsteady"; a WrReceiver has no groups.
 abbrev pub unsteadyIn : ℕ → List ℕ → Bool
@@ -58,7 +62,7 @@ pub record HandsBack (s : System) (words tray : List ℕ) (command : ℕ) (befor
   pub time : head / 65536 + 1 ≡ s .machine .next + length before + length field
   pub count : countOf head value * cyclesEach command ≡ length field
   pub bytes : length (handedBack tray head value) ≡ (countOf head value + 7) / 8
-  pub bits : (i : ℕ) → i < 8 * length (handedBack tray head value) → bitOf (handedBack tray head value) i ≡ getD (frameOf command field) i 0
+  pub bits : (i : ℕ) → i < 8 * length (handedBack tray head value) → bitOf (handedBack tray head value) i ≡ getD (frameBitsIn command field) i 0
 
 -- State, store and tray are carried over from call to call, whatever the tray holds at first.
 abbrev pub Frames : Type 0

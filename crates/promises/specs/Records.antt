@@ -19,7 +19,7 @@ use Rattle.calls.specs.Turn.{System, turnOf}
 use Rattle.calls.specs.Take.{Call, offered, lent, takenOf, takeOf}
 use Rattle.calls.specs.Calls.{bitsTaken, wordsStanding, allWords, systemAfter, Part, carriedBits, carriedWords, carriedSystem}
 use Rattle.layout.specs.ListingLines.{recordLine}
-use Rattle.promises.specs.Frames.{Frames, EmptyFrame}
+use Rattle.promises.specs.Frames.{Frames, SteadyVote, EmptyFrame}
 
 -- A call, refused or not, leaves and writes what the bits that it took say, cycle by cycle: none missing and none added.
 pub record Exact (d : Decoder) (c : Call) : Type 0 where
@@ -73,6 +73,7 @@ pub record SecondDemand : Type 0 where
   pub cuts : (s : System) → Cuts s
   -- After 'frame' the second call hands back the frame's bits, wherever the stream was cut into calls.
   pub frames : Frames
+  pub steady-vote : SteadyVote
   pub empty-frame : EmptyFrame
   -- Opening gives a sound state, and a sound state stays sound.
   pub opens-sound : (plan : Plan) (cycle : ℕ) → T (soundOf (openOf plan cycle .decoder))

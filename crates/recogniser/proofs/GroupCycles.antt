@@ -6,7 +6,7 @@ use Prim.Native.Nat.{ℕ, _/_}
 use lib.Dec.{eqb}
 use Rattle.bits.proofs.Truth.{or-none}
 use Rattle.groups.specs.Vote.{voteOf, unsteady}
-use Rattle.groups.specs.Received.{withBit, bitsIn}
+use Rattle.groups.specs.Received.{heldWith, bitsIn}
 use Rattle.recogniser.specs.declared.FrameBit.the-variants.{None, At}
 use Rattle.recogniser.specs.declared.Recogniser.{Recogniser}
 use Rattle.recogniser.specs.Groups.{isEighth, groupOf, frameBitOf, unsteadyOf, frameCycleOf, frameFieldOf}
@@ -16,18 +16,18 @@ module _ (r : Recogniser) (bit : ℕ) (groups : eqb (r .command) 6 ≡ false) wh
     pub no-bit : frameBitOf r bit ≡ None
     no-bit = rw (groups, early)
 
-    pub gathered : groupOf r bit ≡ withBit (r .group) bit
+    pub gathered : groupOf r bit ≡ heldWith (r .group) bit
     gathered = rw (groups, early)
 
     pub as-before : unsteadyOf r bit ≡ r .unsteady
     as-before = rw (groups, early) (or-none (r .unsteady))
 
-    pub gathers : (cnt : ℕ) → frameFieldOf r bit cnt ≡ frameCycleOf r None (withBit (r .group) bit) (r .unsteady) cnt
+    pub gathers : (cnt : ℕ) → frameFieldOf r bit cnt ≡ frameCycleOf r None (heldWith (r .group) bit) (r .unsteady) cnt
     gathers cnt = λ i. frameCycleOf r (no-bit i) (gathered i) (as-before i) cnt
 
   module _ (eighth : isEighth (r .count) ≡ true) where
     abbrev whole : ℕ
-    whole = withBit (r .group) bit
+    whole = heldWith (r .group) bit
 
     pub voted : frameBitOf r bit ≡ At (r .count / 8) (voteOf (bitsIn whole))
     voted = rw (groups, eighth)

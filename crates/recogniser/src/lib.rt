@@ -28,7 +28,7 @@ pub enum Meaning {
     Header,
 }
 
-// What one cycle does to the frame: nothing, or a bit at its place.
+// What one cycle does to the frame: nothing, or a bit at its place. The bit is as wide as the place, so that an event stays in registers.
 pub enum FrameBit {
     None,
     At { place: u32, bit: u32 },
@@ -444,7 +444,7 @@ impl Recogniser {
             };
             return self.frame_cycle(frame, 0, false, cnt);
         }
-        let group = groups::with_bit(self.group, bit);
+        let group = groups::held_with(self.group, bit);
         if self.count % 8 == 7 {
             let frame = FrameBit::At {
                 place: self.count / 8,

@@ -22,7 +22,7 @@ pub record Buffers : Type 0 where
 abbrev pub buffers : List ℕ → List ℕ → List ℕ → Buffers
 buffers image store tray = record { image = image; store = store; tray = tray }
 
--- The default opening at cycle 0: layout 1, mask 07FF, CSR 0, FEEN 2, CNT 5, and all else 0. Zeros in the store and the tray.
+-- The default opening at cycle 0: layout 2, mask 07FF, CSR 0, FEEN 2, CNT 5, and all else 0. Zeros in the store and the tray.
 abbrev pub opening : Buffers
 opening = buffers (2 ∷ 0x07FF ∷ 0 ∷ 2 ∷ 5 ∷ replicate 63 0) (replicate 2048 0) (replicate 8192 0)
 

@@ -1,4 +1,4 @@
--- Which states are sound, number 3 where they are not (document 01, "A taking call", the paragraph below the refusal table).
+-- Which states are sound, number 3 where they are not (document 01, "A taking call", the paragraph below the refusal table; document 02, F-4).
 -- Assumes nothing.
 use mathlib.Core.List.{List, [], _∷_, _++_}
 use lib.ListN.{replicate}
@@ -103,6 +103,8 @@ table =
     ∷ sound (register 5 0x0010 ∷ phase 4 ∷ command 4 ∷ count 8 ∷ unsteady 1 ∷ [])
     ∷ sound (register 5 0x0001 ∷ phase 4 ∷ command 6 ∷ count 7 ∷ group 0b11111111 ∷ unsteady 1 ∷ [])
     ∷ sound (phase 4 ∷ command 0 ∷ group 0b11111111 ∷ [])
+    ∷ sound (phase 4 ∷ command 1 ∷ group 0b11111111 ∷ [])
+    ∷ sound (phase 4 ∷ command 2 ∷ group 0b11111111 ∷ [])
     ∷ sound (phase 4 ∷ command 3 ∷ group 0b11111111 ∷ [])
     ∷ sound (phase 4 ∷ command 10 ∷ group 0b11111111 ∷ [])
     ∷ sound (group 0b11111111 ∷ [])

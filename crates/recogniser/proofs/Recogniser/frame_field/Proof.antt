@@ -13,8 +13,8 @@ frame-cycle-requires c κs = search needs
 returns : tie.Need-returns
 returns c = simp (eq-eqb _ _ (c .before .if1 .taken), c .frame-cycle .ensures)
 
-with-bit-requires : tie.Need-with-bit-requires
-with-bit-requires c κs = search needs
+held-with-requires : tie.Need-held-with-requires
+held-with-requires c κs = search needs
 
 vote-requires : tie.Need-vote-requires
 vote-requires c κs = search needs
@@ -37,7 +37,7 @@ returns-2 c =
     simp (
       ne-eqb _ _ (held .before .if1 .left),
       eq-eqb _ _ (eighth .if2 .taken),
-      ← held .with-bit .ensures,
+      ← held .held-with .ensures,
       ← voted .vote .ensures,
       ← told .is-unsteady .ensures,
       c .frame-cycle2 .ensures,
@@ -52,7 +52,7 @@ returns-3 c =
     let held = other .before .before in
     let a = held .before .before .before .args in
     let early = gathers (a .self) (a .bit) (ne-eqb _ _ (held .before .if1 .left)) (ne-eqb _ _ (other .if2 .left)) (a .cnt) in
-    sym (early ∙ simp (← held .with-bit .ensures, c .frame-cycle3 .ensures))
+    sym (early ∙ simp (← held .held-with .ensures, c .frame-cycle3 .ensures))
 
 pub frame-field-spec : {M : Type 1} → statement M
 frame-field-spec =
@@ -60,7 +60,7 @@ frame-field-spec =
     (tie.spec
     frame-cycle-requires
     returns
-    with-bit-requires
+    held-with-requires
     vote-requires
     cast-t12
     is-unsteady-requires
