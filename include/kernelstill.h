@@ -33,7 +33,7 @@ extern "C" {
 #endif
 
 /* The version; CHANGES.md says what each one holds. */
-#define KERNELSTILL_VERSION "1.4.0"
+#define KERNELSTILL_VERSION "1.5.0"
 
 /* The elements of each slice, and the limits of a call. */
 #define KERNELSTILL_IMAGE_WORDS 68       /* the state, exactly */
@@ -114,9 +114,9 @@ extern "C" {
  * The tray: a frame's first bit is the highest of byte 0, and each byte is
  * zeroed as its first bit is stored. A front-end bit is stored in the last of
  * its eight cycles: 1 with five ones or more among them, 0 with three or
- * fewer, and with four what the first one has. A frame stands there whole if
- * the tray was carried over from the frame's first bit on, and until the next
- * call.
+ * fewer, and with four ones the first cycle's bit. A frame stands there whole
+ * if the tray was carried over from the frame's first bit on, and until the
+ * next call.
  *
  * Both may hold anything at an opening; a module's FIFO words start at 0.
  *
@@ -138,8 +138,7 @@ extern "C" {
  * taking call wrote is sound.
  *
  * Words 7 to 13 are the recogniser's. What those hold that the present phase
- * does not use means nothing. From an opening on they are 0 there, but for
- * word 12, which changes inside a WrReceiver too.
+ * does not use means nothing. From an opening on they are 0 there.
  */
 #define KERNELSTILL_LAYOUT 2
 #define KERNELSTILL_AT_LAYOUT 0    /* KERNELSTILL_LAYOUT */
@@ -154,7 +153,7 @@ extern "C" {
 #define KERNELSTILL_AT_ADDRESS 9   /* in Field 5, Field 4; 8 bits */
 #define KERNELSTILL_AT_COUNT 10    /* how many bits of the present body or field are received, 32 bits */
 #define KERNELSTILL_AT_HELD 11     /* in Field 5 of WrRegister, WrFifo and GlobalResetFE, its bits so far; 32 bits */
-#define KERNELSTILL_AT_GROUP 12    /* in a front-end frame, the bits received of the present group, the last one lowest; 8 bits */
+#define KERNELSTILL_AT_GROUP 12    /* in a front-end frame, the bits received of the present group, the latest lowest; 8 bits */
 #define KERNELSTILL_AT_UNSTEADY 13 /* in a front-end frame, whether one of its finished groups was unsteady; 0 or 1 */
 #define KERNELSTILL_AT_RUN_MODE 14 /* RunMode, 0 or 1 */
 #define KERNELSTILL_AT_L1ID 15     /* the trigger number, 8 bits */

@@ -77,12 +77,12 @@ __all__ = [
     "hex_line",
 ]
 
-__version__ = "1.4.0"
+__version__ = "1.5.0"
 
 # As kernelstill.h has them.
 CLOCK_LIMIT = 1 << 48
 INPUT_BYTES = 1_048_576
-_LAYOUT = 1
+_LAYOUT = 2
 _IMAGE_WORDS = 68
 _STORE_WORDS = 2_048
 _TRAY_BYTES = 8_192
@@ -273,6 +273,9 @@ class Record(NamedTuple):
     The unused bits of a frame's last byte are 0 where the tray was carried
     over from the frame's first bit. A decoder does so, and so do its copies,
     `save` and `resume`; a change to the saved bytes may undo it.
+
+    A front-end bit is 1 with five ones or more among its eight cycles, 0 with
+    three or fewer, and with four ones the first cycle's bit.
     """
 
     time: int  # the cycle of its last bit
@@ -381,8 +384,8 @@ class State:
     field4: int  # in Field 5
     received: int  # bits of the present body or field
     held: int  # in Field 5 of WrRegister, WrFifo and GlobalResetFE, its bits so far
-    first: bool  # in a front-end frame, the first bit of the last group begun
-    unsteady: bool  # in a front-end frame, whether a group was unsteady
+    group: int  # in a front-end frame, the bits received of the present group, the latest lowest
+    unsteady: bool  # in a front-end frame, whether a finished group was unsteady
     run_mode: bool
     l1id: int  # the next trigger's number
     base: int  # the cycle from which the bunch number counts
@@ -551,7 +554,7 @@ class Decoder:
             field4=image[9],
             received=image[10],
             held=image[11],
-            first=bool(image[12]),
+            group=image[12],
             unsteady=bool(image[13]),
             run_mode=bool(image[14]),
             l1id=image[15],

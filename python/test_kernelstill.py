@@ -144,7 +144,7 @@ def by_place(state):
         "ADDRESS": state.field4,
         "COUNT": state.received,
         "HELD": state.held,
-        "FIRST": state.first,
+        "GROUP": state.group,
         "UNSTEADY": state.unsteady,
         "RUN_MODE": state.run_mode,
         "L1ID": state.l1id,
@@ -309,15 +309,40 @@ class Refusals(unittest.TestCase):
     def test_unsound(self):
         saved = Decoder().save()
         # Layout, CSR's address that of FEEN, CNT's missing, next cycle, phase, window.
-        unsound = [(0, 2), (2, 2), (4, 11), (5, CLOCK_LIMIT + 1), (6, 5), (7, 32)]
-        # RunMode, L1ID, base, a missing register, a write and a read pointer.
-        unsound += [(14, 2), (15, 256), (16, 1), (31, 1), (36, 128), (67, 128)]
+        unsound = [(0, 3), (2, 2), (4, 11), (5, CLOCK_LIMIT + 1), (6, 5), (7, 32)]
+        # Group, RunMode, L1ID, base, a missing register, a write and a read pointer.
+        unsound += [(12, 256), (14, 2), (15, 256), (16, 1), (31, 1), (36, 128), (67, 128)]
         for place, word in unsound:
             image = bytearray(saved)
             struct.pack_into("<Q", image, 8 * place, word)
             self.refused(3, Decoder.resume, image)
         for other in (b"", saved[:-1], saved + b"\0"):
             self.refused(3, Decoder.resume, other)
+
+    def test_layout(self):
+        """An image of layout 1 is refused, inside a front-end frame too."""
+        decoder = Decoder()
+        for bits in ("0", wr_register(5, 8) + slow(4, 0, "1")):
+            decoder.take(*at_bit_0(bits))
+            saved = bytearray(decoder.save())
+            for layout, sound in ((0, False), (1, False), (2, True), (3, False)):
+                struct.pack_into("<Q", saved, 0, layout)
+                if sound:
+                    self.assertEqual(Decoder.resume(saved).save(), decoder.save())
+                else:
+                    self.refused(3, Decoder.resume, saved)
+
+    def test_group(self):
+        """Held of a group are no more bits than were received of it."""
+        decoder = Decoder()
+        decoder.take(*at_bit_0(wr_register(5, 8), slow(4, 0, "101")))
+        saved = bytearray(decoder.save())
+        for group in (0, 7, 8, 255, 256):
+            struct.pack_into("<Q", saved, 8 * 12, group)
+            if group < 8:
+                self.assertEqual(Decoder.resume(saved).state.group, group)
+            else:
+                self.refused(3, Decoder.resume, saved)
 
     def test_buffers(self):
         # The module lends buffers that fit; this calls past it.
@@ -487,6 +512,44 @@ class Frames(unittest.TestCase):
         records = Decoder().take(*at_bit_0(*parts))
         self.assertEqual([r.frame for r in records], [b"", b"\xa5", b"\x5a", b"\xff"])
 
+    def test_vote(self):
+        """Five ones, three, and four with either first cycle; over two calls,
+        cut after each cycle. The tray has the bit from the eighth on."""
+        groups = (("00011111", 1), ("11100000", 0), ("01111000", 0), ("10000111", 1))
+        for kind in (4, 5):
+            for group, bit in groups:
+                data, _, bits = at_bit_0(slow(kind, 0, group))
+                for cycles in range(8):
+                    decoder = Decoder()
+                    decoder.take(*at_bit_0(wr_register(5, 1 << 3)))
+                    decoder._tray[0] = 0xFF
+                    self.assertEqual(decoder.take(data, 0, bits - 8 + cycles), [])
+                    state = decoder.state
+                    self.assertEqual(state.group, int("0" + group[:cycles], 2))
+                    self.assertEqual((state.received, state.unsteady), (cycles, False))
+                    self.assertEqual(decoder._tray[0], 0xFF)
+                    (record,) = decoder.take(data, bits - 8 + cycles, 8 - cycles)
+                    self.assertEqual((record.kind, record.unsteady), (0x20 + kind, True))
+                    self.assertEqual((record.frame_bits, record.frame), (1, bytes([bit << 7])))
+
+    def test_finished_group(self):
+        """It leaves no bits, and makes the frame unsteady only at its end."""
+        decoder, seen = Decoder(), []
+        decoder.take(*at_bit_0(wr_register(5, 2 << 3), slow(4, 0)))
+        for bit in "00000001" + "1":
+            decoder.take(*at_bit_0(bit))
+            seen.append((decoder.state.group, decoder.state.unsteady))
+        self.assertEqual(seen, 7 * [(0, False)] + [(0, True), (1, True)])
+
+    def test_receiver_has_no_groups(self):
+        decoder = Decoder()
+        decoder.take(*at_bit_0(wr_register(5, 1), slow(6, 0)))
+        for bit in "1011000":
+            decoder.take(*at_bit_0(bit))
+            self.assertEqual((decoder.state.group, decoder.state.unsteady), (0, False))
+        (record,) = decoder.take(*at_bit_0("1"))
+        self.assertEqual((record.frame, record.unsteady), (b"\xb1", False))
+
     def test_unused_bits(self):
         """They are 0 where the tray was carried over from the frame's first
         bit, and else what the tray held there."""
@@ -604,7 +667,7 @@ class Saving(unittest.TestCase):
         decoder.take(CAPTURE)
         saved = decoder.save()
         self.assertEqual(len(saved), 8 * 68 + 4 * 2048 + 8192)
-        self.assertEqual(int.from_bytes(saved[:8], "little"), 1)
+        self.assertEqual(int.from_bytes(saved[:8], "little"), 2)
         self.assertEqual(int.from_bytes(saved[40:48], "little"), 258 + 8 * len(CAPTURE))
         self.assertEqual(struct.unpack_from("<128I", saved, 544), decoder.fifo(0))
         self.assertEqual(saved[544 + 8192 :][:2], b"\xa5\xc3")

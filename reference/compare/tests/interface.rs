@@ -5,7 +5,7 @@ use cases::Random;
 use compare::interface::call::{Call, Open, Take};
 use compare::interface::difference::{difference, reply_bytes};
 use compare::interface::expected::{expected, Expected};
-use compare::interface::image::{group_is_unspecified, image, state, uses};
+use compare::interface::image::{image, state, uses, Image};
 use compare::interface::layout::{self, at, largest, IMAGE_WORDS, LAYOUT, RECOGNISER};
 use compare::interface::states::{random_cycle, random_state, PLANS};
 use compare::interface::streams::addresses;
@@ -372,17 +372,26 @@ fn the_groups_of_the_vote_are_of_every_count_of_ones() {
     }
 }
 
+/// A word in one unused place leaves all of them open; without one, none is.
 #[test]
-fn the_group_is_without_a_meaning_inside_a_wr_receiver_only() {
+fn unused_words_are_exact_unless_the_image_lent_has_one() {
+    let mut random = Random::new(84);
     for (name, made) in fit::states() {
-        let inside = matches!(
-            made.recogniser,
-            Recogniser::Field5 {
-                field3: slow::WR_RECEIVER,
-                ..
-            }
-        );
-        assert_eq!(group_is_unspecified(&image(&made)), inside, "{name}");
+        let words = image(&made);
+        let mut take = fit::call(&words, &mut random);
+        take.count = 1;
+        let clean = expected(&Call::Take(take.clone()));
+        assert_eq!(clean.unspecified, [], "{name}");
+        let after: Image = taken(&clean).image[..].try_into().expect("an image");
+        let unused: Vec<usize> = RECOGNISER.filter(|&place| !uses(&after, place)).collect();
+        assert!(unused.iter().all(|&place| after[place] == 0), "{name}");
+        for place in RECOGNISER.filter(|&place| !uses(&words, place)) {
+            let mut take = take.clone();
+            take.image[place] = 1;
+            let filled = expected(&Call::Take(take));
+            assert_eq!(filled.unspecified, unused, "{name}, place {place}");
+            assert_eq!(taken(&filled).image, after, "{name}, place {place}");
+        }
     }
 }
 
@@ -656,27 +665,39 @@ fn a_refused_call_that_changes_a_byte_is_a_difference() {
 #[test]
 fn an_unspecified_word_may_be_any_of_its_width_and_no_other() {
     let mut random = Random::new(79);
-    let inside = |(_, made): &(String, State)| group_is_unspecified(&image(made));
-    let (_, made) = fit::states().into_iter().find(inside).expect("WrReceiver");
+    let in_receiver = |(_, made): &(String, State)| {
+        let command = u64::from(slow::WR_RECEIVER);
+        let words = image(made);
+        (words[at::PHASE], words[at::COMMAND]) == (layout::phase::FIELD5, command)
+    };
+    let (_, made) = fit::states()
+        .into_iter()
+        .find(in_receiver)
+        .expect("WrReceiver");
     let mut take = fit::call(&image(&made), &mut random);
     take.count = 1;
-    let expected = expected(&Call::Take(take));
-    assert_eq!(expected.unspecified, [at::GROUP]);
-    let with = |place: usize, word: u64| {
-        let mut reply = right_reply(&expected);
+    let clean = expected(&Call::Take(take.clone()));
+    take.image[at::UNSTEADY] = 1;
+    let filled = expected(&Call::Take(take));
+    let with = |expected: &Expected, place: usize, word: u64| {
+        let mut reply = right_reply(expected);
         reply[8 + 8 * place..][..8].copy_from_slice(&word.to_le_bytes());
-        difference(&expected, &reply)
+        difference(expected, &reply)
     };
     for group in 0..=255 {
-        assert_eq!(with(at::GROUP, group), None);
+        assert_eq!(with(&filled, at::GROUP, group), None);
+        // In an image that held nothing unused it is 0.
+        assert_eq!(with(&clean, at::GROUP, group).is_none(), group == 0);
     }
     for beyond in [256, 257, 1 << 63, u64::MAX] {
-        let found = with(at::GROUP, beyond).expect("a difference");
-        assert!(found.starts_with("image word 12 (group) "), "{found}");
+        for expected in [&clean, &filled] {
+            let found = with(expected, at::GROUP, beyond).expect("a difference");
+            assert!(found.starts_with("image word 12 (group) "), "{found}");
+        }
     }
-    // The next word is specified, though unused.
-    let found = with(at::UNSTEADY, 1).expect("a difference");
-    assert!(found.starts_with("image word 13 (unsteady) "), "{found}");
+    // A used word is specified.
+    let found = with(&filled, at::ADDRESS, 4).expect("a difference");
+    assert!(found.starts_with("image word 9 (address) "), "{found}");
 }
 
 /// What a program in place of the driver comes to with one call, or none.

@@ -333,6 +333,22 @@ fn each_frame_starts_with_no_group() {
     }
 }
 
+/// Nor does a WrReceiver hold a group, whatever went before.
+#[test]
+fn a_wr_receiver_holds_no_group() {
+    for field3 in COMMANDS {
+        let mut reader = decoder(1);
+        reader.read(&frame(field3, &[0xF0]).wr_register(5, 2).slow(6, 0));
+        assert_eq!(held(&reader), Group::default());
+        let bytes = [0xB1, 0xFF];
+        for bit in 0..15 {
+            assert_eq!(reader.read_part(&bytes, bit, 1, 1), []);
+            assert_eq!(held(&reader), Group::default(), "{bit}");
+        }
+        assert_eq!(reader.read_part(&bytes, 15, 1, 1).len(), 1);
+    }
+}
+
 /// What the station program prints.
 fn listed(input: &[u8]) -> String {
     let mut listing = Vec::new();

@@ -2,7 +2,7 @@
 
 use super::call::{Call, Take};
 use super::checker::Checker;
-use super::image::{group_is_unspecified, image, state, Image};
+use super::image::{image, state, Image};
 use super::layout::{at, CLOCK_OVER, DONE, LIST_FULL, OK, RECORD_LINE_BYTES, RESULT_WORDS};
 use super::prefilled;
 use cases::generate::bits;
@@ -172,12 +172,8 @@ impl Runner<'_> {
 
     fn take(&mut self, piece: &Piece, list: &List, random: &mut Random) -> io::Result<(u64, Take)> {
         self.calls += 1;
-        let mut image = self.carried.image.clone();
-        if group_is_unspecified(&image) {
-            image[at::GROUP] = random.below(256);
-        }
         let take = Take {
-            image,
+            image: self.carried.image.clone(),
             input: piece.input.clone(),
             first: piece.first,
             count: piece.left,

@@ -149,25 +149,16 @@ fn read_recogniser(words: &Image) -> Recogniser {
 
 /// The places at which an image may hold any word of its width: those that
 /// its phase does not use, if the image that was lent held something where
-/// its own phase does not; else only `at::GROUP` inside a WrReceiver.
+/// its own phase does not; else none.
 pub fn unspecified_places(lent: &[u64], after: &[u64]) -> Vec<usize> {
     let (Ok(lent), Ok(after)) = (<&Image>::try_from(lent), <&Image>::try_from(after)) else {
         return Vec::new();
     };
     let unused = |words| RECOGNISER.filter(move |&place| !uses(words, place));
-    let is_group = |words: &Image, place| place == at::GROUP && group_is_unspecified(words);
-    let clean = unused(lent).all(|place| lent[place] == 0 || is_group(lent, place));
-    unused(after)
-        .filter(|&place| !clean || is_group(after, place))
-        .collect()
-}
-
-/// Whether the word at `at::GROUP` changes without a meaning: inside a
-/// WrReceiver.
-pub fn group_is_unspecified(words: &[u64]) -> bool {
-    words.len() == IMAGE_WORDS
-        && words[at::PHASE] == phase::FIELD5
-        && words[at::COMMAND] == u64::from(slow::WR_RECEIVER)
+    if unused(lent).all(|place| lent[place] == 0) {
+        return Vec::new();
+    }
+    unused(after).collect()
 }
 
 /// The places of the recogniser's words that an image's phase uses.

@@ -66,7 +66,7 @@ pub mod phase {
 }
 
 /// The recogniser's words. From an opening on, one that the phase does not
-/// use is 0, but for `at::GROUP` inside a WrReceiver.
+/// use is 0.
 pub const RECOGNISER: std::ops::RangeInclusive<usize> = at::SHIFT..=at::UNSTEADY;
 
 /// The largest value of the word at a place that is not beyond its width.

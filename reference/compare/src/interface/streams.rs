@@ -4,8 +4,8 @@
 use super::call::{Call, Open};
 use super::checker::Checker;
 use super::cut::{run, Carried};
-use super::image::image;
-use super::layout::IMAGE_WORDS;
+use super::image::{image, uses};
+use super::layout::{at, IMAGE_WORDS};
 use super::prefilled;
 use super::states::{random_cycle, random_state, PLANS};
 use cases::generate::{
@@ -156,8 +156,13 @@ fn check_stream(
     } else {
         opened(checker, name, plan, stream, random)?
     };
+    let mut image = image(&state);
+    // What the phase does not use means nothing.
+    if any_state && random.bit() && !uses(&image, at::GROUP) {
+        image[at::GROUP] = random.below(256);
+    }
     let start = Carried {
-        image: image(&state).to_vec(),
+        image: image.to_vec(),
         store: prefilled::store(random),
         tray: prefilled::tray(random),
     };
