@@ -95,7 +95,8 @@ module _ (command address place : ℕ) (part : List ℕ) (u : Bool) where
           let none = finished inside bit groups eighth in
           cycle-taken command address frame count (leftBy 0 part) u m bit bits more place (place + 1)
           (votesOf (suc n) (part ++ (bit ∷ bits))) (votesOf n bits) (u || someUnsteady (suc n) (part ++ (bit ∷ bits)))
-          (ap (λ f. filledOf (place + 1) (trayOf (m .tray) f) (votesOf n bits)) stored ∙ ap (filledOf place (m .tray)) (sym (votes-first part bit bits seven n)))
+          (ap (λ f. filledOf (place + 1) (trayOf (m .tray) f) (votesOf n bits)) stored
+          ∙ ap (filledOf place (m .tray)) (sym (votes-first part bit bits seven n)))
           (rw (stored, none, flagged, one-on) (subst (λ v. FrameTaken command (place + 1) (votesOf n bits) v bits (behind m)) flag f))
 
 -- All cycles that are left, so many groups with the bits that came before them.

@@ -164,7 +164,9 @@ module _ (r : Recogniser) (bit cnt : ℕ) (b : bit < 2) where
       (goes-on (r .held) (groupOf r bit) (unsteadyOf r bit) t q (λ k. fits-wider (r .held) (r .count) (h k))
       (λ g. group-fits g (f .group g)))))
       (λ i. cond-case (Fit cnt) (endsOf r cnt) (λ _. tt)
-      (λ q. rw e (goes-on (keptOf (r .command) (r .held) bit) (r .group) (r .unsteady) t q (λ k. kept-fits (h k)) (λ g. absurd (T-not (isFrame (r .command)) i (by-front-end (λ c. T (isFrame c)) (r .command) g tt tt))))))
+      (λ q. rw e
+      (goes-on (keptOf (r .command) (r .held) bit) (r .group) (r .unsteady) t q (λ k. kept-fits (h k))
+      (λ g. absurd (T-not (isFrame (r .command)) i (by-front-end (λ c. T (isFrame c)) (r .command) g tt tt))))))
 
 -- The test by the phase.
 pub fit-at : (r : Recogniser) (cnt : ℕ) {p : Phase} → r .phase ≡ p → fitOf r cnt ≡ fitBy p r cnt

@@ -3,7 +3,7 @@
 use mathlib.Core.Bool.{Bool, _||_}
 use mathlib.Core.List.{List, [], _∷_, _++_}
 use mathlib.Core.Logic.{⊎-elim}
-use mathlib.Core.Path.{_≡_, _∙_, refl, sym, ap, ap₂}
+use mathlib.Core.Path.{_≡_, _∙_, refl, sym, ap}
 use Prim.Native.Nat.{ℕ, zero, suc, _+_, _*_, _/_, _%_, _^_, _<_, _≤_}
 use native.Mathlib.Nat.{one-le-pow, pow-suc, div-div-eq-div-mul, div-lt-iff-lt-mul}
 use native.Mathlib.Omega.{arith}
@@ -51,7 +51,9 @@ left-digits (bit ∷ bits) held k fits room b =
     let g = grown held k (length bits) bit fits room low in
     let rest = and-right (ltb bit 2) (binary bits) b in
     let top = left-top bits (held * 2 + bit) (suc k) (g .fits) (omega arith) rest in
-    rw (g .is) (ap₂ (λ (b : ℕ) (bs : List ℕ). b ∷ bs) (ap (λ q. q % 2) top ∙ omega arith) (left-digits bits (held * 2 + bit) (suc k) (g .fits) (omega arith) rest))
+    let first : leftBy (held * 2 + bit) bits / 2 ^ length bits % 2 ≡ bit = ap (λ q. q % 2) top ∙ omega arith in
+    let others = left-digits bits (held * 2 + bit) (suc k) (g .fits) (omega arith) rest in
+    rw (g .is) (λ i. first i ∷ others i)
 
 -- A whole group's byte has the group's bits.
 pub bits-left : (bits : List ℕ) → length bits ≡ 8 → T (binary bits) → bitsIn (leftBy 0 bits) ≡ bits

@@ -56,13 +56,16 @@ record Narrow (r : Recogniser) : Type 0 where
 abbrev NarrowNext : Transition → Type 0
 NarrowNext h = Narrow (h .next)
 
-start-narrow : (p : Phase) → Narrow (startOf p 0 0 0)
-start-narrow p = record { shift = omega arith; command = omega arith; address = omega arith; count = omega arith; held = omega arith; group = omega arith }
+start-narrow : (p : Phase) {w : ℕ} → w < 32 → Narrow (startOf p w 0 0)
+start-narrow p h = record { shift = omega arith; command = omega arith; address = omega arith; count = omega arith; held = omega arith; group = omega arith }
+
+idle-narrow : (p : Phase) → Narrow (startOf p 0 0 0)
+idle-narrow p = start-narrow p (omega arith)
 
 hunt-narrow : (w : ℕ) → w < 32 → (m : Meaning) → NarrowNext (huntBy w m)
-hunt-narrow w h Quiet = record { shift = omega arith; command = omega arith; address = omega arith; count = omega arith; held = omega arith; group = omega arith }
-hunt-narrow w h (Trigger position) = start-narrow Hunt
-hunt-narrow w h Header = start-narrow Body
+hunt-narrow w h Quiet = start-narrow Hunt h
+hunt-narrow w h (Trigger position) = idle-narrow Hunt
+hunt-narrow w h Header = idle-narrow Body
 
 module _ (r : Recogniser) (bit cnt : ℕ) (low : cnt < 2 ^ 16) (n : Narrow r) where
   gathered-narrow : T (ltb (r .count) 3)
@@ -79,8 +82,8 @@ module _ (r : Recogniser) (bit cnt : ℕ) (low : cnt < 2 ^ 16) (n : Narrow r) wh
   phase-narrow Hunt = hunt-narrow (shifted 5 (r .shift) bit) (shifted-fits 5 (r .shift) bit) (meaningOf (shifted 5 (r .shift) bit))
   phase-narrow Body =
       cond-case NarrowNext (ltb (r .count) 3) gathered-narrow
-      (λ _. cond-case NarrowNext (isFast (shifted 4 (r .shift) bit)) (λ _. start-narrow Hunt)
-      (λ _. cond-case NarrowNext (eqb (shifted 4 (r .shift) bit) 0b1011) (λ _. start-narrow Field3) (λ _. start-narrow Hunt)))
+      (λ _. cond-case NarrowNext (isFast (shifted 4 (r .shift) bit)) (λ _. idle-narrow Hunt)
+      (λ _. cond-case NarrowNext (eqb (shifted 4 (r .shift) bit) 0b1011) (λ _. idle-narrow Field3) (λ _. idle-narrow Hunt)))
   phase-narrow Field3 =
       let s = shifted-fits 4 (r .shift) bit in
       cond-case NarrowNext (ltb (r .count) 3) gathered-narrow
@@ -90,12 +93,12 @@ module _ (r : Recogniser) (bit cnt : ℕ) (low : cnt < 2 ^ 16) (n : Narrow r) wh
       cond-case NarrowNext (ltb (r .count) 3) gathered-narrow
       (λ _. cond-case NarrowNext (ltb 0 (lengthOf (r .command) cnt))
       (λ _. record { shift = omega arith; command = n .command; address = omega arith; count = omega arith; held = omega arith; group = omega arith })
-      (λ _. cond-case NarrowNext (isFrame (r .command)) (λ _. start-narrow Hunt) (λ _. start-narrow Hunt)))
+      (λ _. cond-case NarrowNext (isFrame (r .command)) (λ _. idle-narrow Hunt) (λ _. idle-narrow Hunt)))
   phase-narrow Field5 =
       cond-case NarrowNext (isFrame (r .command))
-      (λ _. cond-case NarrowNext (endsOf r cnt) (λ _. start-narrow Hunt)
+      (λ _. cond-case NarrowNext (endsOf r cnt) (λ _. idle-narrow Hunt)
       (λ t. record { shift = n .shift; command = n .command; address = n .address; count = further t; held = n .held; group = group-low }))
-      (λ _. cond-case NarrowNext (endsOf r cnt) (λ _. start-narrow Hunt)
+      (λ _. cond-case NarrowNext (endsOf r cnt) (λ _. idle-narrow Hunt)
       (λ t. record { shift = n .shift; command = n .command; address = n .address; count = further t; held = kept-low; group = n .group }))
     where
       kept-low : keptOf (r .command) (r .held) bit < 2 ^ 32

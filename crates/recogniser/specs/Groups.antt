@@ -29,7 +29,7 @@ frameBitOf r bit =
     (cond (isEighth (r .count)) (At (r .count / 8) (voteOf (bitsIn (heldWith (r .group) bit))))
     None)
 
--- "A group whose eight differ is unsteady": a group of this frame was, or the one that this bit finishes is.
+-- "A group whose eight differ is unsteady": a finished group of this frame was, or the one that this bit finishes is. A WrReceiver has none.
 abbrev pub unsteadyOf : Recogniser → ℕ → Bool
 unsteadyOf r bit =
     cond (eqb (r .command) 6) false
