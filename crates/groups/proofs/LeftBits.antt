@@ -1,6 +1,6 @@
 -- What bits leave behind a number: a whole group's byte has its bits, and so many bits leave exactly the numbers below two to their power.
 -- Assumes nothing.
-use mathlib.Core.Bool.{Bool, _||_}
+use mathlib.Core.Bool.{_||_}
 use mathlib.Core.List.{List, [], _∷_, _++_}
 use mathlib.Core.Logic.{⊎-elim}
 use mathlib.Core.Path.{_≡_, _∙_, refl, sym, ap}

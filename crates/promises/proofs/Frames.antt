@@ -1,16 +1,16 @@
 -- The second demand's frames, proved.
 -- Assumes nothing.
 use mathlib.Core.Path.{_≡_, _∙_, refl, sym, ap, subst}
-use mathlib.Core.Bool.{Bool, true, false, cond, _&&_}
+use mathlib.Core.Bool.{Bool, true, false, _&&_}
 use mathlib.Core.List.{List, [], _∷_, _++_}
 use Prim.Native.Nat.{ℕ, _+_, _*_, _/_, _^_, _<_, _≤_}
 use native.Mathlib.Nat.{zero-add}
 use native.Mathlib.Omega.{arith}
-use lib.Dec.{eqb, leb, ltb, T}
+use lib.Dec.{eqb, leb, T}
 use lib.ListN.{length, length-append, length-set, take, replicate}
 use borrow.Author.Tests.{eqb-true, eqb-false, leb-true, lt-leb, le-leb, ne-eqb}
 use Rattle.limits.specs.Limits.{storeLength, trayLength}
-use Rattle.bits.proofs.Truth.{both, cond-most, choice, and-right}
+use Rattle.bits.proofs.Truth.{both, cond-most, choice}
 use Rattle.bits.proofs.Below.{below-at}
 use Rattle.bits.proofs.BitRanges.{binary, binary-behind}
 use Rattle.groups.specs.Vote.{voteOf}
