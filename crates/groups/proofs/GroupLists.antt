@@ -6,10 +6,10 @@ use mathlib.Core.Path.{_≡_, _∙_, refl, ap}
 use Prim.Native.Nat.{ℕ, zero, suc, _<_}
 use native.Mathlib.Omega.{arith}
 use lib.Dec.{T, leb, ltb, ltb→lt, lt→ltb}
-use lib.ListN.{length, getD, take, drop, length-append}
+use lib.ListN.{length, getD, take, drop, length-append, take-append-drop}
 use lib.Seq.{take-at, drop-at}
-use Rattle.bits.proofs.Truth.{and-both, and-left, and-right, cond-case}
-use Rattle.bits.proofs.BitRanges.{binary}
+use Rattle.bits.proofs.Truth.{and-both, and-left, cond-case}
+use Rattle.bits.proofs.BitRanges.{binary, binary-ahead, binary-behind}
 use Rattle.groups.specs.Vote.{onesOf, voteOf, unsteady, votesOf, someUnsteady}
 
 -- Seven bits, the eighth, and more.
@@ -30,16 +30,15 @@ module _ (part : List ℕ) (bit : ℕ) (bits : List ℕ) (seven : length part �
   unsteady-first n = rw (first, rest)
 
 -- Votes are bits, one for each group.
-binary-take : (n : ℕ) (bits : List ℕ) → T (binary bits) → T (binary (take n bits))
-binary-take zero bits b = tt
-binary-take (suc n) [] b = tt
-binary-take (suc n) (bit ∷ bits) b =
-    and-both (ltb bit 2) _ (and-left (ltb bit 2) (binary bits) b) (binary-take n bits (and-right (ltb bit 2) (binary bits) b))
+module _ (n : ℕ) (bits : List ℕ) (b : T (binary bits)) where
+  both-parts : T (binary (take n bits ++ drop n bits))
+  both-parts = rw (take-append-drop n bits) b
 
-binary-drop : (n : ℕ) (bits : List ℕ) → T (binary bits) → T (binary (drop n bits))
-binary-drop zero bits b = b
-binary-drop (suc n) [] b = tt
-binary-drop (suc n) (bit ∷ bits) b = binary-drop n bits (and-right (ltb bit 2) (binary bits) b)
+  binary-take : T (binary (take n bits))
+  binary-take = binary-ahead (take n bits) (drop n bits) both-parts
+
+  binary-drop : T (binary (drop n bits))
+  binary-drop = binary-behind (take n bits) (drop n bits) both-parts
 
 first-low : (group : List ℕ) → T (binary group) → getD group 0 0 < 2
 first-low [] b = omega arith

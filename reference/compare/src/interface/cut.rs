@@ -2,7 +2,7 @@
 
 use super::call::{Call, Take};
 use super::checker::Checker;
-use super::image::{image, state, Image};
+use super::image::{image, is_inside_wr_receiver, state, Image};
 use super::layout::{at, CLOCK_OVER, DONE, LIST_FULL, OK, RECORD_LINE_BYTES, RESULT_WORDS};
 use super::prefilled;
 use cases::generate::bits;
@@ -172,8 +172,13 @@ impl Runner<'_> {
 
     fn take(&mut self, piece: &Piece, list: &List, random: &mut Random) -> io::Result<(u64, Take)> {
         self.calls += 1;
+        let mut image = self.carried.image.clone();
+        // It means nothing there, whatever it is.
+        if is_inside_wr_receiver(&image) && random.bit() {
+            image[at::GROUP] = random.below(256);
+        }
         let take = Take {
-            image: self.carried.image.clone(),
+            image,
             input: piece.input.clone(),
             first: piece.first,
             count: piece.left,

@@ -149,16 +149,25 @@ fn read_recogniser(words: &Image) -> Recogniser {
 
 /// The places at which an image may hold any word of its width: those that
 /// its phase does not use, if the image that was lent held something where
-/// its own phase does not; else none.
+/// its own phase does not; else none. Nothing goes by a group but a group.
 pub fn unspecified_places(lent: &[u64], after: &[u64]) -> Vec<usize> {
     let (Ok(lent), Ok(after)) = (<&Image>::try_from(lent), <&Image>::try_from(after)) else {
         return Vec::new();
     };
     let unused = |words| RECOGNISER.filter(move |&place| !uses(words, place));
-    if unused(lent).all(|place| lent[place] == 0) {
-        return Vec::new();
+    let held: Vec<usize> = unused(lent).filter(|&place| lent[place] != 0).collect();
+    match held[..] {
+        [] => Vec::new(),
+        [at::GROUP] => unused(after).filter(|&place| place == at::GROUP).collect(),
+        _ => unused(after).collect(),
     }
-    unused(after).collect()
+}
+
+/// Whether the image stands inside a WrReceiver, which has no groups.
+pub fn is_inside_wr_receiver(words: &[u64]) -> bool {
+    words.len() == IMAGE_WORDS
+        && words[at::PHASE] == phase::FIELD5
+        && words[at::COMMAND] == u64::from(slow::WR_RECEIVER)
 }
 
 /// The places of the recogniser's words that an image's phase uses.
