@@ -1,0 +1,61 @@
+-- A record too close to the one before it (document 02, F-5).
+-- Assumes nothing.
+use mathlib.Core.Bool.{Bool, cond, not, _&&_, _||_}
+use Prim.Native.Nat.{ℕ, _+_, _-_}
+use lib.Dec.{ltb, eqb}
+use lib.IntN.{ℤ, pos, _-ℤ_}
+use lib.Signed.{ltZ}
+use Rattle.recogniser.specs.Fields.{lengthOf}
+use Rattle.controller.specs.declared.Cycle.{Cycle}
+use Rattle.controller.specs.declared.Cycle.the-variants.{Silent, Recorded}
+use Rattle.controller.specs.declared.Record.{Record}
+use Rattle.controller.specs.Records.{recordOf, kindSlow}
+use Rattle.timing.specs.declared.Earlier.{Earlier}
+use Rattle.timing.specs.Table.{isLv1Kind, zerosAsked}
+
+-- "The state remembers the earlier record": its time and kind. No record has kind 0.
+abbrev pub none : Earlier
+none = record { time = 0; kind = 0 }
+
+abbrev pub isNone : Earlier → Bool
+isNone e = eqb (e .kind) 0
+
+abbrev pub earlierOf : Record → Earlier
+earlierOf r = record { time = r .time; kind = r .kind }
+
+-- "a sound state has that time below its next cycle"
+abbrev pub earlierBelow : Earlier → ℕ → Bool
+earlierBelow e cycle = isNone e || ltb (e .time) cycle
+
+-- "An LV1's first bit is four cycles before its last, a Fast's or bad Fast's eight, and a Slow's or bad Slow's is its header's first, reckoned back by its
+-- length": nine bits of header, Fields 3 and 4, and Field 5 by the CNT that it was sent under. A bad Slow, whose kind is 2F, has none.
+abbrev pub cyclesBack : ℕ → ℕ → ℕ
+cyclesBack kind cnt = cond (isLv1Kind kind) 4 (cond (ltb kind (kindSlow 0)) 8 (16 + lengthOf (kind - kindSlow 0) cnt))
+
+-- A first bit may lie ahead of cycle 0: a state may hold the window of bits that no cycle of it brought.
+abbrev pub firstBit : Record → ℕ → ℤ
+firstBit r cnt = pos (r .time) -ℤ pos (cyclesBack (r .kind) cnt)
+
+-- "The distance is its first bit's cycle, less the earlier record's time, less 1."
+abbrev pub distanceTo : Earlier → Record → ℕ → ℤ
+distanceTo e r cnt = firstBit r cnt -ℤ pos (e .time) -ℤ pos 1
+
+-- "when fewer zeros than the timing table asks lie between it and the recorded command before"; "The first record after opening is never flagged."
+unfoldable pub tooClose : Earlier → Record → ℕ → Bool
+tooClose e r cnt = not (isNone e) && ltZ (distanceTo e r cnt) (pos (zerosAsked (e .kind) (r .kind)))
+
+-- "A record gets flag hexadecimal 20".
+abbrev pub flagTooClose : Bool → ℕ
+flagTooClose b = cond b 0x20 0
+
+abbrev pub flagged : Earlier → ℕ → Record → Record
+flagged e cnt r = recordOf (r .time) (r .kind) (r .flags + flagTooClose (tooClose e r cnt)) (r .value)
+
+-- What a cycle answers with the flag, and the earlier record after it.
+abbrev pub flaggedCycle : Earlier → ℕ → Cycle → Cycle
+flaggedCycle e cnt Silent = Silent
+flaggedCycle e cnt (Recorded r) = Recorded (flagged e cnt r)
+
+abbrev pub earlierAfter : Earlier → Cycle → Earlier
+earlierAfter e Silent = e
+earlierAfter e (Recorded r) = earlierOf r
