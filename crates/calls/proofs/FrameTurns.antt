@@ -23,11 +23,14 @@ use Rattle.controller.specs.declared.Cycle.the-variants.{Silent, Recorded}
 use Rattle.controller.specs.Records.{headOf, wordsOf, flagActed, flagUnsteady}
 use Rattle.controller.specs.Commands.{slowRecord, frameValueOf, actOf}
 use Rattle.calls.specs.Run.{Turned, stateAfter, wordsAfter}
+use Rattle.timing.specs.declared.Earlier.{Earlier}
+use Rattle.timing.specs.TooClose.{earlierOf, flagged}
 use Rattle.calls.specs.Turn.{System, Machine, cntAt, turnOf}
 
--- The record of a frame.
-abbrev pub frameRecord : ℕ → ℕ → Bool → ℕ → Record
-frameRecord time command unsteady cnt = slowRecord time command (flagActed true + flagUnsteady unsteady) (frameValueOf command cnt)
+-- The record of a frame, after an earlier one.
+abbrev pub frameRecord : Earlier → ℕ → ℕ → Bool → ℕ → Record
+frameRecord earlier time command unsteady cnt =
+    flagged earlier cnt (slowRecord time command (flagActed true + flagUnsteady unsteady) (frameValueOf command cnt))
 
 abbrev pub system : Recogniser → Machine → System
 system r m = record { recogniser = r; machine = m }
@@ -47,7 +50,11 @@ at command address count group unsteady = record {
 
 -- The machine one cycle on, with the cycle's frame bit in its tray.
 abbrev pub moved : FrameBit → Machine → Machine
-moved f m = record { plan = m .plan; next = m .next + 1; model = m .model; store = m .store; tray = trayOf (m .tray) f }
+moved f m = record { plan = m .plan; next = m .next + 1; model = m .model; earlier = m .earlier; store = m .store; tray = trayOf (m .tray) f }
+
+-- A machine after a record.
+abbrev recorded : Machine → Record → Machine
+recorded m r = record { plan = m .plan; next = m .next; model = m .model; earlier = earlierOf r; store = m .store; tray = m .tray }
 
 abbrev turned : System → Cycle → Turned System
 turned s c = record { state = s; cycle = c }
@@ -58,7 +65,7 @@ pub record FrameTaken (command place : ℕ) (stored : List ℕ) (unsteady : Bool
   pub last-bit : time + 1 ≡ s .machine .next + length bits
   pub tray : stateAfter turnOf s bits .machine .tray ≡ filledOf place (s .machine .tray) stored
   pub words : wordsAfter turnOf s bits
-      ≡ headOf (frameRecord time command unsteady (cntAt (s .machine))) ∷ frameValueOf command (cntAt (s .machine)) ∷ []
+      ≡ headOf (frameRecord (s .machine .earlier) time command unsteady (cntAt (s .machine))) ∷ frameValueOf command (cntAt (s .machine)) ∷ []
 
 module _ (command address : ℕ) (frame : isFrame command ≡ true) (count group : ℕ) (unsteady : Bool) (m : Machine) (bit : ℕ) where
   abbrev now : Recogniser
@@ -70,12 +77,15 @@ module _ (command address : ℕ) (frame : isFrame command ≡ true) (count group
   abbrev then : Machine
   then = moved (frameBitOf now bit) m
 
+  abbrev written : Record
+  written = frameRecord (m .earlier) (m .next) command (unsteadyOf now bit) (cntAt m)
+
   goes-on : endsOf now (cntAt m) ≡ false → turnOf (system now m) bit ≡ turned (system next then) Silent
   unfolding turnOf stepOf actOf
   goes-on e = rw (frame, e)
 
   ends : endsOf now (cntAt m) ≡ true
-      → turnOf (system now m) bit ≡ turned (system idle then) (Recorded (frameRecord (m .next) command (unsteadyOf now bit) (cntAt m)))
+      → turnOf (system now m) bit ≡ turned (system idle (recorded then written)) (Recorded written)
   unfolding turnOf stepOf actOf
   ends e = rw (frame, e)
 

@@ -29,19 +29,27 @@ use Rattle.controller.specs.Records.{headOf, isFrameHead}
 use Rattle.controller.specs.Commands.{Effect, actOf}
 use Rattle.controller.specs.Requests.{requestFits}
 use Rattle.controller.proofs.RequestsFit.{step-request-fits}
+use Rattle.controller.proofs.RecordStamps.{Stamped, stamped}
+use Rattle.timing.specs.declared.Earlier.{Earlier}
+use Rattle.timing.specs.TooClose.{earlierOf, earlierBelow, flaggedCycle, earlierAfter}
+use Rattle.timing.proofs.Flagged.{below-later, below-next}
 use Rattle.decoder.specs.declared.Decoder.{Decoder}
 use Rattle.calls.specs.declared.Ending.{Ending}
 use Rattle.calls.specs.declared.Ending.the-variants.{Done, Frame, ListFull}
-use Rattle.calls.specs.Perform.{PerformResult, recordedAt, performOf}
+use Rattle.calls.specs.declared.Performed.{Performed}
+use Rattle.calls.specs.Perform.{PerformResult, performedWith, recordedAt, performOf}
 use Rattle.calls.specs.Run.{Run, ended, oneBit, oneRecord, afterCycle, runOf}
 use Rattle.calls.specs.Turn.{System, decoderOf, turnOf}
 use Rattle.calls.specs.Take.{Call, CallResult, result, takenWith, finished, takenOf}
 use Rattle.calls.proofs.RunStretch.{landed, bitsAhead, run-stretch}
 
 -- The system that the loop's locals make up, and the bits that are left.
-abbrev pub systemAt : Decoder → List ℕ → List ℕ → Recogniser → Model → ℕ → System
-systemAt d store tray r m taken =
-    record { recogniser = r; machine = record { plan = d .plan; next = d .next + taken; model = m; store = store; tray = tray } }
+abbrev pub systemAt : Decoder → List ℕ → List ℕ → Recogniser → Model → Earlier → ℕ → System
+systemAt d store tray r m earlier taken =
+    record { recogniser = r; machine = record { plan = d .plan; next = d .next + taken; model = m; earlier = earlier; store = store; tray = tray } }
+
+abbrev pub standsAt : Decoder → List ℕ → List ℕ → Recogniser → Performed → ℕ → System
+standsAt d store tray r p taken = systemAt d store tray r (p .model) (p .earlier) taken
 
 abbrev pub left : Call → ℕ → List ℕ
 left c taken = bitsOf (c .input) (c .first + taken) (c .count - taken)
@@ -51,26 +59,38 @@ abbrev pub answered : Call → System → ℕ → ℕ → Ending → List ℕ �
 answered c s taken at ending list =
     result (takenWith (decoderOf s) taken ((at - c .free) / 2) ending) (s .machine .store) (s .machine .tray) list
 
--- The run that is left, finished onto what is taken and written so far, is the whole call.
-pub record Invariant (d : Decoder) (c : Call) (store tray list : List ℕ) (r : Recogniser) (m : Model) (cnt taken at : ℕ) : Type 0 where
+-- The run that is left, finished onto what is taken and written so far, is the whole call. The record before has a time below the next cycle.
+pub record Invariant (d : Decoder) (c : Call) (store tray list : List ℕ) (r : Recogniser) (p : Performed) (taken : ℕ) : Type 0 where
   pub low : taken ≤ c .count
-  pub from : c .free ≤ at
-  pub fits : at ≤ length list
+  pub below : earlierBelow (p .earlier) (d .next + taken) ≡ true
+  pub from : c .free ≤ p .at
+  pub fits : p .at ≤ length list
   pub same : length list ≡ length (c .list)
   pub long : length store ≡ length (c .store)
   pub wide : length tray ≡ length (c .tray)
-  pub cnt-is : cnt ≡ cntOf (d .plan) m
-  pub rest : finished taken ((at - c .free) / 2) list at (runOf turnOf (left c taken) (systemAt d store tray r m taken) (length list - at)) ≡ takenOf d c
+  pub cnt-is : p .cnt ≡ cntOf (d .plan) (p .model)
+  pub rest : finished taken ((p .at - c .free) / 2) list (p .at) (runOf turnOf (left c taken) (standsAt d store tray r p taken) (length list - p .at))
+      ≡ takenOf d c
 
-pub initially : (d : Decoder) (c : Call) (cnt : ℕ) → c .free ≤ length (c .list) → cnt ≡ cntOf (d .plan) (d .model)
-    → Invariant d c (c .store) (c .tray) (c .list) (d .recogniser) (d .model) cnt 0 (c .free)
+pub initially : (d : Decoder) (c : Call) → c .free ≤ length (c .list) → earlierBelow (d .earlier) (d .next) ≡ true
+    → Invariant d c (c .store) (c .tray) (c .list) (d .recogniser) (performedWith (d .plan) (d .model) (d .earlier) (c .free) false) 0
 unfolding takenOf
-initially d c cnt h e =
+initially d c h below =
     let a : c .first + 0 ≡ c .first = omega arith in
     let b : d .next + 0 ≡ d .next = omega arith in
     let s : c .count - 0 ≡ c .count = omega arith in
     let z : (c .free - c .free) / 2 ≡ 0 = omega arith in
-    record { low = omega arith; from = omega arith; fits = h; same = refl; long = refl; wide = refl; cnt-is = e; rest = rw (a, b, s, z) }
+    record {
+      low = omega arith;
+      below = rw b below;
+      from = omega arith;
+      fits = h;
+      same = refl;
+      long = refl;
+      wide = refl;
+      cnt-is = refl;
+      rest = rw (a, b, s, z);
+    }
 
 -- an end of the run
 ending : (c : Call) (w : System) (e : Ending) (taken at : ℕ) (list : List ℕ)
@@ -116,24 +136,27 @@ wrote-one taken at free x list r h =
 -- Once a request is performed, the call goes on, or it stops at a frame's record.
 pub record AfterRequest (d : Decoder) (c : Call) (tray : List ℕ) (r : Recogniser) (taken : ℕ) (p : PerformResult) : Type 0 where
   pub from : c .free ≤ p .performed .at
-  pub onwards : p .performed .stops ≡ false → Invariant d c (p .store) tray (p .list) r (p .performed .model) (p .performed .cnt) taken (p .performed .at)
+  pub onwards : p .performed .stops ≡ false → Invariant d c (p .store) tray (p .list) r (p .performed) taken
   pub stopped : p .performed .stops ≡ true
-      → answered c (systemAt d (p .store) tray r (p .performed .model) taken) taken (p .performed .at) Frame (p .list) ≡ takenOf d c
+      → answered c (standsAt d (p .store) tray r (p .performed) taken) taken (p .performed .at) Frame (p .list) ≡ takenOf d c
 
 -- a record leaves the store
-same-store : (plan : Plan) (m : Model) (y : Cycle) (store list : List ℕ) (at : ℕ) → length (recordedAt plan m y store list at .store) ≡ length store
-same-store plan m Silent store list at = refl
-same-store plan m (Recorded x) store list at = refl
+same-store : (plan : Plan) (m : Model) (e : Earlier) (y : Cycle) (store list : List ℕ) (at : ℕ) → length (recordedAt plan m e y store list at .store) ≡ length store
+same-store plan m e Silent store list at = refl
+same-store plan m e (Recorded x) store list at = refl
 
 passes-fit : {cnt : ℕ} {r : Recogniser} {bits : List ℕ} {s : Stretch} → Passes cnt r bits s → requestFits (s .event .request) ≡ true
 passes-fit (ends r) = refl
 passes-fit {cnt} (last r bit bits) = step-request-fits r bit cnt
 passes-fit (more r bit bits s noEvent p) = passes-fit p
 
-module _ {d : Decoder} {c : Call} {store tray list : List ℕ} {r : Recogniser} {m : Model} {cnt taken at : ℕ}
-    (g : Invariant d c store tray list r m cnt taken at) where
+module _ {d : Decoder} {c : Call} {store tray list : List ℕ} {r : Recogniser} {p : Performed} {taken : ℕ}
+    (g : Invariant d c store tray list r p taken) where
+  abbrev at : ℕ
+  at = p .at
+
   abbrev here : System
-  here = systemAt d store tray r m taken
+  here = standsAt d store tray r p taken
 
   pub done : c .count ≤ taken → answered c here taken at Done list ≡ takenOf d c
   done h =
@@ -158,11 +181,11 @@ module _ {d : Decoder} {c : Call} {store tray list : List ℕ} {r : Recogniser} 
         ∙ (rw first at (g .rest))
 
     -- a stretch of the input that is left, as single cycles
-    pub stretch-walks : (s : Stretch) → s ≡ stretchOf r cnt (left c taken) → Passes cnt r (left c taken) s
-    stretch-walks s walked = rw (walked, first) (stretch-passes r cnt _ _)
+    pub stretch-walks : (s : Stretch) → s ≡ stretchOf r (p .cnt) (left c taken) → Passes (p .cnt) r (left c taken) s
+    stretch-walks s walked = rw (walked, first) (stretch-passes r (p .cnt) _ _)
 
     -- after single cycles of which only the last asks for anything, however far they go
-    module _ (room : 2 ≤ length list - at) (s : Stretch) (passes : Passes cnt r (left c taken) s) where
+    module _ (room : 2 ≤ length list - at) (s : Stretch) (passes : Passes (p .cnt) r (left c taken) s) where
       abbrev on : ℕ
       on = taken + s .taken
 
@@ -190,30 +213,42 @@ module _ {d : Decoder} {c : Call} {store tray list : List ℕ} {r : Recogniser} 
       time = omega arith
 
       module _ (tray₁ : List ℕ) (put : tray₁ ≡ trayOf tray (s .event .frame)) (kept-tray : length tray₁ ≡ length tray) where
-        module _ (f : Effect) (did : f ≡ actOf (d .plan) m (s .event .request) (d .next + on - 1) store) (kept : length (f .store) ≡ length store) where
-          abbrev there : System
-          there = systemAt d (f .store) tray₁ (s .next) (f .acted .model) on
+        module _ (f : Effect) (did : f ≡ actOf (d .plan) (p .model) (s .event .request) (d .next + on - 1) store) (kept : length (f .store) ≡ length store) where
+          -- what the cycle answers, and the record before after it
+          abbrev answer : Cycle
+          answer = flaggedCycle (p .earlier) (p .cnt) (f .acted .cycle)
 
-          lands : landed here s ≡ record { state = there; cycle = f .acted .cycle }
+          abbrev there : System
+          there = systemAt d (f .store) tray₁ (s .next) (f .acted .model) (earlierAfter (p .earlier) answer) on
+
+          below-there : earlierBelow (earlierAfter (p .earlier) answer) (d .next + on) ≡ true
+          below-there =
+              let last : d .next + on - 1 + 1 ≡ d .next + on = omega (arith, moved .0) in
+              let stamp : Stamped (d .next + on - 1) (f .acted .cycle) = rw did (stamped (d .plan) (p .model) (d .next + on - 1) store (s .event .request)) in
+              let before = below-later (p .earlier) (d .next + taken) (d .next + on - 1) (omega (arith, moved .0)) (g .below) in
+              rw last at (below-next (p .earlier) (p .cnt) (d .next + on - 1) (f .acted .cycle) stamp before)
+
+          lands : landed here s ≡ record { state = there; cycle = answer }
           lands =
               let e : d .next + taken + s .taken ≡ d .next + on = omega arith in
-              rw (time, e, ← did, put)
+              rw (time, e, ← did, put, g .cnt-is)
 
-          onward : finished on ((at - c .free) / 2) list at (afterCycle (runOf turnOf (left c on)) there (f .acted .cycle) (length list - at)) ≡ takenOf d c
+          onward : finished on ((at - c .free) / 2) list at (afterCycle (runOf turnOf (left c on)) there answer (length list - at)) ≡ takenOf d c
           onward =
               let e : (n : ℕ) → on + n ≡ taken + (s .taken + n) = λ n. omega arith in
-              let k : cntOf (d .plan) m ≡ cnt = sym (g .cnt-is) in
-              let run : Run System = afterCycle (runOf turnOf (left c on)) there (f .acted .cycle) (length list - at) in
+              let k : cntOf (d .plan) (p .model) ≡ p .cnt = sym (g .cnt-is) in
+              let run : Run System = afterCycle (runOf turnOf (left c on)) there answer (length list - at) in
               let to : runOf turnOf (left c taken) here (length list - at) ≡ bitsAhead (s .taken) run =
-              run-stretch cnt (length list - at) room passes here refl k
+              run-stretch (p .cnt) (length list - at) room passes here refl k
               ∙ (λ i. bitsAhead (s .taken) (afterCycle (runOf turnOf (after i)) (lands i .state) (lands i .cycle) (length list - at))) in
               rw (e (run .bits)) (ap (finished taken ((at - c .free) / 2) list at) (sym to) ∙ g .rest)
 
-          goes : (y : Cycle) → f .acted .cycle ≡ y → AfterRequest d c tray₁ (s .next) on (recordedAt (d .plan) (f .acted .model) y (f .store) list at)
+          goes : (y : Cycle) → answer ≡ y → AfterRequest d c tray₁ (s .next) on (recordedAt (d .plan) (f .acted .model) (p .earlier) y (f .store) list at)
           goes Silent e = record {
             from = g .from;
             onwards = λ _. record {
               low = moved .1;
+              below = rw e at below-there;
               from = g .from;
               fits = g .fits;
               same = g .same;
@@ -228,7 +263,8 @@ module _ {d : Decoder} {c : Call} {store tray list : List ℕ} {r : Recogniser} 
               let list₁ : List ℕ = set (set list at (headOf x)) (at + 1) (x .value) in
               let same-list : length list₁ ≡ length list = simp length-set in
               let low : c .free ≤ at + 2 = omega (arith, g .from) in
-              let next : Bool → Run System = λ b. cond b (ended there Frame) (runOf turnOf (left c on) there (length list - at - 2)) in
+              let then : System = systemAt d (f .store) tray₁ (s .next) (f .acted .model) (earlierOf x) on in
+              let next : Bool → Run System = λ b. cond b (ended then Frame) (runOf turnOf (left c on) then (length list - at - 2)) in
               let recorded : finished on ((at + 2 - c .free) / 2) list₁ (at + 2) (next (isFrameHead (headOf x))) ≡ takenOf d c =
               sym (wrote-one on at (c .free) x list (next (isFrameHead (headOf x))) (g .from)) ∙ (rw e at onward) in
               record {
@@ -237,6 +273,7 @@ module _ {d : Decoder} {c : Call} {store tray list : List ℕ} {r : Recogniser} 
                     let n : length list - at - 2 ≡ length list₁ - (at + 2) = omega (arith, same-list) in
                     record {
                       low = moved .1;
+                      below = rw e at below-there;
                       from = low;
                       fits = omega (arith, same-list);
                       same = same-list ∙ g .same;
@@ -245,21 +282,35 @@ module _ {d : Decoder} {c : Call} {store tray list : List ℕ} {r : Recogniser} 
                       cnt-is = refl;
                       rest = rw n at (rw h at recorded);
                     };
-                stopped = λ h. ending c there Frame on (at + 2) list₁ ∙ (rw h at recorded);
+                stopped = λ h. ending c then Frame on (at + 2) list₁ ∙ (rw h at recorded);
               }
 
         -- a stretch that asks nothing of the controller
-        pub quiet : s .event .request ≡ request.Nothing → Invariant d c store tray₁ list (s .next) m cnt on at
+        pub quiet : s .event .request ≡ request.Nothing → Invariant d c store tray₁ list (s .next) p on
         unfolding actOf
-        quiet e = rw (g .cnt-is) (goes (record { acted = record { model = m; cycle = Silent }; store = store }) (rw e) refl Silent refl .onwards refl)
+        quiet e =
+            let f : Effect = record { acted = record { model = p .model; cycle = Silent }; store = store } in
+            let k = goes f (rw e) refl Silent refl .onwards refl in
+            record {
+              low = k .low;
+              below = k .below;
+              from = k .from;
+              fits = k .fits;
+              same = k .same;
+              long = k .long;
+              wide = k .wide;
+              cnt-is = g .cnt-is;
+              rest = k .rest;
+            }
 
         -- a stretch whose request is performed
-        pub performed : (p : PerformResult) → p ≡ performOf (d .plan) m (s .event .request) (d .next + on - 1) store list at → length (p .store) ≡ length store
-            → AfterRequest d c tray₁ (s .next) on p
+        pub performed : (q : PerformResult) → q ≡ performOf (d .plan) p (s .event .request) (d .next + on - 1) store list → length (q .store) ≡ length store
+            → AfterRequest d c tray₁ (s .next) on q
         unfolding performOf
-        performed p e kept =
-            let f : Effect = actOf (d .plan) m (s .event .request) (d .next + on - 1) store in
-            let same : length (p .store) ≡ length (f .store) =
-            ap (λ (q : PerformResult). length (q .store)) e ∙ same-store (d .plan) (f .acted .model) (f .acted .cycle) (f .store) list at in
+        performed q e kept =
+            let f : Effect = actOf (d .plan) (p .model) (s .event .request) (d .next + on - 1) store in
+            let y : Cycle = flaggedCycle (p .earlier) (p .cnt) (f .acted .cycle) in
+            let same : length (q .store) ≡ length (f .store) =
+            ap (λ (q : PerformResult). length (q .store)) e ∙ same-store (d .plan) (f .acted .model) (p .earlier) y (f .store) list at in
             let k : length (f .store) ≡ length store = sym same ∙ kept in
-            rw e (goes f refl k (f .acted .cycle) refl)
+            rw e (goes f refl k y refl)

@@ -29,9 +29,11 @@ use Rattle.decoder.proofs.Soundness.{sound-parts}
 use Rattle.controller.specs.Records.{wordsOf}
 use Rattle.controller.specs.Widths.{ModelFits, Narrow, WordsFit}
 use Rattle.controller.proofs.EffectKeeps.{model-fits}
-use Rattle.controller.proofs.RecordsFit.{act-words-fit}
+use Rattle.controller.proofs.RecordStamps.{stamped}
+use Rattle.controller.proofs.RecordsFit.{cycle-fits}
+use Rattle.timing.proofs.Flagged.{flagged-words-fit}
 use Rattle.calls.specs.Run.{stateAfter, wordsAfter}
-use Rattle.calls.specs.Turn.{System, decoderOf, transitionOf, turnOf}
+use Rattle.calls.specs.Turn.{System, decoderOf, cntAt, effectAt, transitionOf, turnOf}
 use Rattle.calls.specs.Take.{Call, CallResult, offered, lent, buffersFit, clockFits, takenOf, takeOf}
 use Rattle.calls.specs.Calls.{bitsTaken, wordsStanding, allWords}
 use Rattle.calls.proofs.CallLists.{call-kept}
@@ -106,7 +108,8 @@ bits-fit input (suc n) (suc count) first s t f h =
     (model-fits (m .plan) (m .model) q (m .next) (m .store) f) (omega arith) in
     record {
       words = fit-append (wordsOf (turnOf s bit .cycle)) (wordsAfter turnOf (turnOf s bit .state) later)
-          (act-words-fit (m .plan) (m .model) f (m .next) (omega arith) (m .store) q narrow) (rest .words);
+          (flagged-words-fit (m .earlier) (cntAt m) (m .next) (omega arith) (effectAt m q (m .next) .acted .cycle) (stamped (m .plan) (m .model) (m .next) (m .store) q)
+          (cycle-fits (m .plan) (m .model) f (m .next) (m .store) q narrow)) (rest .words);
       model = rest .model;
     }
 

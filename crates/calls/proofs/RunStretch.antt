@@ -39,11 +39,14 @@ bitsAhead n r = record { state = r .state; bits = n + r .bits; words = r .words;
 abbrev pub rest : System → List ℕ → Stretch → ℕ → Run System
 rest s bits w room = bitsAhead (w .taken) (afterCycle (runOf turnOf (drop (w .taken) bits)) (landed s w .state) (landed s w .cycle) room)
 
--- the system after a cycle that asks for nothing
+-- a machine at a later cycle, and the system after a cycle that asks for nothing
+abbrev later : Machine → ℕ → Machine
+later m next = record { plan = m .plan; next = next; model = m .model; earlier = m .earlier; store = m .store; tray = m .tray }
+
 abbrev passed : System → Recogniser → System
 passed s r =
     let m = s .machine in
-    record { recogniser = r; machine = record { plan = m .plan; next = m .next + 1; model = m .model; store = m .store; tray = m .tray } }
+    record { recogniser = r; machine = later m (m .next + 1) }
 
 silent-turn : (s : System) (t : Transition) → t .event ≡ noEvent
     → turnBy t (respondOf (s .machine) (t .event)) ≡ record { state = passed s (t .next); cycle = Silent }
@@ -105,8 +108,7 @@ module _ (cnt room : ℕ) (enough : 2 ≤ room) where
   at-end s =
       let m = s .machine in
       let n : m .next ≡ m .next + 0 = omega arith in
-      let after : ℕ → Machine = λ n. record { plan = m .plan; next = n; model = m .model; store = m .store; tray = m .tray } in
-      ap (λ n. ended (record { recogniser = s .recogniser; machine = after n }) Done) n
+      ap (λ n. ended (record { recogniser = s .recogniser; machine = later m n }) Done) n
 
   one-silent : (s : System) (bit : ℕ) (bits : List ℕ) (w : Stretch) → cntAt (s .machine) ≡ cnt
       → stepOf (s .recogniser) bit cnt .event ≡ noEvent

@@ -21,6 +21,8 @@ use Rattle.registers.specs.declared.Model.{Model}
 use Rattle.registers.specs.Plan.{planFits, defaultPlan}
 use Rattle.registers.specs.Registers.{cntOf}
 use Rattle.controller.proofs.EffectKeeps.{after, zeros-fit, zeros-missing, writes-fit, reads-fit, missing-zero, base-low, cnt-kept, leave-stops, running-kept}
+use Rattle.controller.proofs.RecordStamps.{stamped}
+use Rattle.timing.proofs.Flagged.{below-next}
 use Rattle.decoder.specs.Fit.{fitOf}
 use Rattle.decoder.specs.declared.Decoder.{Decoder}
 use Rattle.decoder.specs.declared.Opened.{Opened}
@@ -30,7 +32,7 @@ use Rattle.decoder.specs.Sound.{insideSlow, soundOf}
 use Rattle.decoder.proofs.StepsFit.{start-fits, step-fits}
 use Rattle.decoder.proofs.Soundness.{sound, sound-parts}
 use Rattle.calls.specs.Run.{runOf, stateAfter}
-use Rattle.calls.specs.Turn.{System, decoderOf, transitionOf, turnOf}
+use Rattle.calls.specs.Turn.{System, decoderOf, cntAt, effectAt, transitionOf, turnOf}
 use Rattle.calls.specs.Take.{Call, CallResult, offered, lent, buffersFit, clockFits, takenOf, takeOf}
 use Rattle.calls.proofs.RunFaithful.{run-faithful}
 use Rattle.calls.proofs.SlowSteps.{Steps, over, begins, goes-on, slow-steps}
@@ -41,6 +43,7 @@ opened-sound plan cycle p c = sound (openedAt plan cycle) (record {
   plan = p;
   next = c;
   base = le-refl cycle;
+  earlier = refl;
   writes = zeros-fit;
   reads = zeros-fit;
   missing = zeros-missing plan (openedAt plan cycle .model) refl;
@@ -87,6 +90,7 @@ turn-sound s bit b t below =
       plan = parts .plan;
       next = omega arith;
       base = omega (arith, base-low (m .plan) (m .model) q (m .next) (m .store) (parts .base));
+      earlier = below-next (m .earlier) (cntAt m) (m .next) (effectAt m q (m .next) .acted .cycle) (stamped (m .plan) (m .model) (m .next) (m .store) q) (parts .earlier);
       writes = writes-fit (m .plan) (m .model) q (m .next) (m .store) (parts .writes);
       reads = reads-fit (m .plan) (m .model) q (m .next) (m .store) (parts .reads);
       missing = missing-zero (m .plan) (m .model) q (m .next) (m .store) (parts .missing);

@@ -13,6 +13,8 @@ use Rattle.controller.specs.declared.Cycle.{Cycle}
 use Rattle.controller.specs.declared.Cycle.the-variants.{Silent, Recorded}
 use Rattle.controller.specs.Records.{headOf, isFrameHead}
 use Rattle.controller.specs.Commands.{Effect, actOf}
+use Rattle.timing.specs.declared.Earlier.{Earlier}
+use Rattle.timing.specs.TooClose.{earlierOf, flaggedCycle}
 use Rattle.calls.specs.declared.Performed.{Performed}
 
 -- What `perform` answers, and the store's and the list's later contents.
@@ -24,17 +26,20 @@ pub record PerformResult : Type 0 where
 abbrev pub performResult : Performed → List ℕ → List ℕ → PerformResult
 performResult performed store list = record { performed = performed; store = store; list = list }
 
--- The model with its CNT, the next free word of the list, and whether the call stops here.
-abbrev pub performedWith : Plan → Model → ℕ → Bool → Performed
-performedWith plan m at stops = record { model = m; cnt = cntOf plan m; at = at; stops = stops }
+-- The model with its CNT, the record before, the next free word of the list, and whether the call stops here.
+abbrev pub performedWith : Plan → Model → Earlier → ℕ → Bool → Performed
+performedWith plan m earlier at stops = record { model = m; cnt = cntOf plan m; earlier = earlier; at = at; stops = stops }
 
-abbrev pub recordedAt : Plan → Model → Cycle → List ℕ → List ℕ → ℕ → PerformResult
-recordedAt plan m Silent store list at = performResult (performedWith plan m at false) store list
-recordedAt plan m (Recorded e) store list at =
-    performResult (performedWith plan m (at + listUnit) (isFrameHead (headOf e))) store (set (set list at (headOf e)) (at + 1) (e .value))
+-- What a cycle answers, in the list from a word on.
+abbrev pub recordedAt : Plan → Model → Earlier → Cycle → List ℕ → List ℕ → ℕ → PerformResult
+recordedAt plan m earlier Silent store list at = performResult (performedWith plan m earlier at false) store list
+recordedAt plan m earlier (Recorded r) store list at =
+    performResult (performedWith plan m (earlierOf r) (at + listUnit) (isFrameHead (headOf r))) store (set (set list at (headOf r)) (at + 1) (r .value))
 
-abbrev pub afterEffect : Plan → Effect → List ℕ → ℕ → PerformResult
-afterEffect plan e list at = recordedAt plan (e .acted .model) (e .acted .cycle) (e .store) list at
+abbrev pub afterEffect : Plan → Performed → Effect → List ℕ → PerformResult
+afterEffect plan from e list =
+    let answer = flaggedCycle (from .earlier) (from .cnt) (e .acted .cycle) in
+    recordedAt plan (e .acted .model) (from .earlier) answer (e .store) list (from .at)
 
-unfoldable pub performOf : Plan → Model → Request → ℕ → List ℕ → List ℕ → ℕ → PerformResult
-performOf plan m q time store list at = afterEffect plan (actOf plan m q time store) list at
+unfoldable pub performOf : Plan → Performed → Request → ℕ → List ℕ → List ℕ → PerformResult
+performOf plan from q time store list = afterEffect plan from (actOf plan (from .model) q time store) list

@@ -10,6 +10,7 @@ use Rattle.bits.specs.Bits.{bitsOf}
 use Rattle.bits.specs.Range.{rangeFitsWithin}
 use Rattle.recogniser.specs.declared.Recogniser.{Recogniser}
 use Rattle.registers.specs.declared.Model.{Model}
+use Rattle.timing.specs.declared.Earlier.{Earlier}
 use Rattle.decoder.specs.declared.Decoder.{Decoder}
 use Rattle.limits.specs.Limits.{clockLimit, storeLength, trayLength, listUnit, inputLimit}
 use Rattle.decoder.specs.Sound.{soundOf}
@@ -59,9 +60,9 @@ result taken store tray list = record { taken = taken; store = store; tray = tra
 abbrev pub takenWith : Decoder → ℕ → ℕ → Ending → Taken
 takenWith d bits records ending = record { decoder = d; report = record { bits = bits; records = records; ending = ending } }
 
--- A decoder after so many cycles, with its recogniser and model then.
-abbrev pub decoderAfter : Decoder → Recogniser → Model → ℕ → Decoder
-decoderAfter d r m taken = record { plan = d .plan; next = d .next + taken; recogniser = r; model = m }
+-- A decoder after so many cycles, with its recogniser, its model and the record before then.
+abbrev pub decoderAfter : Decoder → Recogniser → Model → Earlier → ℕ → Decoder
+decoderAfter d r m earlier taken = record { plan = d .plan; next = d .next + taken; recogniser = r; model = m; earlier = earlier }
 
 -- "a refused taking gives 0 bits, 0 records and the state and buffers it came with"
 abbrev pub refused : Decoder → Call → Ending → CallResult

@@ -11,15 +11,19 @@ use Rattle.frames.specs.Tray.{trayOf}
 use Rattle.registers.specs.declared.Plan.{Plan}
 use Rattle.registers.specs.declared.Model.{Model}
 use Rattle.registers.specs.Registers.{cntOf}
+use Rattle.controller.specs.declared.Cycle.{Cycle}
 use Rattle.controller.specs.Commands.{Effect, actOf}
+use Rattle.timing.specs.declared.Earlier.{Earlier}
+use Rattle.timing.specs.TooClose.{flaggedCycle, earlierAfter}
 use Rattle.decoder.specs.declared.Decoder.{Decoder}
 use Rattle.calls.specs.Run.{Turned}
 
--- All that an event reads or changes: the plan, the number of the next cycle, the model, the store and the tray.
+-- All that an event reads or changes: the plan, the number of the next cycle, the model, the record before, the store and the tray.
 pub record Machine : Type 0 where
   pub plan : Plan
   pub next : ℕ
   pub model : Model
+  pub earlier : Earlier
   pub store : List ℕ
   pub tray : List ℕ
 
@@ -32,11 +36,13 @@ pub record System : Type 0 where
 abbrev pub systemOf : Decoder → List ℕ → List ℕ → System
 systemOf d store tray = record {
   recogniser = d .recogniser;
-  machine = record { plan = d .plan; next = d .next; model = d .model; store = store; tray = tray };
+  machine = record { plan = d .plan; next = d .next; model = d .model; earlier = d .earlier; store = store; tray = tray };
 }
 
 abbrev pub decoderOf : System → Decoder
-decoderOf s = record { plan = s .machine .plan; next = s .machine .next; recogniser = s .recogniser; model = s .machine .model }
+decoderOf s =
+    let m = s .machine in
+    record { plan = m .plan; next = m .next; recogniser = s .recogniser; model = m .model; earlier = m .earlier }
 
 -- CNT as it stands.
 abbrev pub cntAt : Machine → ℕ
@@ -46,11 +52,22 @@ cntAt m = cntOf (m .plan) (m .model)
 abbrev pub effectAt : Machine → Request → ℕ → Effect
 effectAt m request time = actOf (m .plan) (m .model) request time (m .store)
 
--- The machine after an event, given what its request did and the number of the next cycle.
+-- What the cycle answers: its record with the flag of one too close to the record before, by CNT as it stood ahead of the record's effect (document 02, F-5).
+abbrev pub answerBy : Machine → Effect → Cycle
+answerBy m e = flaggedCycle (m .earlier) (cntAt m) (e .acted .cycle)
+
+-- The machine after an event, given what its request did and the number of the next cycle. The record becomes the earlier one, GlobalResetMCC's too.
 abbrev pub respondBy : Machine → Event → ℕ → Effect → Turned Machine
 respondBy m event next e = record {
-  state = record { plan = m .plan; next = next; model = e .acted .model; store = e .store; tray = trayOf (m .tray) (event .frame) };
-  cycle = e .acted .cycle;
+  state = record {
+    plan = m .plan;
+    next = next;
+    model = e .acted .model;
+    earlier = earlierAfter (m .earlier) (answerBy m e);
+    store = e .store;
+    tray = trayOf (m .tray) (event .frame);
+  };
+  cycle = answerBy m e;
 }
 
 -- "Each bit takes the next number. .. A record's time is the cycle of its command's last bit."

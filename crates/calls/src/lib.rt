@@ -6,6 +6,7 @@ ghost use lib.ListN.{length, set};
 ghost use Rattle.limits.specs.Limits.{clockLimit, storeLength, listUnit};
 ghost use Rattle.controller.specs.Records.{headOf};
 ghost use Rattle.controller.specs.Requests.{requestFits};
+ghost use Rattle.timing.specs.TooClose.{earlierBelow};
 ghost use Rattle.calls.specs.Perform.{performResult, performedWith, performOf};
 ghost use Rattle.calls.specs.Take.{takenWith, decoderAfter, buffersFit, endingNumber};
 use controller::Cycle;
@@ -15,6 +16,7 @@ use recogniser::Recogniser;
 use recogniser::Request;
 use registers::Model;
 use registers::Plan;
+use timing::Earlier;
 
 // How a taking call ends; the last four are its refusals, numbers 3 to 6.
 pub enum Ending {
@@ -100,16 +102,18 @@ impl Taken {
         ending: Ending,
     ) -> Taken
         requires { ⌜ (decoder .next + taken ≤ clockLimit) × (free ≤ done .at) ⌝ }
-        ensures { λ r. ⌜ r ≡ takenWith (decoderAfter decoder recogniser (done .model) taken) taken ((done .at - free) / listUnit) ending ⌝ }
+        ensures { λ r. ⌜ r ≡ takenWith (decoderAfter decoder recogniser (done .model) (done .earlier) taken) taken ((done .at - free) / listUnit) ending ⌝ }
     {
         let plan = decoder.plan;
         let model = done.model;
+        let earlier = done.earlier;
         Taken {
             decoder: Decoder {
                 plan: plan,
                 next: decoder.next + taken as u64,
                 recogniser: recogniser,
                 model: model,
+                earlier: earlier,
             },
             report: Report {
                 bits: taken,
@@ -120,10 +124,12 @@ impl Taken {
     }
 }
 
-// Where a call stands once a request is performed: the model with its CNT, the next free word of the list, and whether the call stops here.
+// Where a call stands once a request is performed: the model with its CNT, the record before, the next free word of the list, and whether the call stops
+// here.
 pub struct Performed {
     pub model: Model,
     pub cnt: u16,
+    pub earlier: Earlier,
     pub at: usize,
     pub stops: bool,
 }
@@ -131,20 +137,22 @@ pub struct Performed {
 impl Performed {
     // At a call's start.
     pub fn nothing(decoder: Decoder, free: usize) -> Performed
-        ensures { λ r. ⌜ r ≡ performedWith (decoder .plan) (decoder .model) free false ⌝ }
+        ensures { λ r. ⌜ r ≡ performedWith (decoder .plan) (decoder .model) (decoder .earlier) free false ⌝ }
     {
         let model = decoder.model;
         let plan = decoder.plan;
+        let earlier = decoder.earlier;
         Performed {
             model: model,
             cnt: model.cnt(plan),
+            earlier: earlier,
             at: free,
             stops: false,
         }
     }
 }
 
-// Performs a request at its cycle: its effect, and its record in the list.
+// Performs a request at its cycle: its effect, and its record in the list, flagged where it is too close to the one before.
 pub fn perform(
     from: Performed,
     plan: Plan,
@@ -154,8 +162,9 @@ pub fn perform(
     list: &mut [u64],
 ) -> Performed
     requires { ⌜ (time < clockLimit) × (length (now store) ≡ storeLength) × (requestFits request ≡ true) × (listUnit ≤ length (now list) - from .at) ⌝ }
+    requires { ⌜ earlierBelow (from .earlier) clockLimit ≡ true ⌝ }
     ensures { λ r. ⌜ performResult r (now (store .exit)) (now (list .exit))
-        ≡ performOf plan (from .model) request time (now (store .entry)) (now (list .entry)) (from .at) ⌝ }
+        ≡ performOf plan from request time (now (store .entry)) (now (list .entry)) ⌝ }
 {
     let at = from.at;
     let model = from.model;
@@ -163,19 +172,23 @@ pub fn perform(
     let m = acted.model;
     let cnt = m.cnt(plan);
     let cycle = acted.cycle;
+    let earlier = from.earlier;
     let Cycle::Recorded { entry } = cycle else {
         return Performed {
             model: m,
             cnt: cnt,
+            earlier: earlier,
             at: at,
             stops: false,
         };
     };
-    write_record(&mut list[at..], entry);
+    let told = earlier.flagged(entry, from.cnt);
+    write_record(&mut list[at..], told);
     Performed {
         model: m,
         cnt: cnt,
+        earlier: Earlier::of(told),
         at: at + Decoder::LIST_UNIT,
-        stops: entry.is_frame(),
+        stops: told.is_frame(),
     }
 }

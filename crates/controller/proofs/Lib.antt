@@ -2,6 +2,6 @@ pub mod FifoWrite
 pub mod FastCases
 pub mod EffectCases
 pub mod EffectKeeps
-pub mod RecordTime
+pub mod RecordStamps
 pub mod RecordsFit
 pub mod RequestsFit

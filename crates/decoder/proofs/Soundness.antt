@@ -9,6 +9,7 @@ use Rattle.bits.proofs.Truth.{holds-true, both, not-both, not-other}
 use Rattle.registers.specs.Plan.{planFits}
 use Rattle.registers.specs.Registers.{cntOf}
 use Rattle.registers.specs.Sound.{pointersFit, missingZero}
+use Rattle.timing.specs.TooClose.{earlierBelow}
 use Rattle.decoder.specs.Fit.{fitOf}
 use Rattle.decoder.specs.declared.Decoder.{Decoder}
 use Rattle.limits.specs.Limits.{clockLimit}
@@ -19,6 +20,7 @@ pub record Sound (d : Decoder) : Type 0 where
   pub plan : planFits (d .plan) ≡ true
   pub next : d .next ≤ clockLimit
   pub base : d .model .counters .base ≤ d .next
+  pub earlier : earlierBelow (d .earlier) (d .next) ≡ true
   pub writes : pointersFit (d .model .pointers .writes) ≡ true
   pub reads : pointersFit (d .model .pointers .reads) ≡ true
   pub missing : missingZero (d .plan) (d .model) ≡ true
@@ -33,6 +35,7 @@ module _ (d : Decoder) where
         s .plan,
         le-leb (d .next) clockLimit (s .next),
         le-leb (d .model .counters .base) (d .next) (s .base),
+        s .earlier,
         s .writes,
         s .reads,
         s .missing,
@@ -45,7 +48,8 @@ module _ (d : Decoder) where
       let p = both _ _ (holds-true (soundOf d) t) in
       let q = both _ _ (p .1) in
       let b = both _ _ (q .1) in
-      let w = both _ _ (b .1) in
+      let e = both _ _ (b .1) in
+      let w = both _ _ (e .1) in
       let r = both _ _ (w .1) in
       let m = both _ _ (r .1) in
       let s = both _ _ (m .1) in
@@ -53,6 +57,7 @@ module _ (d : Decoder) where
         plan = p .0;
         next = leb-true _ _ (q .0);
         base = leb-true _ _ (b .0);
+        earlier = e .0;
         writes = w .0;
         reads = r .0;
         missing = m .0;

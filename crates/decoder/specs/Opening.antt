@@ -7,19 +7,22 @@ use Rattle.recogniser.specs.Parts.{idle}
 use Rattle.registers.specs.declared.Plan.{Plan}
 use Rattle.registers.specs.Plan.{planFits, defaultPlan}
 use Rattle.registers.specs.Parts.{cleared}
+use Rattle.timing.specs.TooClose.{none}
 use Rattle.decoder.specs.declared.Decoder.{Decoder}
 use Rattle.decoder.specs.declared.Opened.{Opened}
 use Rattle.decoder.specs.declared.Opening.{Opening}
 use Rattle.decoder.specs.declared.Opening.the-variants.{Accepted, WrongPlan, WrongCycle}
 use Rattle.limits.specs.Limits.{clockLimit}
 
--- "a state that hunts, with window 00000, RunMode off, and registers, pointers, L1ID and warnings 0". "The base is the opening cycle".
+-- "a state that hunts, with window 00000, RunMode off, and registers, pointers, L1ID and warnings 0". "The base is the opening cycle". No record is before
+-- the first (document 02, F-5).
 abbrev pub openedAt : Plan → ℕ → Decoder
 openedAt plan cycle = record {
   plan = plan;
   next = cycle;
   recogniser = idle;
   model = cleared false cycle;
+  earlier = none;
 }
 
 abbrev pub opened : Decoder → Opening → Opened

@@ -8,6 +8,7 @@ use recogniser::Phase;
 use recogniser::Recogniser;
 use registers::Model;
 use registers::Plan;
+use timing::Earlier;
 
 // The whole state: nothing else is kept between calls.
 pub struct Decoder {
@@ -16,6 +17,8 @@ pub struct Decoder {
     pub next: u64,
     pub recogniser: Recogniser,
     pub model: Model,
+    // The record before, which says whether the next one is too close to it.
+    pub earlier: Earlier,
 }
 
 // How an opening ends: accepted, or refused with number 1 or 2.
@@ -171,6 +174,7 @@ impl Decoder {
             next: cycle,
             recogniser: Recogniser::start(Phase::Hunt, 0, 0, 0),
             model: Model::cleared(false, cycle),
+            earlier: Earlier::none(),
         }
     }
 
@@ -210,6 +214,7 @@ impl Decoder {
         let opens = plan.fits();
         let clock = self.next <= Decoder::CLOCK_LIMIT;
         let base = counters.base <= self.next;
+        let before = self.earlier.is_below(self.next);
         let writes_fit = registers::pointers_fit(writes);
         let reads_fit = registers::pointers_fit(reads);
         let missing = model.missing_zero(plan);
@@ -218,6 +223,6 @@ impl Decoder {
         let stopped = !(slow & model.running);
         let cnt = model.cnt(plan);
         let fits = fit(recogniser, cnt);
-        opens & (clock & (base & (writes_fit & (reads_fit & (missing & (stopped & fits))))))
+        opens & (clock & (base & (before & (writes_fit & (reads_fit & (missing & (stopped & fits)))))))
     }
 }

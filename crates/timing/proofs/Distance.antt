@@ -1,17 +1,15 @@
 -- The distance between two records, and the same test without subtraction.
 -- Assumes nothing.
-use mathlib.Core.Bool.{Bool, true, cond, not, _&&_}
+use mathlib.Core.Bool.{not, _&&_}
 use mathlib.Core.Logic.{⊎-elim}
 use mathlib.Core.Path.{_≡_, _∙_, refl, sym, ap}
-use Prim.Native.Nat.{ℕ, zero, suc, _+_, _-_, _<_, _≤_}
-use native.Mathlib.Nat.{add-zero}
+use Prim.Native.Nat.{ℕ, zero, suc, _+_, _-_, _<_}
 use native.Mathlib.Omega.{arith}
-use lib.Dec.{T, ltb, ltb→lt, nltb→le}
-use lib.IntN.{ℤ, pos, negsuc, subℕ, _-ℤ_}
+use lib.Dec.{ltb, ltb→lt, nltb→le}
+use lib.IntN.{ℤ, pos, negsuc, _-ℤ_}
 use lib.Signed.{ltZ}
 use borrow.Author.Tests.{lt-ltb, ltb-true}
 use Rattle.bits.proofs.Truth.{clash, cases, cond-case}
-use Rattle.controller.specs.declared.Record.{Record}
 use Rattle.timing.specs.declared.Earlier.{Earlier}
 use Rattle.timing.specs.Table.{zerosAsked}
 use Rattle.timing.specs.TooClose.{isNone, cyclesBack, tooClose}
@@ -33,14 +31,14 @@ less (negsuc a) zero z = rw (lt-ltb 0 (suc a) (omega arith))
 less (negsuc a) (suc n) z = refl
 
 -- The test without subtraction: a record's time is below the earlier one's, its own length and the zeros asked together.
-pub without-subtraction : (e : Earlier) (r : Record) (cnt : ℕ)
-    → tooClose e r cnt ≡ (not (isNone e) && ltb (r .time) (e .time + (cyclesBack (r .kind) cnt + 1) + zerosAsked (e .kind) (r .kind)))
+pub without-subtraction : (e : Earlier) (time kind cnt : ℕ)
+    → tooClose e time kind cnt ≡ (not (isNone e) && ltb time (e .time + (cyclesBack kind cnt + 1) + zerosAsked (e .kind) kind))
 unfolding tooClose
-without-subtraction e r cnt =
-    let back = cyclesBack (r .kind) cnt in
-    let asked = zerosAsked (e .kind) (r .kind) in
-    let first = pos (r .time) -ℤ pos back in
+without-subtraction e time kind cnt =
+    let back = cyclesBack kind cnt in
+    let asked = zerosAsked (e .kind) kind in
+    let first = pos time -ℤ pos back in
     let sum : asked + 1 + e .time + back ≡ e .time + (back + 1) + asked = omega arith in
     ap (λ b. not (isNone e) && b)
-    (less (first -ℤ pos (e .time)) 1 asked ∙ less first (e .time) (asked + 1) ∙ less (pos (r .time)) back (asked + 1 + e .time)
-    ∙ ap (ltb (r .time)) sum)
+    (less (first -ℤ pos (e .time)) 1 asked ∙ less first (e .time) (asked + 1) ∙ less (pos time) back (asked + 1 + e .time)
+    ∙ ap (ltb time) sum)

@@ -1,2 +1,3 @@
 pub mod Distance
 pub mod TableWhole
+pub mod Flagged

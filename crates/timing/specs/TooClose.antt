@@ -32,24 +32,25 @@ earlierBelow e cycle = isNone e || ltb (e .time) cycle
 abbrev pub cyclesBack : ℕ → ℕ → ℕ
 cyclesBack kind cnt = cond (isLv1Kind kind) 4 (cond (ltb kind (kindSlow 0)) 8 (16 + lengthOf (kind - kindSlow 0) cnt))
 
--- A first bit may lie ahead of cycle 0: a state may hold the window of bits that no cycle of it brought.
-abbrev pub firstBit : Record → ℕ → ℤ
-firstBit r cnt = pos (r .time) -ℤ pos (cyclesBack (r .kind) cnt)
+-- The cycle of a command's first bit, by its record's time and kind. It may lie before cycle 0: a sound state may hold a window of bits that no cycle
+-- brought.
+abbrev pub firstBit : ℕ → ℕ → ℕ → ℤ
+firstBit time kind cnt = pos time -ℤ pos (cyclesBack kind cnt)
 
 -- "The distance is its first bit's cycle, less the earlier record's time, less 1."
-abbrev pub distanceTo : Earlier → Record → ℕ → ℤ
-distanceTo e r cnt = firstBit r cnt -ℤ pos (e .time) -ℤ pos 1
+abbrev pub distanceTo : Earlier → ℕ → ℕ → ℕ → ℤ
+distanceTo e time kind cnt = firstBit time kind cnt -ℤ pos (e .time) -ℤ pos 1
 
 -- "when fewer zeros than the timing table asks lie between it and the recorded command before"; "The first record after opening is never flagged."
-unfoldable pub tooClose : Earlier → Record → ℕ → Bool
-tooClose e r cnt = not (isNone e) && ltZ (distanceTo e r cnt) (pos (zerosAsked (e .kind) (r .kind)))
+unfoldable pub tooClose : Earlier → ℕ → ℕ → ℕ → Bool
+tooClose e time kind cnt = not (isNone e) && ltZ (distanceTo e time kind cnt) (pos (zerosAsked (e .kind) kind))
 
 -- "A record gets flag hexadecimal 20".
 abbrev pub flagTooClose : Bool → ℕ
 flagTooClose b = cond b 0x20 0
 
 abbrev pub flagged : Earlier → ℕ → Record → Record
-flagged e cnt r = recordOf (r .time) (r .kind) (r .flags + flagTooClose (tooClose e r cnt)) (r .value)
+flagged e cnt r = recordOf (r .time) (r .kind) (r .flags + flagTooClose (tooClose e (r .time) (r .kind) cnt)) (r .value)
 
 -- What a cycle answers with the flag, and the earlier record after it.
 abbrev pub flaggedCycle : Earlier → ℕ → Cycle → Cycle

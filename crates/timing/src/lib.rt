@@ -84,7 +84,7 @@ impl Earlier {
     // Whether fewer zeros than asked lie between it and a record, by CNT ahead of that record's effect.
     fn is_too_close(self, entry: Record, cnt: u16) -> bool
         requires { ⌜ earlierBelow self clockLimit ≡ true ⌝ }
-        ensures { λ r. ⌜ r ≡ tooClose self entry cnt ⌝ }
+        ensures { λ r. ⌜ r ≡ tooClose self (entry .time) (entry .kind) cnt ⌝ }
     {
         if self.kind == 0 {
             return false;

@@ -5,12 +5,12 @@ use native.Mathlib.Omega.{arith}
 use borrow.Author.Needs.{needs}
 use lib.ListN.{length-take, length-drop}
 use Rattle.limits.specs.Limits.{clockLimit}
-use Rattle.calls.proofs.PerformCases.{at-time, silently, recorded}
+use Rattle.calls.proofs.PerformCases.{with-stamp, silently, recorded}
 use Rattle.calls.proofs.LoopInvariant.{two-put}
 use Rattle.calls.proofs.perform.Statement.{statement}
 use Rattle.calls.proofs.perform.Tie as tie
 
--- The places that the proofs look back to, each by the one after it: the call, after the request's effect, after its CNT.
+-- The places that the proofs look back to, each by the one after it: the call, after the request's effect, after its CNT, after its record is found.
 abbrev called : tie.After-act → tie.Start
 called a = let k = a .before .before .before .before in k .before
 
@@ -18,14 +18,18 @@ abbrev acted : tie.After-cnt → tie.After-act
 acted n = n .before .before .before .before
 
 abbrev counted : tie.After-cycle → tie.After-cnt
-counted k = k .before .before
+counted k = k .before .before .before
 
--- The record's time is the request's.
-time-low : (k : tie.After-cycle) → k .cycle .given .0 .0 .time < clockLimit
-time-low k =
+abbrev read : tie.After-flagged → tie.After-cycle
+read f = f .before .before
+
+-- The record's time is the request's, and its flags are below the one of a record too close.
+stamp : (k : tie.After-cycle) → (k .cycle .given .0 .0 .time < clockLimit) × (k .cycle .given .0 .0 .flags < 0x20)
+stamp k =
     let a = acted (counted k) in
     let s = called a in
-    rw (at-time (s .args .plan) (s .args .from .model) (s .args .request) (s .args .time) _ _ _ (a .act .ensures) _ (k .cycle .given .1)) (s .pre .0)
+    let w = with-stamp (s .args .plan) (s .args .from) (s .args .request) (s .args .time) _ _ _ (a .act .ensures) _ (k .cycle .given .1) in
+    (rw (w .0) (s .pre .0 .0), w .1)
 
 act-requires : tie.Need-act-requires
 act-requires c κs = search needs
@@ -44,13 +48,18 @@ same-length c = search needs
 
 returns : tie.Need-returns
 returns c =
-    let n = c .before .before in
-    silently _ _ _ _ _ _ _ (acted n .act .ensures) _ _ _ (n .cnt .ensures) (c .enum-told .given .1)
+    let n = c .before .before .before in
+    silently _ _ _ _ _ _ _ (acted n .act .ensures) _ _ (n .cnt .ensures) (c .enum-told .given .1)
+
+flagged-requires : tie.Need-flagged-requires
+flagged-requires c κs =
+    let k = c .before in
+    (stamp k .1, called (acted (counted k)) .pre .1)
 
 mul-write-record : tie.Need-mul-write-record
 mul-write-record c =
-    let s = called (acted (counted (c .before))) in
-    omega (arith, s .pre .3, s)
+    let s = called (acted (counted (read c))) in
+    omega (arith, s .pre .0 .3, s)
 
 sub-write-record : tie.Need-sub-write-record
 sub-write-record c = search needs
@@ -63,15 +72,19 @@ part-write-record-end c = search needs
 
 write-record-requires : tie.Need-write-record-requires
 write-record-requires c κs =
-    let k = c .before .before in
+    let f = c .before in
+    let k = read f in
     let s = called (acted (counted k)) in
-    (time-low k, simp (length-take, length-drop) (omega (arith, s .pre .3)))
+    (rw (f .flagged .ensures) (stamp k .0), simp (length-take, length-drop) (omega (arith, s .pre .0 .3)))
 
-add-t17 : tie.Need-add-t17
-add-t17 c =
-    let w = c .before .before in
-    let s = called (acted (counted (w .before .before .before))) in
-    omega (arith, s .pre .3, s)
+of-requires : tie.Need-of-requires
+of-requires c κs = search needs
+
+add-t19 : tie.Need-add-t19
+add-t19 c =
+    let w = c .before .before .before in
+    let s = called (acted (counted (read (w .before .before)))) in
+    omega (arith, s .pre .0 .3, s)
 
 is-frame-requires : tie.Need-is-frame-requires
 is-frame-requires c κs = search needs
@@ -84,13 +97,15 @@ same-length-3 c = search needs
 
 returns-2 : tie.Need-returns-2
 returns-2 c =
-    let w = c .before .before .before in
-    let k = w .before .before .before in
+    let o = c .before in
+    let w = o .before .before .before in
+    let f = w .before .before in
+    let k = read f in
     let n = counted k in
     let a = acted n in
     let s = called a in
-    recorded _ _ _ _ _ _ _ (a .act .ensures) _ _ _ (n .cnt .ensures) _ _ _ (k .cycle .given .1) (c .is-frame .ensures)
-    (rw (w .write-record .ensures) (two-put (s .args .list .now) (s .args .from .at) _ _ (s .pre .3)))
+    recorded _ _ _ _ _ _ _ (a .act .ensures) _ _ (n .cnt .ensures) _ _ _ (f .flagged .ensures) (o .of .ensures) _ _ (k .cycle .given .1) (c .is-frame .ensures)
+    (rw (w .write-record .ensures) (two-put (s .args .list .now) (s .args .from .at) _ _ (s .pre .0 .3)))
 
 pub perform-spec : {M : Type 1} → statement M
 perform-spec =
@@ -102,12 +117,14 @@ perform-spec =
     enum-told
     same-length
     returns
+    flagged-requires
     mul-write-record
     sub-write-record
     part-write-record-start
     part-write-record-end
     write-record-requires
-    add-t17
+    of-requires
+    add-t19
     is-frame-requires
     same-length-2
     same-length-3

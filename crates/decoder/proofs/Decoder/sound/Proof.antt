@@ -8,6 +8,9 @@ use Rattle.decoder.proofs.Decoder.sound.Tie as tie
 fits-requires : tie.Need-fits-requires
 fits-requires c κs = search needs
 
+is-below-requires : tie.Need-is-below-requires
+is-below-requires c κs = search needs
+
 pointers-fit-requires : tie.Need-pointers-fit-requires
 pointers-fit-requires c κs = search needs
 
@@ -31,6 +34,7 @@ unfolding soundOf
 returns c =
     let slow = c .before .before .before in
     let writes = slow .before .before .before in
+    let below = writes .before in
     simp (
       c .fit .ensures,
       c .before .cnt .ensures,
@@ -38,7 +42,8 @@ returns c =
       slow .before .missing-zero .ensures,
       slow .before .before .pointers-fit2 .ensures,
       writes .pointers-fit .ensures,
-      writes .before .before .before .before .fits2 .ensures,
+      below .is-below .ensures,
+      below .before .before .before .before .fits2 .ensures,
     )
 
 pub sound-spec : {M : Type 1} → statement M
@@ -46,6 +51,7 @@ sound-spec =
     tie.close
     (tie.spec
     fits-requires
+    is-below-requires
     pointers-fit-requires
     pointers-fit-requires-2
     missing-zero-requires

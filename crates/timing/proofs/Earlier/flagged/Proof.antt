@@ -1,6 +1,5 @@
 -- `flagged` adds the flag of a record too close to the one before it.
 -- Assumes nothing.
-use native.Mathlib.Omega.{arith}
 use borrow.Author.Needs.{needs}
 use Rattle.timing.proofs.Earlier.flagged.Statement.{statement}
 use Rattle.timing.proofs.Earlier.flagged.Tie as tie

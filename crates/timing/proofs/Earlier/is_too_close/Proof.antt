@@ -1,7 +1,7 @@
 -- `is_too_close` tests without subtraction.
 -- Assumes nothing.
 use mathlib.Core.Bool.{true}
-use mathlib.Core.Path.{_≡_, _∙_, sym, subst}
+use mathlib.Core.Path.{_≡_, _∙_, sym}
 use mathlib.Core.Logic.{⊎-elim}
 use Prim.Native.Nat.{_<_}
 use native.Mathlib.Omega.{arith}
@@ -21,7 +21,7 @@ time-low e below some = ⊎-elim (λ t. absurd (some (eqb-true _ _ t))) (λ t. l
 returns : tie.Need-returns
 returns c =
     let s = c .before .before in
-    sym (without-subtraction (s .args .self) (s .args .entry) (s .args .cnt) ∙ simp (eq-eqb _ _ (c .if1 .taken)))
+    sym (without-subtraction (s .args .self) (s .args .entry .time) (s .args .entry .kind) (s .args .cnt) ∙ simp (eq-eqb _ _ (c .if1 .taken)))
 
 cycles-back-requires : tie.Need-cycles-back-requires
 cycles-back-requires c κs = search needs
@@ -54,7 +54,7 @@ returns-2 c =
     let z = c .before in
     let n = z .before .before in
     let s = n .before .before .before in
-    sym (without-subtraction (s .args .self) (s .args .entry) (s .args .cnt)
+    sym (without-subtraction (s .args .self) (s .args .entry .time) (s .args .entry .kind) (s .args .cnt)
     ∙ simp (ne-eqb _ _ (n .before .if1 .left), n .cycles-back .ensures .0, z .zeros-asked .ensures .0))
 
 pub is-too-close-spec : {M : Type 1} → statement M

@@ -1,0 +1,44 @@
+-- What a record with the flag of F-5 keeps of itself.
+-- Assumes nothing.
+use mathlib.Core.Bool.{true}
+use mathlib.Core.Logic.{⊎-elim}
+use mathlib.Core.Path.{_≡_}
+use Prim.Native.Nat.{ℕ, _+_, _<_, _≤_}
+use native.Mathlib.Omega.{arith}
+use lib.Dec.{ltb, eqb}
+use borrow.Author.Tests.{ltb-true, lt-ltb}
+use Rattle.limits.specs.Limits.{clockLimit}
+use Rattle.bits.proofs.Truth.{cond-most, either, or-left, or-right}
+use Rattle.controller.specs.declared.Cycle.{Cycle}
+use Rattle.controller.specs.declared.Cycle.the-variants.{Silent, Recorded}
+use Rattle.controller.specs.declared.Record.{Record}
+use Rattle.controller.specs.Records.{wordsOf}
+use Rattle.controller.specs.Widths.{WordsFit}
+use Rattle.controller.proofs.RecordStamps.{Stamped}
+use Rattle.controller.proofs.RecordsFit.{CycleFits}
+use Rattle.timing.specs.declared.Earlier.{Earlier}
+use Rattle.timing.specs.TooClose.{isNone, tooClose, flagTooClose, flaggedCycle, earlierBelow, earlierAfter}
+
+module _ (e : Earlier) (cnt time : ℕ) where
+  pub flag-low : (r : Record) → flagTooClose (tooClose e (r .time) (r .kind) cnt) ≤ 0x20
+  flag-low r = cond-most (tooClose e (r .time) (r .kind) cnt) (omega arith) (omega arith)
+
+  -- Its time still stands above its kind and flags, and its value is its own.
+  pub flagged-words-fit : time < clockLimit → (c : Cycle) → Stamped time c → CycleFits c → WordsFit (wordsOf (flaggedCycle e cnt c))
+  flagged-words-fit below Silent s f = tt
+  flagged-words-fit below (Recorded r) s f =
+      let low = flag-low r in
+      (omega (arith, s, f), f .narrow-value, tt)
+
+-- An earlier record stays below a later cycle, and the present cycle's record is below the next.
+pub below-later : (e : Earlier) (n k : ℕ) → n ≤ k → earlierBelow e n ≡ true → earlierBelow e k ≡ true
+below-later e n k h b =
+    ⊎-elim (or-left (isNone e) (ltb (e .time) k))
+    (λ t. let l = ltb-true (e .time) n t in or-right (isNone e) (ltb (e .time) k) (lt-ltb (e .time) k (omega arith)))
+    (either (isNone e) (ltb (e .time) n) b)
+
+pub below-next : (e : Earlier) (cnt time : ℕ) (c : Cycle) → Stamped time c → earlierBelow e time ≡ true
+    → earlierBelow (earlierAfter e (flaggedCycle e cnt c)) (time + 1) ≡ true
+below-next e cnt time Silent s b = below-later e time (time + 1) (omega arith) b
+below-next e cnt time (Recorded r) s b =
+    or-right (eqb (r .kind) 0) (ltb (r .time) (time + 1)) (lt-ltb (r .time) (time + 1) (omega (arith, s)))
