@@ -224,7 +224,7 @@ module _ {d : Decoder} {c : Call} {store tray list : List ℕ} {r : Recogniser} 
           below-there : earlierBelow (earlierAfter (p .earlier) answer) (d .next + on) ≡ true
           below-there =
               let last : d .next + on - 1 + 1 ≡ d .next + on = omega (arith, moved .0) in
-              let stamp : Stamped (d .next + on - 1) (f .acted .cycle) = rw did (stamped (d .plan) (p .model) (d .next + on - 1) store (s .event .request)) in
+              let stamp : Stamped (d .next + on - 1) (f .acted .cycle) = rw did (stamped (d .plan) (p .model) (d .next + on - 1) store _ stretched-fits) in
               let before = below-later (p .earlier) (d .next + taken) (d .next + on - 1) (omega (arith, moved .0)) (g .below) in
               rw last at (below-next (p .earlier) (p .cnt) (d .next + on - 1) (f .acted .cycle) stamp before)
 

@@ -1,9 +1,9 @@
 -- A request performed, by what the controller answered: no record, or one in the list.
 -- Assumes nothing.
-use mathlib.Core.Path.{_≡_, _∙_, refl, sym, ap}
-use mathlib.Core.Bool.{Bool, false}
+use mathlib.Core.Path.{_≡_, _∙_, sym, ap}
+use mathlib.Core.Bool.{Bool, true, false}
 use mathlib.Core.List.{List}
-use Prim.Native.Nat.{ℕ, _+_, _<_}
+use Prim.Native.Nat.{ℕ, _+_}
 use lib.ListN.{set}
 use Rattle.recogniser.specs.declared.Request.{Request}
 use Rattle.registers.specs.declared.Plan.{Plan}
@@ -13,7 +13,8 @@ use Rattle.controller.specs.declared.Record.{Record}
 use Rattle.controller.specs.declared.Cycle.the-variants.{Silent, Recorded}
 use Rattle.controller.specs.Records.{headOf, isFrameHead}
 use Rattle.controller.specs.Commands.{Effect, effect, actOf}
-use Rattle.controller.proofs.RecordStamps.{record-stamp}
+use Rattle.controller.specs.Requests.{requestFits}
+use Rattle.controller.proofs.RecordStamps.{Stamp, record-stamp}
 use Rattle.timing.specs.declared.Earlier.{Earlier}
 use Rattle.timing.specs.TooClose.{earlierOf, flagged}
 use Rattle.calls.specs.declared.Performed.{Performed}
@@ -21,9 +22,8 @@ use Rattle.calls.specs.Perform.{performResult, performOf}
 
 module _ (plan : Plan) (from : Performed) (q : Request) (time : ℕ) (store store₁ : List ℕ) (a : Acted)
     (did : effect a store₁ ≡ actOf plan (from .model) q time store) where
-  -- its record has its time, and flags below the one of a record too close
-  pub with-stamp : (r : Record) → a .cycle ≡ Recorded r → (r .time ≡ time) × (r .flags < 0x20)
-  with-stamp r e = record-stamp plan (from .model) time store q r (sym (ap (λ (f : Effect). f .acted .cycle) did) ∙ e)
+  pub with-stamp : (r : Record) → requestFits q ≡ true → a .cycle ≡ Recorded r → Stamp time r
+  with-stamp r fits e = record-stamp plan (from .model) time store q r fits (sym (ap (λ (f : Effect). f .acted .cycle) did) ∙ e)
 
   module _ (cnt : ℕ) (list : List ℕ) (present : cnt ≡ cntOf plan (a .model)) where
     pub silently : a .cycle ≡ Silent

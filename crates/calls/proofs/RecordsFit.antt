@@ -29,7 +29,6 @@ use Rattle.decoder.proofs.Soundness.{sound-parts}
 use Rattle.controller.specs.Records.{wordsOf}
 use Rattle.controller.specs.Widths.{ModelFits, Narrow, WordsFit}
 use Rattle.controller.proofs.EffectKeeps.{model-fits}
-use Rattle.controller.proofs.RecordStamps.{stamped}
 use Rattle.controller.proofs.RecordsFit.{cycle-fits}
 use Rattle.timing.proofs.Flagged.{flagged-words-fit}
 use Rattle.calls.specs.Run.{stateAfter, wordsAfter}
@@ -37,7 +36,7 @@ use Rattle.calls.specs.Turn.{System, decoderOf, cntAt, effectAt, transit
 use Rattle.calls.specs.Take.{Call, CallResult, offered, lent, buffersFit, clockFits, takenOf, takeOf}
 use Rattle.calls.specs.Calls.{bitsTaken, wordsStanding, allWords}
 use Rattle.calls.proofs.CallLists.{call-kept}
-use Rattle.calls.proofs.SoundnessKept.{turn-sound, take-sound}
+use Rattle.calls.proofs.SoundnessKept.{stamp, turn-sound, take-sound}
 
 abbrev NarrowStep : Transition → Type 0
 NarrowStep h = Narrow (h .event .request)
@@ -108,7 +107,7 @@ bits-fit input (suc n) (suc count) first s t f h =
     (model-fits (m .plan) (m .model) q (m .next) (m .store) f) (omega arith) in
     record {
       words = fit-append (wordsOf (turnOf s bit .cycle)) (wordsAfter turnOf (turnOf s bit .state) later)
-          (flagged-words-fit (m .earlier) (cntAt m) (m .next) (omega arith) (effectAt m q (m .next) .acted .cycle) (stamped (m .plan) (m .model) (m .next) (m .store) q)
+          (flagged-words-fit (m .earlier) (cntAt m) (m .next) (omega arith) (effectAt m q (m .next) .acted .cycle) (stamp s bit)
           (cycle-fits (m .plan) (m .model) f (m .next) (m .store) q narrow)) (rest .words);
       model = rest .model;
     }

@@ -12,7 +12,7 @@ use Rattle.bits.proofs.Truth.{both}
 use Rattle.decoder.specs.declared.Decoder.{Decoder}
 use Rattle.limits.specs.Limits.{clockLimit, storeLength, trayLength, inputLimit}
 use Rattle.decoder.specs.Sound.{soundOf}
-use Rattle.decoder.proofs.Soundness.{sound-parts}
+use Rattle.decoder.proofs.Soundness.{Sound, sound-parts}
 use Rattle.calls.specs.declared.Ending.{Ending}
 use Rattle.calls.specs.declared.Ending.the-variants.{Unsound, WrongBuffers, WrongRange, ClockOver}
 use Rattle.calls.specs.Take.{Call, CallResult, refused, buffersFit, clockFits, takenOf, takeWithin, takeOf}
@@ -69,8 +69,8 @@ pub clock-long : (next count : ℕ) → next ≤ clockLimit → count ≤ clockL
 clock-long next count h g = le-leb (next + count) clockLimit (omega arith)
 
 -- what the checks that a call passed say of its numbers
-pub next-low : (d : Decoder) → soundOf d ≡ true → d .next ≤ clockLimit
-next-low d s = sound-parts d (rw s tt) .next
+pub sound-is : (d : Decoder) → soundOf d ≡ true → Sound d
+sound-is d s = sound-parts d (rw s tt)
 
 -- so that the run may go
 pub record May (next store input first count list free : ℕ) : Type 0 where

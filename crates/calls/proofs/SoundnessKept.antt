@@ -21,7 +21,8 @@ use Rattle.registers.specs.declared.Model.{Model}
 use Rattle.registers.specs.Plan.{planFits, defaultPlan}
 use Rattle.registers.specs.Registers.{cntOf}
 use Rattle.controller.proofs.EffectKeeps.{after, zeros-fit, zeros-missing, writes-fit, reads-fit, missing-zero, base-low, cnt-kept, leave-stops, running-kept}
-use Rattle.controller.proofs.RecordStamps.{stamped}
+use Rattle.controller.proofs.RequestsFit.{step-request-fits}
+use Rattle.controller.proofs.RecordStamps.{Stamped, stamped}
 use Rattle.timing.proofs.Flagged.{below-next}
 use Rattle.decoder.specs.Fit.{fitOf}
 use Rattle.decoder.specs.declared.Decoder.{Decoder}
@@ -78,6 +79,10 @@ module _ (plan : Plan) (m : Model) (r : Recogniser) (time : ℕ) (store : List �
   stays-fit begins t = rw (cnt-kept plan m (Slow LeaveRunMode) time store refl) t
   stays-fit (goes-on {e = e} k inside) t = rw (cnt-kept plan m e time store (k .registers)) t
 
+-- The record of a cycle has its time, and a kind and flags within their widths.
+pub stamp : (s : System) (bit : ℕ) → Stamped (s .machine .next) (effectAt (s .machine) (transitionOf s bit .event .request) (s .machine .next) .acted .cycle)
+stamp s bit = let m = s .machine in stamped (m .plan) (m .model) (m .next) (m .store) _ (step-request-fits (s .recogniser) bit (cntAt m))
+
 -- A cycle keeps a sound state sound.
 pub turn-sound : (s : System) (bit : ℕ) → bit < 2 → T (soundOf (decoderOf s)) → s .machine .next < clockLimit → T (soundOf (decoderOf (turnOf s bit .state)))
 unfolding turnOf
@@ -90,7 +95,7 @@ turn-sound s bit b t below =
       plan = parts .plan;
       next = omega arith;
       base = omega (arith, base-low (m .plan) (m .model) q (m .next) (m .store) (parts .base));
-      earlier = below-next (m .earlier) (cntAt m) (m .next) (effectAt m q (m .next) .acted .cycle) (stamped (m .plan) (m .model) (m .next) (m .store) q) (parts .earlier);
+      earlier = below-next (m .earlier) (cntAt m) (m .next) (effectAt m q (m .next) .acted .cycle) (stamp s bit) (parts .earlier);
       writes = writes-fit (m .plan) (m .model) q (m .next) (m .store) (parts .writes);
       reads = reads-fit (m .plan) (m .model) q (m .next) (m .store) (parts .reads);
       missing = missing-zero (m .plan) (m .model) q (m .next) (m .store) (parts .missing);

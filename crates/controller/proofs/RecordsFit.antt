@@ -1,4 +1,4 @@
--- The record of a request whose fields are narrow fits: its kind is a byte, its value is below 2^32. Of its time and flags `RecordStamps` tells.
+-- The record of a request whose fields are narrow has a value below 2^32. Of its time, kind and flags `RecordStamps` tells.
 -- Assumes nothing.
 use mathlib.Core.List.{List}
 use Prim.Native.Nat.{ℕ, _+_, _*_, _^_, _<_, _≤_}
@@ -22,14 +22,9 @@ use Rattle.controller.specs.Widths.{ModelFits, SlowNarrow, Narrow}
 use Rattle.controller.proofs.EffectCases.{command-cases}
 use Rattle.controller.proofs.RecordStamps.{flags-low}
 
--- The kind and the value of a cycle's record within their widths.
-pub record PartsFit (kind value : ℕ) : Type 0 where
-  pub byte-kind : kind < 256
-  pub narrow-value : value < 2 ^ 32
-
 abbrev pub CycleFits : Cycle → Type 0
 CycleFits Silent = Unit {0}
-CycleFits (Recorded r) = PartsFit (r .kind) (r .value)
+CycleFits (Recorded r) = r .value < 2 ^ 32
 
 warnings-low : (w : Warnings) → warningBits w ≤ 7
 warnings-low w = flags-low (w .wlv1) (w .wfst) (w .wslw)
@@ -46,32 +41,23 @@ module _ (plan : Plan) (m : Model) (fit : ModelFits m) (time : ℕ) (store : Lis
       let h = fit .each-register (plan .cnt) in
       choice (λ v. v < 2 ^ 32) (eqb command 6) (λ _. omega arith) (λ _. omega arith)
 
-  parts : {kind value : ℕ} → kind < 256 → value < 2 ^ 32 → PartsFit kind value
-  parts k v = record { byte-kind = k; narrow-value = v }
-
   slow-fits : (s : SlowRequest) → SlowNarrow s → CycleFits (slowOf plan m s time store .acted .cycle)
   slow-fits LeaveRunMode n = tt
   slow-fits (Command command address value) n =
       let P : Acted → Type 0 = λ a. CycleFits (a .cycle) in
       let r = read-low address in
       command-cases (λ f. P (f .acted)) plan m command address value time store
-      (λ _. choice P (existsAt plan address)
-      (λ _. parts (omega arith) (omega arith)) (λ _. parts (omega arith) (omega arith)))
-      (choice P (existsAt plan address)
-      (λ _. parts (omega arith) (omega arith)) (λ _. parts (omega arith) (omega arith)))
-      (parts (omega arith) (omega arith))
-      (parts (omega arith) (omega arith))
-      (λ _. parts (omega arith) (omega arith))
-      (λ _. parts (omega arith) (omega arith))
-      (parts (omega arith) (omega arith))
-  slow-fits (Bad command) n = parts (omega arith) (omega arith)
-  slow-fits (Frame command unsteady) n = parts (omega arith) (frame-low command)
+      (λ _. choice P (existsAt plan address) (λ _. omega arith) (λ _. omega arith))
+      (choice P (existsAt plan address) (λ _. omega arith) (λ _. omega arith))
+      (omega arith) (omega arith) (λ _. omega arith) (λ _. omega arith) (omega arith)
+  slow-fits (Bad command) n = omega arith
+  slow-fits (Frame command unsteady) n = frame-low command
 
   pub cycle-fits : (q : Request) → Narrow q → CycleFits (actOf plan m q time store .acted .cycle)
   unfolding actOf
   cycle-fits Nothing n = tt
   cycle-fits (Lv1 position) n =
-      parts (omega arith) (choice (λ v. position * 65536 + v < 2 ^ 32) (m .running) (λ _. omega arith) (λ _. omega arith))
-  cycle-fits (Fast body) n = parts (omega arith) (omega arith)
-  cycle-fits (BadFast body) n = parts (omega arith) (omega arith)
+      choice (λ v. position * 65536 + v < 2 ^ 32) (m .running) (λ _. omega arith) (λ _. omega arith)
+  cycle-fits (Fast body) n = omega arith
+  cycle-fits (BadFast body) n = omega arith
   cycle-fits (Slow s) n = slow-fits s n

@@ -99,11 +99,11 @@ read-widths image = record {
           omega arith,
           (
             tt,
-            (omega arith, (omega arith, (omega arith, (omega arith, (omega arith, (omega arith, (omega arith, (tt, tt)))))))),
+            (omega arith, (omega arith, (omega arith, (omega arith, (omega arith, (omega arith, (omega arith, (tt, (tt, (omega arith, tt)))))))))),
           ),
         ),
       ),
     ),
   );
-  arrays = (array-low (bits 16) 20 image, (array-low (bits 8) 36 image, (array-low (bits 8) 52 image, tt)));
+  arrays = (array-low (bits 16) 22 image, (array-low (bits 8) 38 image, (array-low (bits 8) 54 image, tt)));
 }

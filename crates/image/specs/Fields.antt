@@ -14,6 +14,7 @@ use Rattle.recogniser.specs.declared.Recogniser.{Recogniser}
 use Rattle.registers.specs.declared.Plan.{Plan}
 use Rattle.registers.specs.declared.Pointers.{Pointers}
 use Rattle.registers.specs.declared.Model.{Model}
+use Rattle.timing.specs.declared.Earlier.{Earlier}
 use Rattle.decoder.specs.declared.Decoder.{Decoder}
 
 -- What a word of a field may be: any, a number of so many bits, or one from 0 up to a number.
@@ -51,6 +52,8 @@ scalars =
     ∷ flag "wlv1" (λ d. d .model .warnings .wlv1)
     ∷ flag "wfst" (λ d. d .model .warnings .wfst)
     ∷ flag "wslw" (λ d. d .model .warnings .wslw)
+    ∷ number "earlier_time" whole (λ d. d .earlier .time)
+    ∷ number "earlier_kind" (bits 8) (λ d. d .earlier .kind)
     ∷ []
 
 -- Behind them the arrays.
@@ -133,10 +136,14 @@ modelFrom registers pointers of = record {
   pointers = pointers;
 }
 
+abbrev pub earlierFrom : Numbers → Earlier
+earlierFrom of = record { time = one (of "earlier_time"); kind = one (of "earlier_kind") }
+
 abbrev pub stateFrom : Numbers → Decoder
 stateFrom of = record {
   plan = planFrom of;
   next = one (of "next");
   recogniser = recogniserFrom (phaseOf (one (of "phase"))) of;
   model = modelFrom (of "registers") (record { writes = of "writes"; reads = of "reads" }) of;
+  earlier = earlierFrom of;
 }

@@ -15,7 +15,7 @@ use Rattle.image.specs.Fields.{nameOf, size, limitOf, numbersIn, Numbers
 
 -- The layout's number stands first, so that an image of another layout is not misread.
 abbrev pub layout : ℕ
-layout = 2
+layout = 3
 
 -- The words of a state, field after field, and what each may be.
 abbrev pub fieldWords : List Field → Decoder → List ℕ

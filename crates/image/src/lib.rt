@@ -3,7 +3,7 @@ ghost use mathlib.Core.Path.{_≡_};
 ghost use Prim.Native.Nat.{_+_, _≤_};
 ghost use lib.ListN.{length, set, replicate};
 ghost use lib.Seq.{sets};
-ghost use Rattle.image.specs.Fields.{bits, phaseNumber, phaseOf, planFrom, recogniserFrom, modelFrom};
+ghost use Rattle.image.specs.Fields.{bits, phaseNumber, phaseOf, planFrom, recogniserFrom, modelFrom, earlierFrom};
 ghost use Rattle.image.specs.Image.{imageLength, wordPlace, scalarsOf, imageOf, lowWords, numbersOf, stateOf, sameWords, imageFits};
 use decoder::Decoder;
 use recogniser::Phase;
@@ -13,9 +13,10 @@ use registers::Model;
 use registers::Plan;
 use registers::Pointers;
 use registers::Warnings;
+use timing::Earlier;
 
 // The number of this layout; another layout takes another.
-const LAYOUT: u64 = 2;
+const LAYOUT: u64 = 3;
 
 // Where each field stands, by the order of the fields.
 const MASK: usize = 1;
@@ -56,7 +57,11 @@ const WFST: usize = WLV1 + 1;
 
 const WSLW: usize = WFST + 1;
 
-const REGISTERS: usize = WSLW + 1;
+const EARLIER_TIME: usize = WSLW + 1;
+
+const EARLIER_KIND: usize = EARLIER_TIME + 1;
+
+const REGISTERS: usize = EARLIER_KIND + 1;
 
 const WRITES: usize = REGISTERS + 16;
 
@@ -98,6 +103,7 @@ fn scalars(d: Decoder, phase: u64) -> [u64; REGISTERS]
     let model = d.model;
     let counters = model.counters;
     let warnings = model.warnings;
+    let earlier = d.earlier;
     [
         LAYOUT,
         plan.mask as u64,
@@ -119,6 +125,8 @@ fn scalars(d: Decoder, phase: u64) -> [u64; REGISTERS]
         warnings.wlv1 as u64,
         warnings.wfst as u64,
         warnings.wslw as u64,
+        earlier.time,
+        earlier.kind as u64,
     ]
 }
 
@@ -251,6 +259,16 @@ fn model_at(image: &[u64], registers: [u16; 16], pointers: Pointers) -> Model
     }
 }
 
+fn earlier_at(image: &[u64]) -> Earlier
+    requires { ⌜ length (now image) ≡ imageLength ⌝ }
+    ensures { λ r. ⌜ r ≡ earlierFrom (numbersOf (now (image .entry))) ⌝ }
+{
+    Earlier {
+        time: image[EARLIER_TIME],
+        kind: (image[EARLIER_KIND] % 256) as u8,
+    }
+}
+
 // The state that an image reads as, each word by its low part; whether that loses anything is for `fits` to say.
 pub fn read(image: &[u64]) -> Decoder
     requires { ⌜ length (now image) ≡ imageLength ⌝ }
@@ -268,6 +286,7 @@ pub fn read(image: &[u64]) -> Decoder
         next: next,
         recogniser: recogniser_at(image, phase),
         model: model_at(image, registers, pointers),
+        earlier: earlier_at(image),
     }
 }
 

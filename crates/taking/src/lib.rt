@@ -1,8 +1,10 @@
 // The taking call. It asks nothing of its caller: it refuses by number.
 ghost use mathlib.Core.Path.{_≡_};
+ghost use mathlib.Core.Bool.{true};
 ghost use Prim.Native.Nat.{_+_, _*_, _≤_};
 ghost use lib.ListN.{length};
 ghost use Rattle.limits.specs.Limits.{clockLimit, storeLength, inputLimit};
+ghost use Rattle.timing.specs.TooClose.{earlierBelow};
 ghost use Rattle.calls.specs.Take.{call, result, takenOf, takeOf};
 use bits::Cursor;
 use calls::Ending;
@@ -22,7 +24,7 @@ fn run(
     list: &mut [u64],
     free: usize,
 ) -> Taken
-    requires { ⌜ (decoder .next + count ≤ clockLimit) × (length (now store) ≡ storeLength) ⌝ }
+    requires { ⌜ (decoder .next + count ≤ clockLimit) × (length (now store) ≡ storeLength) × (earlierBelow (decoder .earlier) (decoder .next) ≡ true) ⌝ }
     requires { ⌜ (length (now input) ≤ inputLimit) × (first + count ≤ 8 * length (now input)) × (free ≤ length (now list)) ⌝ }
     ensures { λ r. ⌜ result r (now (store .exit)) (now (tray .exit)) (now (list .exit))
         ≡ takenOf decoder (call (now (input .entry)) first count (now (store .entry)) (now (tray .entry)) (now (list .entry)) free) ⌝ }

@@ -28,7 +28,7 @@ module _ (e : Earlier) (cnt time : ℕ) where
   flagged-words-fit below Silent s f = tt
   flagged-words-fit below (Recorded r) s f =
       let low = flag-low r in
-      (omega (arith, s, f), f .narrow-value, tt)
+      (omega (arith, s), f, tt)
 
 -- An earlier record stays below a later cycle, and the present cycle's record is below the next.
 pub below-later : (e : Earlier) (n k : ℕ) → n ≤ k → earlierBelow e n ≡ true → earlierBelow e k ≡ true

@@ -28,8 +28,8 @@ stamp : (k : tie.After-cycle) → (k .cycle .given .0 .0 .time < clockLimit) × 
 stamp k =
     let a = acted (counted k) in
     let s = called a in
-    let w = with-stamp (s .args .plan) (s .args .from) (s .args .request) (s .args .time) _ _ _ (a .act .ensures) _ (k .cycle .given .1) in
-    (rw (w .0) (s .pre .0 .0), w .1)
+    let w = with-stamp (s .args .plan) (s .args .from) (s .args .request) (s .args .time) _ _ _ (a .act .ensures) _ (s .pre .0 .2) (k .cycle .given .1) in
+    (rw (w .at-time) (s .pre .0 .0), w .low-flags)
 
 act-requires : tie.Need-act-requires
 act-requires c κs = search needs

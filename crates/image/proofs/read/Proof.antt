@@ -36,13 +36,18 @@ recogniser-at-requires c κs = began (c .before) .pre
 model-at-requires : tie.Need-model-at-requires
 model-at-requires c κs = began (c .before .before) .pre
 
+earlier-at-requires : tie.Need-earlier-at-requires
+earlier-at-requires c κs = began (c .before .before .before) .pre
+
 returns : tie.Need-returns
 unfolding stateOf
 returns c =
-    let p = c .before .before in
+    let m = c .before in
+    let p = m .before .before in
     rw (
-      c .model-at .ensures,
-      c .before .recogniser-at .ensures,
+      c .earlier-at .ensures,
+      m .model-at .ensures,
+      m .before .recogniser-at .ensures,
       p .plan-at .ensures,
       p .before .u8-at2 .ensures,
       p .before .before .u8-at .ensures,
@@ -63,4 +68,5 @@ read-spec =
     plan-at-requires
     recogniser-at-requires
     model-at-requires
+    earlier-at-requires
     returns)

@@ -1,13 +1,15 @@
 -- The taking loop meets `takenOf`: each way through its body cites a lemma over what the loop keeps.
 -- Assumes nothing.
-use mathlib.Core.Path.{refl, _∙_}
+use mathlib.Core.Path.{_∙_}
 use Prim.Native.Nat.{_+_, _-_, _≤_}
 use native.Mathlib.Omega.{arith}
 use borrow.Author.Needs.{needs}
+use Rattle.limits.specs.Limits.{clockLimit}
 use Rattle.bits.proofs.Places.{Stands, stands}
 use Rattle.stretches.specs.declared.Stretch.{Stretch}
 use Rattle.stretches.proofs.SingleCycles.{Passes}
 use Rattle.stretches.proofs.Walks.{walk-stretch, walk-behind}
+use Rattle.timing.proofs.Flagged.{below-later}
 use Rattle.calls.specs.Take.{Call, call}
 use Rattle.calls.proofs.LoopInvariant.{Invariant, left, initially, stretch-walks, done, full, quiet, performed, moved, stretched-fits}
 use Rattle.taking.proofs.run.Statement.{statement}
@@ -16,7 +18,7 @@ use Rattle.taking.proofs.run.Tie as tie
 -- What the call's own invariant says, and that the cursor stands at the next bit.
 abbrev Inv-loop : tie.InvT-loop
 Inv-loop decoder input first count store₀ tray₀ list₀ free plan recogniser₀ done₀ cursor₀ taken₀ store tray list recogniser done cursor taken =
-    Invariant decoder (call input first count store₀ tray₀ list₀ free) store tray list recogniser (done .model) (done .cnt) taken (done .at)
+    Invariant decoder (call input first count store₀ tray₀ list₀ free) store tray list recogniser done taken
     × Stands cursor (first + taken)
 
 abbrev μ-loop : tie.MeasureT-loop
@@ -99,7 +101,7 @@ loop-holds : tie.Need-loop-holds Inv-loop μ-loop
 loop-holds c =
     let s = begun (c .before) in
     let b = stands {place = s .args .first} (c .at .ensures) in
-    (rw (c .before .nothing .ensures) (initially (s .args .decoder) _ _ (omega (arith, s)) refl), record { inside = b .inside; under = omega (arith, b) })
+    (rw (c .before .nothing .ensures) (initially (s .args .decoder) _ (omega (arith, s)) (s .pre .0 .2)), record { inside = b .inside; under = omega (arith, b) })
 
 sub-if1 : tie.Need-sub-if1 Inv-loop μ-loop
 sub-if1 c = search needs
@@ -173,7 +175,8 @@ perform-requires c κs =
     let l = turn a in
     let m = moves a in
     let fits = stretched-fits (l .loop .inv .0) (a .before .before .before .loop-test .taken) (a .before .if1 .left) (stretch a) (walks a) in
-    (omega (arith, l, called l), (l .loop .inv .0 .long ∙ called l .pre .0 .1), fits, a .before .if1 .left)
+    let below = below-later (l .loop .done .earlier) _ clockLimit (omega (arith, l, called l)) (l .loop .inv .0 .below) in
+    ((omega (arith, l, called l), (l .loop .inv .0 .long ∙ called l .pre .0 .1), fits, a .before .if1 .left), below)
 
 ended-requires-2 : tie.Need-ended-requires-2 Inv-loop μ-loop
 ended-requires-2 c κs =

@@ -2,17 +2,16 @@
 -- Assumes nothing.
 use mathlib.Core.Bool.{true}
 use mathlib.Core.Path.{_≡_, _∙_, sym}
-use Prim.Native.Nat.{_≤_}
 use native.Mathlib.Omega.{arith}
 use borrow.Author.Needs.{needs}
 use lib.ListN.{length}
 use borrow.Author.Tests.{not-true, not-false}
 use Rattle.decoder.specs.declared.Decoder.{Decoder}
-use Rattle.limits.specs.Limits.{clockLimit}
 use Rattle.decoder.specs.Sound.{soundOf}
+use Rattle.decoder.proofs.Soundness.{Sound}
 use Rattle.calls.specs.Take.{Call, call}
 use Rattle.calls.proofs.Refusals.{buffers, range, unsound, wrong-buffers, wrong-range, clock-over, taken}
-use Rattle.calls.proofs.Refusals.{clock-short, clock-long, next-low, May, run-may}
+use Rattle.calls.proofs.Refusals.{clock-short, clock-long, sound-is, May, run-may}
 use Rattle.taking.proofs.take.Statement.{statement}
 use Rattle.taking.proofs.take.Tie as tie
 
@@ -39,8 +38,8 @@ module _ (c : tie.Else1) where
   sound : soundOf state ≡ true
   sound = sym (c .before .sound .ensures) ∙ not-false (c .before .sound .result) (c .if1 .left)
 
-  low : state .next ≤ clockLimit
-  low = next-low state sound
+  fits : Sound state
+  fits = sound-is state sound
 
 fit : (c : tie.Else2) → buffers (asked (past1 (c .before))) ≡ true
 fit c = sym (c .before .buffers-fit .ensures) ∙ not-false (c .before .buffers-fit .result) (c .if2 .left)
@@ -109,7 +108,7 @@ returns-3 c =
     (sym (t .before .range-fits .ensures) ∙ not-true (t .before .range-fits .result) (t .if3 .taken))))
 
 sub-if4 : tie.Need-sub-if4
-sub-if4 c = omega (arith, low (past1 (past2 (c .before) .before)))
+sub-if4 c = omega (arith, fits (past1 (past2 (c .before) .before)) .next)
 
 refused-requires-4 : tie.Need-refused-requires-4
 refused-requires-4 c κs = search needs
@@ -129,7 +128,7 @@ returns-4 c =
     let b = past2 p in
     let e = past1 (b .before) in
     rw (c .refused4 .ensures)
-    (sym (clock-over (state e) (asked e) (sound e) (fit b) (inside p) (clock-short _ _ (low e) (c .before .if4 .taken))))
+    (sym (clock-over (state e) (asked e) (sound e) (fit b) (inside p) (clock-short _ _ (fits e .next) (c .before .if4 .taken))))
 
 run-requires : tie.Need-run-requires
 run-requires c κs =
@@ -139,8 +138,8 @@ run-requires c κs =
     let e = past1 (b .before) in
     let a = asked e in
     let m : May (state e .next) (length (a .store)) (length (a .input)) (a .first) (a .count) (length (a .list)) (a .free) =
-    run-may _ _ (length (a .tray)) _ _ _ _ _ (low e) (fit b) (inside p) (q .if4 .left) in
-    ((m .clock-fits, m .store-long), (m .input-short, m .in-range, m .list-long))
+    run-may _ _ (length (a .tray)) _ _ _ _ _ (fits e .next) (fit b) (inside p) (q .if4 .left) in
+    ((m .clock-fits, m .store-long, fits e .earlier), (m .input-short, m .in-range, m .list-long))
 
 same-length-10 : tie.Need-same-length-10
 same-length-10 c = search needs
@@ -159,7 +158,7 @@ returns-5 c =
     let p = q .before .before in
     let b = past2 p in
     let e = past1 (b .before) in
-    r .run .ensures ∙ sym (taken (state e) (asked e) (sound e) (fit b) (inside p) (clock-long _ _ (low e) (q .if4 .left)))
+    r .run .ensures ∙ sym (taken (state e) (asked e) (sound e) (fit b) (inside p) (clock-long _ _ (fits e .next) (q .if4 .left)))
 
 pub take-spec : {M : Type 1} → statement M
 take-spec =
