@@ -37,10 +37,12 @@ use Rattle.controller.specs.Widths.{ModelFits}
 use Rattle.controller.proofs.EffectCases.{act-keeps, write-keeps}
 use Rattle.controller.proofs.EffectKeeps.{after, model-fits}
 use Rattle.calls.specs.Run.{stateAfter}
-use Rattle.calls.specs.Turn.{System, systemOf, decoderOf, cntAt, transitionOf, turnOf}
+use Rattle.calls.specs.Turn.{System, systemOf, decoderOf, cntAt, effectAt, transitionOf, turnOf}
 use Rattle.calls.specs.Take.{Call, lent, takeOf}
 use Rattle.calls.specs.Calls.{bitsTaken}
 use Rattle.calls.proofs.CallLists.{call-kept}
+use Rattle.calls.proofs.SoundnessKept.{stamp}
+use Rattle.timing.proofs.Flagged.{byte-kind-next}
 use Rattle.image.specs.Fields as field
 use Rattle.image.specs.Image.{Widths, ArrayKeeps}
 
@@ -162,6 +164,7 @@ record Kept (s : System) : Type 0 where
   recogniser : Narrow (s .recogniser)
   model : ModelFits (s .machine .model)
   arrays : ArraysFit (s .machine .model .registers) (s .machine .model .pointers)
+  earlier : s .machine .earlier .kind < 2 ^ 8
 
 turn-kept : (s : System) (bit : ℕ) → Kept s → Kept (turnOf s bit .state)
 unfolding turnOf
@@ -172,6 +175,7 @@ turn-kept s bit k =
       recogniser = step-narrow (s .recogniser) bit (cntAt m) (k .model .each-register (m .plan .cnt)) (k .recogniser);
       model = model-fits (m .plan) (m .model) q (m .next) (m .store) (k .model);
       arrays = arrays-fit (m .plan) (m .model) q (m .next) (m .store) (k .arrays);
+      earlier = byte-kind-next (m .earlier) (cntAt m) (m .next) (effectAt m q (m .next) .acted .cycle) (stamp s bit) (k .earlier);
     }
 
 bits-kept : (bits : List ℕ) (s : System) → Kept s → Kept (stateAfter turnOf s bits)
@@ -203,6 +207,7 @@ kept-of d store tray w = record {
   recogniser = narrow-of d w;
   model = model-widths d w;
   arrays = record { long = w .arrays .0 .long; writes = w .arrays .1 .0; reads = w .arrays .1 .1 .0 };
+  earlier = w .numbers .1 .1 .1 .1 .1 .1 .1 .1 .1 .1 .1 .1 .1 .1 .0;
 }
 
 widths-of : (d : Decoder) (plan : Plan) → Widths d → (s : System) → Kept s → s .machine .plan ≡ d .plan → Widths (decoderOf s)
@@ -220,7 +225,7 @@ widths-of d plan w s k e =
               rw e (p .1 .1 .1 .0),
               (
                 tt,
-                (r .shift, (r .command, (r .address, (r .count, (r .held, (r .group, (k .model .l1id, (tt, tt)))))))),
+                (r .shift, (r .command, (r .address, (r .count, (r .held, (r .group, (k .model .l1id, (tt, (tt, (k .earlier, tt)))))))))),
               ),
             ),
           ),

@@ -42,3 +42,8 @@ pub below-next : (e : Earlier) (cnt time : ℕ) (c : Cycle) → Stamped time c �
 below-next e cnt time Silent s b = below-later e time (time + 1) (omega arith) b
 below-next e cnt time (Recorded r) s b =
     or-right (eqb (r .kind) 0) (ltb (r .time) (time + 1)) (lt-ltb (r .time) (time + 1) (omega (arith, s)))
+
+-- Its kind stays a byte.
+pub byte-kind-next : (e : Earlier) (cnt time : ℕ) (c : Cycle) → Stamped time c → e .kind < 256 → earlierAfter e (flaggedCycle e cnt c) .kind < 256
+byte-kind-next e cnt time Silent s b = b
+byte-kind-next e cnt time (Recorded r) s b = s .byte-kind
