@@ -58,6 +58,61 @@ pub fn flipped_commands_at(at: Addresses, random: &mut Random, count: usize) -> 
     stream
 }
 
+/// Whole commands by the default plan, crowded together.
+pub fn crowded_commands(random: &mut Random, count: usize) -> Stream {
+    crowded_commands_at(Addresses::DEFAULT, random, count)
+}
+
+/// The same by any plan (document 02, F-5): few zeros between commands, and
+/// many of those that ask for zeros after themselves. Frames go by a CNT that
+/// is written just ahead.
+pub fn crowded_commands_at(at: Addresses, random: &mut Random, count: usize) -> Stream {
+    let mut stream = Stream::new().en_data_take();
+    let mut cnt = 0;
+    for _ in 0..count {
+        stream = stream.zeros(few_zeros(random));
+        stream = match random.below(16) {
+            0..=5 => stream.fast([BCR, BCR, ECR, SYNC, SYNC, CAL][random.below(6) as usize]),
+            6 | 7 => stream.lv1(),
+            8 => stream.pattern(flipped_lv1(random)),
+            9 => stream.pattern(LV1_TAIL),
+            10 => stream.en_data_take(),
+            11 => {
+                cnt = random.word() as u16
+                    & [0x001F, 0x0018, 0x0003, 0x0000][random.below(4) as usize];
+                let stream = stream.wr_register(at.cnt, cnt).zeros(few_zeros(random));
+                any_frame(stream, random, cnt)
+            }
+            12 if random.one_in(4) => {
+                cnt = 0;
+                stream.reset_mcc()
+            }
+            _ => command(stream, at, random, &mut cnt),
+        };
+    }
+    stream
+}
+
+/// Often none, and no more than two more than the timing table ever asks.
+fn few_zeros(random: &mut Random) -> usize {
+    match random.below(3) {
+        0 => 0,
+        _ => random.below(7) as usize,
+    }
+}
+
+/// A frame of each kind in turn, by the present CNT.
+fn any_frame(stream: Stream, random: &mut Random, cnt: u16) -> Stream {
+    match random.below(3) {
+        0 => front_end(stream, code::WR_FRONT_END, random, cnt),
+        1 => front_end(stream, code::RD_FRONT_END, random, cnt),
+        _ => {
+            let frame = bits(random, code::receiver_bits(cnt));
+            stream.wr_receiver(&frame)
+        }
+    }
+}
+
 /// How the cycles of a front-end group differ.
 #[derive(Clone, Copy, Debug, PartialEq, Eq)]
 pub enum Noise {

@@ -79,6 +79,24 @@ fn noisy_case(number: u64) -> Case {
     Case::new(format!("noisy/{number:03}"), input)
 }
 
+/// The first `count` streams of commands crowded together (document 02, F-5),
+/// every third with one bit in a hundred inverted; each depends on its number
+/// only.
+pub fn crowded(count: u64) -> Vec<Case> {
+    (0..count).map(crowded_case).collect()
+}
+
+fn crowded_case(number: u64) -> Case {
+    let mut random = Random::new(0xF5_5EED_0000 + number);
+    let mut stream = generate::crowded_commands(&mut random, 300);
+    if number % 3 == 2 {
+        generate::flip_some(&mut stream, &mut random, 100);
+    }
+    let input = random_lines(&stream.bytes(), &mut random);
+    // The golden and fixed cases are in a folder of that name.
+    Case::new(format!("crowded-streams/{number:03}"), input)
+}
+
 /// Lines of random lengths, empty ones too; now and then no last line feed.
 fn random_lines(bytes: &[u8], random: &mut Random) -> Vec<u8> {
     let mut lines = String::new();

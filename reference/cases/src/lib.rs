@@ -14,7 +14,7 @@ pub mod random;
 pub mod stream;
 
 pub use fixed::{fixed, RECEIVED};
-pub use generated::{generated, noisy};
+pub use generated::{crowded, generated, noisy};
 pub use random::Random;
 pub use stream::Stream;
 

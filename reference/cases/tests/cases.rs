@@ -1,13 +1,13 @@
 //! The cases: names, repeatability, and what they cover.
 
 use cases::generate::{late_groups, noisy_groups, without_frames, Noise};
-use cases::{fixed, generated, noisy, Case, Random, Stream};
+use cases::{crowded, fixed, generated, noisy, Case, Random, Stream};
 use std::collections::HashSet;
 
 #[test]
 fn names_serve_as_file_names() {
     let mut names = HashSet::new();
-    for case in [fixed(), generated(40), noisy(40)].concat() {
+    for case in [fixed(), generated(40), noisy(40), crowded(40)].concat() {
         let mut parts = case.name.split('/');
         assert!(parts.all(|part| {
             let fit = |c: u8| c.is_ascii_alphanumeric() || c == b'-';
@@ -23,6 +23,8 @@ fn generated_cases_repeat() {
     let inputs = |count| generated(count).into_iter().map(|case| case.input);
     assert!(inputs(20).eq(inputs(40).take(20)));
     let inputs = |count| noisy(count).into_iter().map(|case| case.input);
+    assert!(inputs(20).eq(inputs(40).take(20)));
+    let inputs = |count| crowded(count).into_iter().map(|case| case.input);
     assert!(inputs(20).eq(inputs(40).take(20)));
 }
 
@@ -111,6 +113,8 @@ fn cases_cover_what_they_should() {
         assert!(names.contains(&format!("votes/{kind}-slow-drivers")));
         assert!(names.contains(&format!("votes/{kind}-all-groups")));
     }
+    // After each of 23 commands, with seven CNT, and four others; and one.
+    assert_eq!(count("crowded/"), 2 * (23 + 7 + 4) + 1);
     let lines = |case: &Case| case.input.iter().filter(|&&byte| byte == b'\n').count();
     let long = generated(450)
         .iter()

@@ -7,9 +7,9 @@ use compare::interface::difference::{difference, reply_bytes};
 use compare::interface::expected::{expected, Expected};
 use compare::interface::image::{image, is_inside_wr_receiver, state, uses, Image};
 use compare::interface::layout::{self, at, largest, IMAGE_WORDS, LAYOUT, RECOGNISER};
-use compare::interface::states::{random_cycle, random_state, PLANS};
+use compare::interface::states::{random_cycle, random_state, EARLIER_KINDS, PLANS};
 use compare::interface::streams::addresses;
-use compare::interface::{checker, fit, large, prefilled, votes};
+use compare::interface::{checker, crowding, fit, large, prefilled, votes};
 use compare::tally::Tally;
 use reader::limits::{input_fits, CLOCK_LIMIT, RECORD_WORDS, STORE_WORDS, TRAY_BYTES};
 use reader::listing::push_record;
@@ -64,8 +64,28 @@ fn number(text: &str) -> Option<u64> {
 /// The same numbers as the reader and this package have them.
 fn in_reader() -> BTreeMap<String, u64> {
     let places = [
-        "LAYOUT", "MASK", "CSR", "FEEN", "CNT", "NEXT", "PHASE", "SHIFT", "COMMAND", "ADDRESS",
-        "COUNT", "HELD", "GROUP", "UNSTEADY", "RUN_MODE", "L1ID", "BASE", "WLV1", "WFST", "WSLW",
+        "LAYOUT",
+        "MASK",
+        "CSR",
+        "FEEN",
+        "CNT",
+        "NEXT",
+        "PHASE",
+        "SHIFT",
+        "COMMAND",
+        "ADDRESS",
+        "COUNT",
+        "HELD",
+        "GROUP",
+        "UNSTEADY",
+        "RUN_MODE",
+        "L1ID",
+        "BASE",
+        "WLV1",
+        "WFST",
+        "WSLW",
+        "EARLIER_TIME",
+        "EARLIER_KIND",
     ];
     let places = places.into_iter().zip(0..);
     let blocks = [
@@ -145,6 +165,7 @@ fn flags() -> Vec<(&'static str, u64)> {
         ("FLAG_SENT", flag::SENT.into()),
         ("FLAG_MISSING", flag::MISSING.into()),
         ("FLAG_UNSTEADY", flag::UNSTEADY.into()),
+        ("FLAG_TOO_CLOSE", flag::TOO_CLOSE.into()),
     ]
 }
 
@@ -280,7 +301,7 @@ fn each_word_beyond_its_width_is_malformed() {
             beyond[place] = match place {
                 at::LAYOUT => LAYOUT + 1,
                 // All numbers are within 64 bits.
-                at::NEXT | at::BASE => continue,
+                at::NEXT | at::BASE | at::EARLIER_TIME => continue,
                 _ => largest(place) + 1,
             };
             assert_eq!(state(&beyond), None, "place {place}");
@@ -291,13 +312,22 @@ fn each_word_beyond_its_width_is_malformed() {
     }
 }
 
-/// Layout 1 had a group's first bit in the place of its bits.
+/// Layout 1 had a group's first bit in the place of its bits; layout 2 had 68
+/// words, without an earlier record.
 #[test]
 fn an_image_of_another_layout_is_malformed() {
     for (name, made) in fit::states_by_both_plans() {
         let mut words = image(&made);
-        assert_eq!(words[at::LAYOUT], 2);
-        for layout in [0, 1, 3, 258, 1 << 33 | 2, u64::MAX] {
+        assert_eq!((words[at::LAYOUT], words.len()), (3, 70));
+        let mut shorter = words.to_vec();
+        shorter.drain(at::EARLIER_TIME..=at::EARLIER_KIND);
+        for layout in [1, 2, 3] {
+            shorter[at::LAYOUT] = layout;
+            assert_eq!((shorter.len(), state(&shorter)), (68, None), "{name}");
+            let padded = [&shorter[..], &[0, 0]].concat();
+            assert!(layout == 3 || state(&padded).is_none(), "{name}");
+        }
+        for layout in [0, 1, 2, 4, 259, 1 << 33 | 3, u64::MAX] {
             words[at::LAYOUT] = layout;
             for group in [0, 1] {
                 words[at::GROUP] = group;
@@ -324,6 +354,79 @@ fn a_group_is_any_byte() {
         words[at::GROUP] = 256;
         assert_eq!(state(&words), None, "{name}");
     }
+}
+
+/// Any time, and any byte as its kind, is well-formed and leads back; whether
+/// it is sound is another matter (document 02, F-5).
+#[test]
+fn an_earlier_record_is_any_time_and_any_byte() {
+    assert_eq!((at::EARLIER_TIME, at::EARLIER_KIND), (20, 21));
+    assert_eq!((at::REGISTERS, at::WRITES, at::READS), (22, 38, 54));
+    for (name, made) in fit::states() {
+        let mut words = image(&made);
+        let next = words[at::NEXT];
+        for time in [0, next - 1, next, next + 1, 1 << 48, u64::MAX] {
+            for kind in 0..=255 {
+                (words[at::EARLIER_TIME], words[at::EARLIER_KIND]) = (time, kind);
+                let read = state(&words).expect("well-formed");
+                assert_eq!(image(&read), words, "{name}");
+                let is_sound = kind == 0 || time < next;
+                assert_eq!(sound(&read), is_sound, "{name}, {time} {kind:02X}");
+            }
+        }
+        words[at::EARLIER_KIND] = 256;
+        assert_eq!(state(&words), None, "{name}");
+    }
+}
+
+/// None with any time, and each kind at the cycles just past.
+#[test]
+fn random_states_have_every_earlier_record() {
+    let mut random = Random::new(85);
+    let (mut kinds, mut near, mut ahead) = (BTreeSet::new(), BTreeSet::new(), 0);
+    for number in 0..30_000 {
+        let made = random_state(&mut random, PLANS[number % PLANS.len()]);
+        let earlier = made.earlier;
+        kinds.insert(earlier.kind);
+        if earlier.kind == 0 {
+            ahead += u32::from(earlier.time >= made.next_cycle);
+            continue;
+        }
+        let back = made.next_cycle - earlier.time;
+        if back <= 20 && EARLIER_KINDS.contains(&earlier.kind) {
+            near.insert((earlier.kind, back));
+        }
+    }
+    assert_eq!(kinds.len(), 256);
+    assert_eq!(near.len(), (EARLIER_KINDS.len() - 1) * 20);
+    assert!(ahead > 1_000, "{ahead}");
+}
+
+/// A word of the earlier record is compared like any other.
+#[test]
+fn a_wrong_earlier_record_is_a_difference() {
+    let mut random = Random::new(86);
+    let mut take = fit::call(&fit::hunting(), &mut random);
+    take.count = 1;
+    let expected = expected(&Call::Take(take));
+    for (place, found) in [
+        (20, "image word 20 (earlier time) "),
+        (21, "image word 21 (earlier kind) "),
+    ] {
+        let mut reply = right_reply(&expected);
+        reply[8 + 8 * place] ^= 1;
+        let difference = difference(&expected, &reply).expect("a difference");
+        assert!(difference.starts_with(found), "{difference}");
+    }
+}
+
+#[test]
+fn the_commands_of_crowding_are_of_every_kind() {
+    let seen: BTreeSet<u8> = crowding::commands(9)
+        .into_iter()
+        .map(|command| command.kind)
+        .collect();
+    assert!(seen.into_iter().eq(kinds().map(|(_, kind)| kind)));
 }
 
 /// All that so many cycles can leave of a group, in both commands.
@@ -506,7 +609,7 @@ fn one_call_takes_the_large_capture_of_every_kind_but_frames() {
         assert_eq!(seen.contains(&kind), !is_frame, "{name}");
     }
     let flags = records.iter().fold(0, |all, record| all | record.flags);
-    let all = flag::ACTED_ON | flag::FLIP | flag::SENT | flag::MISSING;
+    let all = flag::ACTED_ON | flag::FLIP | flag::SENT | flag::MISSING | flag::TOO_CLOSE;
     assert_eq!(flags, all);
     // Every position, in and out of RunMode (document 02, F-1).
     let lv1 = records.iter().filter(|record| record.kind == kind::LV1);

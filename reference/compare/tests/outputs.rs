@@ -1,6 +1,6 @@
 //! What the separate reader's programs print for the cases.
 
-use cases::{fixed, generated, golden, noisy};
+use cases::{crowded, fixed, generated, golden, noisy};
 use compare::printed::printed;
 use reader::{model, reading, station, Program};
 use std::collections::HashSet;
@@ -9,7 +9,7 @@ use std::collections::HashSet;
 fn the_three_outputs_agree() {
     let text = |bytes: Vec<u8>| String::from_utf8(bytes).unwrap();
     let mut refused = HashSet::new();
-    for case in [fixed(), generated(40), noisy(40)].concat() {
+    for case in [fixed(), generated(40), noisy(40), crowded(40)].concat() {
         let (mut one, mut two, mut three) = (Vec::new(), Vec::new(), Vec::new());
         station(&case.input[..], &mut one).unwrap();
         reading(&case.input[..], &mut two).unwrap();
@@ -37,7 +37,7 @@ fn marked_cases() {
         (4, ""),
         (
             6,
-            "00000000001B 01 05 0000001B\n00000000001F 01 07 0001011F\n",
+            "00000000001B 01 05 0000001B\n00000000001F 01 27 0001011F\n",
         ),
         (7, "00000000001F 11 01 00000000\n"),
         (8, "00000000001F 1F 00 00000009\n"),

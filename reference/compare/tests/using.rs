@@ -49,6 +49,7 @@ fn the_example_has_every_kind_and_flag() {
     }
     let expected = "01 11 12 14 18 1F 20 21 22 23 24 25 26 28 29 2A 2F";
     assert_eq!(kinds, expected.split(' ').collect());
+    // All but 20: its commands keep the timing table.
     assert_eq!(flags, 0x1F);
 }
 

@@ -3,6 +3,7 @@
 use crate::effect;
 use crate::record::{record_of, Record};
 use crate::state::State;
+use crate::timing::Earlier;
 use crate::tray;
 
 /// Takes one bit and answers its record, if it ends a command.
@@ -21,5 +22,6 @@ pub fn cycle(state: &mut State, bit: bool, store: &mut [u32], tray: &mut [u8]) -
     let command = step.command?;
     let record = record_of(command, time, state, store);
     effect::apply(command, time, state, store);
+    state.earlier = Earlier::of(&record);
     Some(record)
 }

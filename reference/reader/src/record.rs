@@ -31,6 +31,9 @@ pub mod flag {
     pub const SENT: u8 = 0x04;
     pub const MISSING: u8 = 0x08;
     pub const UNSTEADY: u8 = 0x10;
+    /// Fewer zeros than the timing table asks lie between this command and
+    /// the recorded one before it (document 02, F-5).
+    pub const TOO_CLOSE: u8 = 0x20;
 }
 
 /// CSR bit 6, event playback: no LV1 goes to the front ends.
@@ -90,8 +93,16 @@ pub fn record_of(command: Command, time: u64, state: &State, store: &[u32]) -> R
     Record {
         time,
         kind,
-        flags,
+        flags: flags | too_close(kind, time, state),
         value,
+    }
+}
+
+fn too_close(kind: u8, time: u64, state: &State) -> u8 {
+    if state.earlier.is_too_close(kind, time, state.cnt()) {
+        flag::TOO_CLOSE
+    } else {
+        0
     }
 }
 

@@ -1,5 +1,5 @@
 //! When a state is sound (the last paragraph of "A taking call"; of groups,
-//! document 02, F-4).
+//! document 02, F-4; of the earlier record, F-5).
 
 use crate::limits::{CLOCK_LIMIT, FIFO_WORDS};
 use crate::recogniser::{Recogniser, FIELD_BITS};
@@ -10,11 +10,17 @@ pub fn sound(state: &State) -> bool {
     state.plan.opens()
         && state.next_cycle <= CLOCK_LIMIT
         && state.base_cycle <= state.next_cycle
+        && earlier_is_past(state)
         && pointers_fit(state)
         && missing_registers_hold_zero(state)
         && state.l1id < 256
         && !(state.run_mode && inside_slow(&state.recogniser))
         && recogniser_sound(&state.recogniser, state.cnt())
+}
+
+/// Nothing is asked of the time where there is no earlier record.
+fn earlier_is_past(state: &State) -> bool {
+    !state.earlier.is_some() || state.earlier.time < state.next_cycle
 }
 
 fn pointers_fit(state: &State) -> bool {

@@ -3,6 +3,7 @@
 use crate::limits::{CLOCK_LIMIT, FIFOS};
 use crate::plan::Plan;
 use crate::recogniser::Recogniser;
+use crate::timing::Earlier;
 
 /// All that is carried from one taking call to the next, but for the store
 /// and the tray, which the caller keeps.
@@ -21,6 +22,8 @@ pub struct State {
     /// told that it is not.
     pub l1id: u32,
     pub warnings: Warnings,
+    /// The last record, also over GlobalResetMCC (document 02, F-5).
+    pub earlier: Earlier,
     pub plan: Plan,
 }
 
@@ -57,6 +60,7 @@ impl State {
             read_pointers: [0; FIFOS],
             l1id: 0,
             warnings: Warnings::default(),
+            earlier: Earlier::NONE,
             plan,
         }
     }

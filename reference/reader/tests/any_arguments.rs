@@ -7,7 +7,7 @@ use cases::Random;
 use common::PLAN_007F;
 use reader::group::Group;
 use reader::{frame_part, open, sound, take};
-use reader::{Answer, Ending, Plan, Recogniser, State, Warnings};
+use reader::{Answer, Earlier, Ending, Plan, Recogniser, State, Warnings};
 
 const EDGES: [u64; 16] = [
     0,
@@ -136,7 +136,22 @@ fn any_state(random: &mut Random) -> State {
         wfst: random.bit(),
         wslw: random.bit(),
     };
+    state.earlier = any_earlier(random, state.next_cycle);
     state
+}
+
+/// Any kind, or none. The time is mostly past, often just so, or anything.
+fn any_earlier(random: &mut Random, next: u64) -> Earlier {
+    let kinds = [0x00, 0x01, 0x11, 0x12, 0x18, random.word() as u8];
+    let time = match random.below(10) {
+        0 => edge(random),
+        1..=5 => next.saturating_sub(1 + random.below(12)),
+        _ => next.saturating_sub(1).min(edge(random)),
+    };
+    Earlier {
+        time,
+        kind: kinds[random.below(6) as usize],
+    }
 }
 
 /// An input's length and a range.
@@ -203,6 +218,7 @@ fn check_answer(state: &State, part: &Part, list: &[u64], first_free: u64, answe
 fn any_call() {
     let mut random = Random::new(5);
     let (mut accepted, mut long, mut grouped, mut refused) = (0, 0, 0, [0; 7]);
+    let mut close = 0;
     let room: Vec<u8> = (0..LONGEST + 2).map(|_| random.word() as u8).collect();
     let mut store: Vec<u32> = (0..2_049).map(|_| random.word() as u32).collect();
     let mut tray: Vec<u8> = (0..8_193).map(|_| random.word() as u8).collect();
@@ -233,10 +249,15 @@ fn any_call() {
             accepted += 1;
             long += u32::from(part.bytes > 65_536);
             grouped += u32::from(holds_group(&state));
+            let first = list.get(first_free as usize);
+            let first = first.filter(|_| answer.records_written > 0);
+            close += u32::from(first.is_some_and(|word| word & 0x20 != 0));
         }
     }
     assert!(accepted > 10_000 && long > 1_000, "{accepted} {long}");
     assert!(grouped > 300, "{grouped}");
+    // First records too close to the state's earlier one (document 02, F-5).
+    assert!(close > 300, "{close}");
     assert!(refused[3..].iter().all(|&count| count > 100), "{refused:?}");
 }
 

@@ -7,7 +7,7 @@ use cases::code::{FLIPPED_LV1, LV1_TAIL};
 use cases::generate::{self, Noise};
 use cases::Random;
 use cases::Stream;
-use common::{Reader, PLANS};
+use common::{earlier, Reader, PLANS};
 use reader::{Plan, Record, State};
 
 const KINDS: u64 = 4;
@@ -34,6 +34,11 @@ fn random_start(random: &mut Random, plan: Plan) -> Reader {
     state.next_cycle = random.below(1 << 40);
     state.base_cycle = random.below(state.next_cycle + 1);
     state.l1id = random.below(256) as u32;
+    if state.next_cycle > 0 && random.bit() {
+        // Often just ahead, so that the first record is too close to it.
+        let kind = [0x01, 0x11, 0x12, 0x18, 0x2F][random.below(5) as usize];
+        state.earlier = earlier(state.next_cycle - 1, kind);
+    }
     state.registers[2] = random.word() as u16;
     state.registers[5] = random.below(64) as u16;
     for word in &mut reader.store {
@@ -118,6 +123,31 @@ fn noisy_groups_cut_at_random_places() {
         }
     }
     assert!(frames > 1_000, "{frames}");
+}
+
+/// Document 02, F-5: the record before may have come in another call.
+#[test]
+fn crowded_commands_cut_at_random_places() {
+    let mut random = Random::new(8);
+    let mut close = 0;
+    for round in 0..400 {
+        let mut stream = generate::crowded_commands(&mut random, 40);
+        if round % 4 == 3 {
+            generate::flip_some(&mut stream, &mut random, 60);
+        }
+        let start = random_start(&mut random, plan(round));
+        let mut whole = start.clone();
+        let bytes = stream.bytes();
+        let records = whole.read_part(&bytes, 0, stream.bits.len() as u64, 5_000);
+        close += records.iter().filter(|r| r.flags & 0x20 != 0).count();
+        for (longest, rooms) in [(1, 1), (3, 2), (11, 2), (40, 3), (700, 1)] {
+            let mut reader = start.clone();
+            let cut = read_cut(&mut reader, &stream, &mut random, longest, rooms);
+            assert_eq!(cut, records, "round {round}, parts up to {longest}");
+            assert_eq!(reader, whole, "round {round}, parts up to {longest}");
+        }
+    }
+    assert!(close > 1_000, "{close}");
 }
 
 /// The same bits lent as one byte a call, at shifting first bits.

@@ -8,12 +8,16 @@
 //! a Fast with s = p + 1 or s = p + 2, it is that one ("zero ahead"). For
 //! p + 2 = s the zero between them is held by no command either, as no
 //! command is that short. Otherwise none is affected.
+//!
+//! Flag 20 (document 02, F-5) goes by the record before, in the same run. Of
+//! the clean records only the first can have it, by the state's earlier
+//! record, and it may differ in the affected record alone.
 
 mod common;
 
 use cases::Random;
-use common::{rec, Reader};
-use reader::{take, Record, State};
+use common::{earlier, flagged, rec, zeros_asked, Reader};
+use reader::{take, Earlier, Record, State};
 use std::ops::RangeInclusive;
 
 #[derive(Clone, Copy, Debug, PartialEq, Eq)]
@@ -92,7 +96,7 @@ impl Replacement {
                 let (command, first) = clean.commands[place];
                 let (pattern, bits) = command.pattern();
                 let body = pattern ^ 1 << (bits - 1 - (inverted - first));
-                Some(rec(at(bit), 0x1F, 0, body as u32 & 15))
+                Some(ahead.flagged(rec(at(bit), 0x1F, 0, body as u32 & 15)))
             }
         }
     }
@@ -139,10 +143,23 @@ fn the_table_has_one_row_for_every_bit() {
     }
 }
 
+/// The table by commands is the one by kinds that flag 20 goes by.
+#[test]
+fn both_timing_tables_are_one() {
+    for first in ALL {
+        for second in ALL {
+            let zeros = zeros_between(first, second) as i64;
+            assert_eq!(zeros, zeros_asked(first.kind(), second.kind()));
+        }
+    }
+}
+
 /// A clean stream: its commands, each with its first place, its length in
 /// bits, and the bits.
 struct Clean {
     commands: Vec<(Command, usize)>,
+    /// Whether it is clean indeed: the timing table's zeros are there.
+    keeps_table: bool,
     length: usize,
     bytes: Vec<u8>,
 }
@@ -167,8 +184,10 @@ impl Clean {
                 }
             }
         }
+        let mut pairs = commands.windows(2).zip(&zeros[1..]);
         Clean {
             commands: placed,
+            keeps_table: pairs.all(|(pair, &gap)| gap >= zeros_between(pair[0], pair[1])),
             length,
             bytes,
         }
@@ -195,12 +214,13 @@ fn invert(bytes: &mut [u8], place: usize) {
     bytes[place / 8] ^= 0x80 >> (place % 8);
 }
 
-/// The two counters, as this test keeps them.
+/// The two counters and the earlier record, as this test keeps them.
 #[derive(Clone, Copy)]
 struct Counters {
     l1id: u32,
     base: u64,
     run_mode: bool,
+    earlier: Earlier,
 }
 
 impl Counters {
@@ -209,21 +229,28 @@ impl Counters {
         let flip = if position != 0 { 0x02 } else { 0 };
         let hit = position * 65_536;
         if !self.run_mode {
-            return rec(time, 0x01, flip, hit);
+            return self.flagged(rec(time, 0x01, flip, hit));
         }
         let bunch = ((time - self.base) % 256) as u32;
-        rec(time, 0x01, 0x05 | flip, hit + self.l1id * 256 + bunch)
+        let value = hit + self.l1id * 256 + bunch;
+        self.flagged(rec(time, 0x01, 0x05 | flip, value))
     }
 
     fn record(&self, command: Command, time: u64) -> Record {
         match command {
             Lv1 => self.lv1(time, 0),
-            fast => rec(time, fast.kind(), u8::from(self.run_mode), 0),
+            fast => self.flagged(rec(time, fast.kind(), u8::from(self.run_mode), 0)),
         }
+    }
+
+    /// With flag 20, if it is too close to the record before.
+    fn flagged(&self, record: Record) -> Record {
+        flagged(self.earlier, record)
     }
 
     /// What a record does to the counters.
     fn count(&mut self, record: &Record) {
+        self.earlier = earlier(record.time, record.kind);
         match record.kind {
             0x01 if self.run_mode => self.l1id = (self.l1id + 1) % 256,
             0x11 if self.run_mode => self.base = record.time,
@@ -237,19 +264,36 @@ struct Testbench {
     start: State,
     reader: Reader,
     inversions: u64,
+    /// Clean runs and affected records with flag 20.
+    flagged_runs: u64,
+    flagged_hits: u64,
+    /// The flags that are looked at.
+    flags: u8,
 }
+
+/// The first cycle of the streams.
+const START: u64 = 5_000;
 
 impl Testbench {
     /// Counters that are about to wrap, to see them do so.
     fn new(run_mode: bool) -> Testbench {
+        Testbench::after(Earlier::NONE, run_mode)
+    }
+
+    /// From a state that remembers this record.
+    fn after(earlier: Earlier, run_mode: bool) -> Testbench {
         let mut reader = Reader::with_run_mode(run_mode);
-        reader.state.next_cycle = 5_000;
+        reader.state.next_cycle = START;
         reader.state.base_cycle = 4_750;
         reader.state.l1id = 254;
+        reader.state.earlier = earlier;
         Testbench {
             start: reader.state.clone(),
             reader,
             inversions: 0,
+            flagged_runs: 0,
+            flagged_hits: 0,
+            flags: 0xFF,
         }
     }
 
@@ -258,7 +302,17 @@ impl Testbench {
             l1id: self.start.l1id,
             base: self.start.base_cycle,
             run_mode: self.start.run_mode,
+            earlier: self.start.earlier,
         }
+    }
+
+    /// The records of a list, with the flags that are looked at.
+    fn seen<'a>(&self, words: &'a [u64]) -> impl Iterator<Item = Record> + 'a {
+        let flags = self.flags;
+        words.chunks(2).map(move |words| {
+            let record = Record::from_words([words[0], words[1]]);
+            self::seen(record, flags)
+        })
     }
 
     fn read(&mut self, bytes: &[u8], length: usize, list: &mut [u64]) -> usize {
@@ -294,9 +348,14 @@ impl Testbench {
             expected.push(record);
         }
         let written = self.read(&clean.bytes, clean.length, &mut list);
-        let records = list[..2 * written].chunks(2).map(record);
-        if !records.eq(expected.iter().copied()) {
+        let records = self.seen(&list[..2 * written]);
+        if !records.eq(expected.iter().map(|&record| seen(record, self.flags))) {
             return Err(format!("clean {:?}", clean.commands));
+        }
+        let mut close = expected.iter().map(|record| record.flags & 0x20 != 0);
+        self.flagged_runs += u64::from(close.next() == Some(true));
+        if clean.keeps_table && close.any(|close| close) {
+            return Err(format!("clean {:?}, a later one too close", clean.commands));
         }
 
         let mut bytes = clean.bytes.clone();
@@ -305,29 +364,57 @@ impl Testbench {
             invert(&mut bytes, inverted);
             let written = self.read(&bytes, clean.length, &mut list);
             invert(&mut bytes, inverted);
-            let damaged = list[..2 * written].chunks(2).map(record);
-            if !is_as_the_table_says(clean, inverted, damaged, &expected, &ahead, start) {
+            let damaged = self.seen(&list[..2 * written]);
+            let run = Run {
+                clean,
+                expected: &expected,
+                ahead: &ahead,
+                start,
+                flags: self.flags,
+            };
+            let mut hit = None;
+            if !is_as_the_table_says(&run, inverted, damaged, &mut hit) {
                 return Err(format!("{:?}, {inverted} inverted", clean.commands));
             }
+            self.flagged_hits += u64::from(hit.is_some_and(|hit| hit.flags & 0x20 != 0));
         }
         Ok(())
     }
 }
 
-fn record(words: &[u64]) -> Record {
-    Record::from_words([words[0], words[1]])
+/// A record with only the flags that are looked at.
+fn seen(record: Record, flags: u8) -> Record {
+    Record {
+        flags: record.flags & flags,
+        ..record
+    }
+}
+
+/// A clean run: its stream and records, and the counters ahead of each.
+struct Run<'a> {
+    clean: &'a Clean,
+    expected: &'a [Record],
+    ahead: &'a [Counters],
+    start: u64,
+    flags: u8,
 }
 
 /// Whether the damaged records are the clean ones with the affected one
-/// replaced or left out, but for the counters where they may differ.
+/// replaced or left out, but for the counters where they may differ. `hit` is
+/// told what is recorded instead of the affected one.
 fn is_as_the_table_says(
-    clean: &Clean,
+    run: &Run,
     inverted: usize,
     mut damaged: impl Iterator<Item = Record>,
-    expected: &[Record],
-    ahead: &[Counters],
-    start: u64,
+    hit: &mut Option<Record>,
 ) -> bool {
+    let Run {
+        clean,
+        expected,
+        ahead,
+        start,
+        flags,
+    } = *run;
     let affected = clean.affected(inverted);
     let (mut l1id_free, mut bunch_free) = (false, false);
     // A stronger claim besides: the numbers are those that the damaged run's
@@ -337,12 +424,17 @@ fn is_as_the_table_says(
         if let Some((_, replacement)) = affected.filter(|&(hit, _)| hit == place) {
             (l1id_free, bunch_free) = (true, true);
             let at = |bit: usize| start + (first + bit - 1) as u64;
-            let Some(instead) = replacement.record(clean, place, inverted, at, &ahead[place])
-            else {
+            // The clean counters, but the record before it in its own run.
+            let own = Counters {
+                earlier: counters.earlier,
+                ..ahead[place]
+            };
+            let Some(instead) = replacement.record(clean, place, inverted, at, &own) else {
                 continue;
             };
             counters.count(&instead);
-            if damaged.next() != Some(instead) {
+            *hit = Some(instead);
+            if damaged.next() != Some(seen(instead, flags)) {
                 return false;
             }
             continue;
@@ -352,8 +444,8 @@ fn is_as_the_table_says(
         let Some(other) = damaged.next() else {
             return false;
         };
-        let same = agree(&other, record, l1id_free, bunch_free);
-        if !same || other != counters.record(command, other.time) {
+        let same = agree(&other, &seen(*record, flags), l1id_free, bunch_free);
+        if !same || other != seen(counters.record(command, other.time), flags) {
             return false;
         }
         counters.count(&other);
@@ -363,7 +455,8 @@ fn is_as_the_table_says(
 
 /// Whether the records of an unaffected command agree, but for the counters
 /// that may differ. An LV1's position is none of them: value / 65,536 always
-/// agrees (document 02, F-1).
+/// agrees (document 02, F-1). Nor is flag 20, also in the record after the
+/// affected one (F-5).
 fn agree(damaged: &Record, clean: &Record, l1id_free: bool, bunch_free: bool) -> bool {
     let may_differ = if clean.kind == 0x01 {
         (u32::from(l1id_free) * 0xFF00) | (u32::from(bunch_free) * 0x00FF)
@@ -448,11 +541,22 @@ fn long_streams() {
     }
 }
 
-/// The zeros after BCR and ECR are needed, one by one; those after SYNC
-/// ahead of an LV1 are not, as far as damage goes.
+/// What is recorded needs the zeros after BCR and ECR, one by one, and not
+/// those after SYNC ahead of an LV1. Flag 20 shows these too: one that came
+/// too close to a SYNC does not once the SYNC is damaged.
 #[test]
 fn which_zeros_are_needed() {
+    let fasts = [(Bcr, 0), (Bcr, 1), (Ecr, 0)];
+    assert_eq!(broken_gaps(!0x20), fasts);
+    let with_sync = [(Sync, 0), (Sync, 1), (Sync, 2), (Sync, 3)];
+    assert_eq!(broken_gaps(0xFF), [&fasts[..], &with_sync].concat());
+}
+
+/// Too few zeros after a command with which the damage table is false, as far
+/// as these flags go.
+fn broken_gaps(flags: u8) -> Vec<(Command, usize)> {
     let mut bench = Testbench::new(true);
+    bench.flags = flags;
     let mut broken = Vec::new();
     for first in ALL {
         for second in ALL {
@@ -473,7 +577,57 @@ fn which_zeros_are_needed() {
     broken.dedup();
     broken.sort_by_key(|&(first, gap)| (first as u8, gap));
     broken.dedup();
-    assert_eq!(broken, [(Bcr, 0), (Bcr, 1), (Ecr, 0)]);
+    broken
+}
+
+/// Kinds of the earlier record: none, each that asks for zeros, others, and
+/// two that no record has.
+const EARLIER: [u8; 13] = [
+    0x00, 0x01, 0x11, 0x12, 0x14, 0x18, 0x1F, 0x20, 0x24, 0x28, 0x2F, 0x77, 0xFF,
+];
+
+/// From states with an earlier record, which ends so many cycles ahead of the
+/// next one: one to three commands.
+#[test]
+fn after_an_earlier_record() {
+    let (mut inversions, mut runs, mut hits) = (0, 0, 0);
+    for kind in EARLIER {
+        for back in [1, 2, 3, 4, 5, 6, 4_000] {
+            for run_mode in [true, false] {
+                let mut bench = Testbench::after(earlier(START - back, kind), run_mode);
+                every_series(&mut bench, 1, 0..=0, 0..=6, &[0, 1, 2, 6]);
+                every_series(&mut bench, 2, 0..=4, 0..=4, &[0, 2]);
+                every_series(&mut bench, 3, 0..=1, 0..=2, &[1]);
+                let asks = |kinds: &[u8]| kinds.contains(&kind);
+                // A whole command is too close only where zeros are asked.
+                let flagged = back <= 4 && asks(&[0x18]) || back <= 2 && asks(&[0x11]);
+                let flagged = flagged || back <= 1 && asks(&[0x12]);
+                assert_eq!(bench.flagged_runs > 0, flagged, "{kind:02X} {back}");
+                inversions += bench.inversions;
+                runs += bench.flagged_runs;
+                hits += bench.flagged_hits;
+            }
+        }
+    }
+    // Clean runs and affected records with flag 20 are many.
+    assert_eq!((inversions, runs, hits), (13_241_046, 7_808, 579_988));
+}
+
+/// A state whose earlier record lies ahead of cycle 0's bits: nothing is
+/// subtracted from a cycle that is small.
+#[test]
+fn after_an_earlier_record_in_the_first_cycles() {
+    for kind in EARLIER {
+        for next in 1..=4 {
+            for time in 0..next {
+                let mut bench = Testbench::after(earlier(time, kind), true);
+                bench.start.next_cycle = next;
+                bench.start.base_cycle = 0;
+                every_series(&mut bench, 1, 0..=0, 0..=4, &[0, 3]);
+                every_series(&mut bench, 2, 0..=1, 0..=2, &[0]);
+            }
+        }
+    }
 }
 
 /// No damaged stream begins a Slow: RunMode stays and no Slow is recorded.

@@ -14,6 +14,8 @@ enum Expected {
     /// The position of the bit that was hit (document 02, F-1), then the
     /// cycle.
     Flip(u32, u64),
+    /// The same, too close to the record before (document 02, F-5).
+    CloseFlip(u32, u64),
     Bcr(u64),
     BadFast(u32, u64),
     BadSlow(u32, u64),
@@ -29,7 +31,7 @@ const MARKED: [(&str, &[Expected]); 14] = [
     ("000111101", &[Exact(8)]),
     ("11110", &[]),
     ("1110111101", &[Exact(4), Exact(9)]),
-    ("111011101", &[Exact(4), Flip(1, 8)]),
+    ("111011101", &[Exact(4), CloseFlip(1, 8)]),
     ("101100001", &[Bcr(8)]),
     ("101101001", &[BadFast(9, 8)]),
     ("101110100", &[Exact(6)]),
@@ -51,6 +53,7 @@ fn records_of(row: &[Expected]) -> Vec<Record> {
         .map(|&expected| match expected {
             Exact(time) => lv1(time, 0x05, 0),
             Flip(position, time) => lv1(time, 0x07, position),
+            CloseFlip(position, time) => lv1(time, 0x27, position),
             Bcr(time) => rec(time, 0x11, 0x01, 0),
             BadFast(body, time) => rec(time, 0x1F, 0, body),
             BadSlow(field3, time) => rec(time, 0x2F, 0, field3),
@@ -84,6 +87,33 @@ fn marked_streams_with_a_position() {
             records.iter().map(|record| &record.value).eq(values),
             "{bits}"
         );
+    }
+}
+
+/// The flags of every record, digit by digit. Only 1101 straight after a
+/// command has flag 20 (document 02, F-5).
+#[test]
+fn flags_of_the_marked_streams() {
+    let flags: [&[u8]; 14] = [
+        &[0x05],
+        &[0x07],
+        &[0x05],
+        &[],
+        &[0x05, 0x05],
+        &[0x05, 0x27],
+        &[0x01],
+        &[0x00],
+        &[0x05],
+        &[0x05],
+        &[0x07],
+        &[0x07, 0x07],
+        &[0x00],
+        &[0x01],
+    ];
+    for ((bits, _), flags) in MARKED.into_iter().zip(flags) {
+        let records = Reader::running().read(&stream(bits));
+        let told = records.iter().map(|record| record.flags);
+        assert!(told.eq(flags.iter().copied()), "{bits}");
     }
 }
 

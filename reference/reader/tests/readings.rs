@@ -3,7 +3,7 @@
 mod common;
 
 use cases::Stream;
-use common::{rec, stream, Reader, PLANS};
+use common::{earlier, rec, stream, Reader, PLANS};
 use reader::limits::CLOCK_LIMIT;
 use reader::{frame_part, open, take, Ending, Plan, Recogniser, Record, Warnings};
 
@@ -184,6 +184,7 @@ fn ecr_clears_l1id_and_pointers_only_in_run_mode() {
         assert_eq!(records, [rec(8, 0x12, u8::from(run_mode), 0)]);
         let mut after = before;
         after.state.next_cycle = 9;
+        after.state.earlier = earlier(8, 0x12);
         if run_mode {
             after.state.l1id = 0;
             after.state.write_pointers = [0; 16];
@@ -212,6 +213,8 @@ fn global_reset_mcc() {
         let mut fresh = Reader::opened_by(plan);
         fresh.state.next_cycle = 117;
         fresh.state.base_cycle = 116;
+        // Its own record; nothing clears it (document 02, F-5).
+        fresh.state.earlier = earlier(116, 0x29);
         fresh.store.fill(3);
         assert_eq!(reader, fresh);
     }
@@ -320,6 +323,7 @@ fn cal_and_sync_change_nothing() {
             reader.state.l1id = 5;
             let mut after = reader.clone();
             after.state.next_cycle = 9;
+            after.state.earlier = earlier(8, 0x10 + body);
             let records = reader.read(&Stream::new().fast(body));
             assert_eq!(records, [rec(8, 0x10 + body, u8::from(run_mode), 0)]);
             assert_eq!(reader, after);
@@ -446,6 +450,7 @@ fn global_reset_fe_changes_nothing() {
         reader.state.registers[6] = 6;
         let mut after = reader.clone();
         after.state.next_cycle = 21;
+        after.state.earlier = earlier(20, 0x2A);
         let records = reader.read(&Stream::new().reset_fe(width));
         assert_eq!(records, [rec(20, 0x2A, 0x01, u32::from(width) * 2 + 1)]);
         assert_eq!(reader, after);

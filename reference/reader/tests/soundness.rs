@@ -2,7 +2,7 @@
 
 mod common;
 
-use common::{Reader, PLANS, PLAN_007F};
+use common::{earlier, Reader, PLANS, PLAN_007F};
 use reader::group::Group;
 use reader::limits::CLOCK_LIMIT;
 use reader::{sound, Plan, Recogniser, State};
@@ -75,6 +75,37 @@ fn cycles() {
     ] {
         let answer = changed(|state| (state.next_cycle, state.base_cycle) = (next, base));
         assert_eq!(answer, is_sound, "{next} {base}");
+    }
+}
+
+/// Document 02, F-5: "that time below its next cycle". Any kind will do, and
+/// with kind 0 there is no record, so that nothing is asked of the time.
+#[test]
+fn the_earlier_record_is_past() {
+    for next in [0, 1, 9, 1_000, CLOCK_LIMIT - 1, CLOCK_LIMIT] {
+        let past = [0, 1, next.saturating_sub(2), next.saturating_sub(1)];
+        let ahead = [next, next + 1, CLOCK_LIMIT, 1 << 63, u64::MAX];
+        for time in past.into_iter().chain(ahead) {
+            for kind in 0..=255 {
+                let answer = changed(|state| {
+                    (state.next_cycle, state.base_cycle) = (next, 0);
+                    state.earlier = earlier(time, kind);
+                });
+                let is_sound = kind == 0 || time < next;
+                assert_eq!(answer, is_sound, "{next} {time} {kind:02X}");
+            }
+        }
+    }
+}
+
+/// An earlier record excuses nothing else.
+#[test]
+fn a_past_record_does_not_excuse_a_clock() {
+    for kind in [0x00, 0x01, 0x11, 0xFF] {
+        assert!(!changed(|state| {
+            state.next_cycle = CLOCK_LIMIT + 1;
+            state.earlier = earlier(5, kind);
+        }));
     }
 }
 

@@ -1,6 +1,7 @@
-//! A short run at the bench, with every kind of record and every flag: the
-//! example for the person who uses the reader. The same with a last line that
-//! has no line feed, with a refused line, and a longer one.
+//! A short run at the bench, with every kind of record and every flag but 20,
+//! as it keeps the timing table: the example for the person who uses the
+//! reader. The same with a last line that has no line feed, with a refused
+//! line, and a longer one.
 
 use crate::{code, Case, Stream};
 

@@ -3,6 +3,7 @@
 mod capture;
 mod commands;
 mod controller;
+mod crowded;
 mod flips;
 mod frames;
 mod lines;
@@ -23,6 +24,7 @@ pub fn fixed() -> Vec<Case> {
     cases.extend(controller::cases());
     cases.extend(capture::cases());
     cases.extend(votes::cases());
+    cases.extend(crowded::cases());
     cases
 }
 

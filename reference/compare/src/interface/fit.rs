@@ -7,7 +7,8 @@ use super::prefilled;
 use super::states::{PLAN_007F, WITH_FIELD5};
 use cases::Random;
 use reader::group::Group;
-use reader::{slow, Plan, Recogniser, State};
+use reader::record::kind;
+use reader::{recogniser, slow, Earlier, Plan, Recogniser, State};
 
 /// What CSR, FEEN and CNT hold: the same, so that a plan can name another of
 /// them as CNT without changing a length.
@@ -67,6 +68,11 @@ fn in_field5(field3: u8) -> Recogniser {
 fn state(plan: Plan, recogniser: Recogniser) -> State {
     let mut state = State::start(plan, 1_000);
     state.base_cycle = 900;
+    // Just ahead, so that what ends soon is too close (document 02, F-5).
+    state.earlier = Earlier {
+        time: 998,
+        kind: kind::FAST + recogniser::BCR,
+    };
     state.run_mode = matches!(
         recogniser,
         Recogniser::Hunting { .. } | Recogniser::Body { .. }

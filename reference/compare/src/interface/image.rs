@@ -2,7 +2,7 @@
 
 use super::layout::{at, largest, phase, IMAGE_WORDS, LAYOUT, RECOGNISER};
 use reader::group::Group;
-use reader::{slow, Plan, Recogniser, State, Warnings};
+use reader::{slow, Earlier, Plan, Recogniser, State, Warnings};
 
 pub type Image = [u64; IMAGE_WORDS];
 
@@ -23,6 +23,8 @@ pub fn image(state: &State) -> Image {
     words[at::WLV1] = u64::from(state.warnings.wlv1);
     words[at::WFST] = u64::from(state.warnings.wfst);
     words[at::WSLW] = u64::from(state.warnings.wslw);
+    words[at::EARLIER_TIME] = state.earlier.time;
+    words[at::EARLIER_KIND] = u64::from(state.earlier.kind);
     for (number, &register) in state.registers.iter().enumerate() {
         words[at::REGISTERS + number] = u64::from(register);
     }
@@ -108,6 +110,10 @@ pub fn state(words: &[u64]) -> Option<State> {
             wlv1: words[at::WLV1] == 1,
             wfst: words[at::WFST] == 1,
             wslw: words[at::WSLW] == 1,
+        },
+        earlier: Earlier {
+            time: words[at::EARLIER_TIME],
+            kind: words[at::EARLIER_KIND] as u8,
         },
         plan: Plan {
             mask: words[at::MASK] as u16,

@@ -2,13 +2,14 @@
 
 use reader::limits::{FIFOS, STORE_WORDS, TRAY_BYTES};
 
-pub const IMAGE_WORDS: usize = 68;
+pub const IMAGE_WORDS: usize = 70;
 pub const RESULT_WORDS: usize = 3;
 pub const RECORD_LINE_BYTES: usize = 28;
 pub const LINE_BYTES: usize = 32;
 pub const INPUT_BYTES: usize = 1_048_576;
-/// Layout 1 had a group's first bit in the place of its bits.
-pub const LAYOUT: u64 = 2;
+/// Layout 1 had a group's first bit in the place of its bits; layout 2 had no
+/// earlier record.
+pub const LAYOUT: u64 = 3;
 
 // The header's lengths are the papers'.
 const _: () = assert!(STORE_WORDS == 2048 && TRAY_BYTES == 8192);
@@ -51,9 +52,11 @@ pub mod at {
     pub const WLV1: usize = 17;
     pub const WFST: usize = 18;
     pub const WSLW: usize = 19;
-    pub const REGISTERS: usize = 20;
-    pub const WRITES: usize = 36;
-    pub const READS: usize = 52;
+    pub const EARLIER_TIME: usize = 20;
+    pub const EARLIER_KIND: usize = 21;
+    pub const REGISTERS: usize = 22;
+    pub const WRITES: usize = 38;
+    pub const READS: usize = 54;
 }
 
 /// Values of the word at `at::PHASE`.
@@ -82,6 +85,7 @@ pub fn largest(place: usize) -> u64 {
         at::UNSTEADY | at::RUN_MODE => bits(1),
         at::L1ID => bits(8),
         at::WLV1..=at::WSLW => bits(1),
+        at::EARLIER_KIND => bits(8),
         at::REGISTERS..at::WRITES => bits(16),
         at::WRITES.. => bits(8),
         _ => u64::MAX,
@@ -95,8 +99,28 @@ fn bits(width: u32) -> u64 {
 /// The name of an image's word, for whoever reads a difference.
 pub fn name(place: usize) -> String {
     const NAMES: [&str; at::REGISTERS] = [
-        "layout", "mask", "CSR", "FEEN", "CNT", "next", "phase", "shift", "command", "address",
-        "count", "held", "group", "unsteady", "RunMode", "L1ID", "base", "WLV1", "WFST", "WSLW",
+        "layout",
+        "mask",
+        "CSR",
+        "FEEN",
+        "CNT",
+        "next",
+        "phase",
+        "shift",
+        "command",
+        "address",
+        "count",
+        "held",
+        "group",
+        "unsteady",
+        "RunMode",
+        "L1ID",
+        "base",
+        "WLV1",
+        "WFST",
+        "WSLW",
+        "earlier time",
+        "earlier kind",
     ];
     match place {
         at::REGISTERS..at::WRITES => format!("register {}", place - at::REGISTERS),

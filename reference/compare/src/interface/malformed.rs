@@ -18,6 +18,12 @@ pub fn check(checker: &mut Checker) -> io::Result<()> {
         unused(checker, &phase, &image, &mut random)?;
         sweep(checker, &phase, &image, &mut random)?;
     }
+    let mut random = Random::new(0x3A_1FF5);
+    for (phase, state) in fit::states_by_both_plans() {
+        let image = image(&state);
+        layout_2(checker, &phase, &image, &mut random)?;
+        earlier_kinds(checker, &phase, &image, &mut random)?;
+    }
     Ok(())
 }
 
@@ -75,6 +81,64 @@ fn old_layout(
         take.image[at::GROUP] = first;
         let name = format!("malformed, {phase}, layout 1 with first bit {first}");
         checker.check_number(name, UNSOUND, &Call::Take(take))?;
+    }
+    Ok(())
+}
+
+/// An image of layout 2, which had no earlier record: two words fewer, with
+/// the registers in their place. And this layout's with the other number or
+/// the other length.
+fn layout_2(
+    checker: &mut Checker,
+    phase: &str,
+    image: &Image,
+    random: &mut Random,
+) -> io::Result<()> {
+    let earlier = at::EARLIER_TIME..=at::EARLIER_KIND;
+    let mut shorter = image.to_vec();
+    shorter.drain(earlier);
+    let with = |words: &[u64], layout| {
+        let mut words = words.to_vec();
+        words[at::LAYOUT] = layout;
+        words
+    };
+    let padded = [&shorter[..], &[0, 0]].concat();
+    for (name, words) in [
+        ("layout 2", with(&shorter, 2)),
+        ("layout 2 with two words behind it", with(&padded, 2)),
+        (
+            "layout 3 without the earlier record",
+            with(&shorter, LAYOUT),
+        ),
+        ("layout 2 with the earlier record", with(image, 2)),
+        ("layout 1 with the earlier record", with(image, 1)),
+        ("layout 4", with(image, 4)),
+    ] {
+        let take = fit::call(&words, random);
+        let name = format!("malformed, {phase}, {name}");
+        checker.check_number(name, UNSOUND, &Call::Take(take))?;
+    }
+    Ok(())
+}
+
+/// Every byte is a kind, known or not; no larger number is one.
+fn earlier_kinds(
+    checker: &mut Checker,
+    phase: &str,
+    image: &Image,
+    random: &mut Random,
+) -> io::Result<()> {
+    let beyond = [256, 257, 0x111, 0xFFFF, 1 << 16 | 0x11, 1 << 32, u64::MAX];
+    for kind in (0..=255).chain(beyond) {
+        let mut take = fit::call(image, random);
+        take.image[at::EARLIER_KIND] = kind;
+        let number = if kind > largest(at::EARLIER_KIND) {
+            UNSOUND
+        } else {
+            OK
+        };
+        let name = format!("malformed, {phase}, earlier kind {kind:#X}");
+        checker.check_number(name, number, &Call::Take(take))?;
     }
     Ok(())
 }

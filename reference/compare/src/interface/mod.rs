@@ -6,6 +6,7 @@
 
 pub mod call;
 pub mod checker;
+pub mod crowding;
 pub mod cut;
 pub mod difference;
 pub mod edges;
@@ -44,6 +45,7 @@ pub fn compare(driver: &Path, tally: &mut Tally) -> io::Result<()> {
         precedence::check(checker)?;
         flips::check(checker)?;
         votes::check(checker)?;
+        crowding::check(checker)?;
         streams::check(checker)?;
         large::check(checker)
     })

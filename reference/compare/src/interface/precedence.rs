@@ -24,7 +24,7 @@ const fn defect(number: u64, name: &'static str, make: fn(&mut Take)) -> Defect 
 
 /// In such an order that none undoes an earlier one of another number: the
 /// clock's defect looks at the count, and the image loses words at the end.
-const DEFECTS: [Defect; 29] = [
+const DEFECTS: [Defect; 32] = [
     defect(WRONG_RANGE, "input too long", |t| {
         t.input.resize(INPUT_BYTES + 1, 0xE9);
     }),
@@ -86,7 +86,17 @@ const DEFECTS: [Defect; 29] = [
     }),
     defect(UNSOUND, "image one long", |t| t.image.push(0)),
     defect(UNSOUND, "no image", |t| t.image.clear()),
+    defect(UNSOUND, "layout 2", |t| t.image[at::LAYOUT] = 2),
+    defect(UNSOUND, "earlier kind beyond its width", |t| {
+        t.image[at::EARLIER_KIND] = 256;
+    }),
+    defect(UNSOUND, "earlier record at the next cycle", |t| {
+        t.image[at::EARLIER_TIME] = t.image[at::NEXT];
+    }),
 ];
+
+/// Those without an earlier record's, which document 02, F-5, brought.
+const WITHOUT_EARLIER: usize = 29;
 
 fn bits(take: &Take) -> u64 {
     take.input.len() as u64 * 8
@@ -113,20 +123,22 @@ pub fn check(checker: &mut Checker) -> io::Result<()> {
             }
         }
         // One of each number, in turn.
-        for turn in 0..20 {
-            let of = |number| of_number(number, turn);
-            let all = [WRONG_RANGE, CLOCK_OVER, WRONG_BUFFERS, UNSOUND].map(of);
-            let fit = fit::call(&image, &mut random);
-            together(checker, &phase, fit, &all)?;
-            let fit = fit::call(&image, &mut random);
-            together(checker, &phase, fit, &all[..3])?;
+        for (turns, defects) in [(20, &DEFECTS[..WITHOUT_EARLIER]), (26, &DEFECTS)] {
+            for turn in 0..turns {
+                let of = |number| of_number(defects, number, turn);
+                let all = [WRONG_RANGE, CLOCK_OVER, WRONG_BUFFERS, UNSOUND].map(of);
+                let fit = fit::call(&image, &mut random);
+                together(checker, &phase, fit, &all)?;
+                let fit = fit::call(&image, &mut random);
+                together(checker, &phase, fit, &all[..3])?;
+            }
         }
     }
     Ok(())
 }
 
-fn of_number(number: u64, turn: usize) -> &'static Defect {
-    let of_number: Vec<_> = DEFECTS
+fn of_number(defects: &[Defect], number: u64, turn: usize) -> &Defect {
+    let of_number: Vec<_> = defects
         .iter()
         .filter(|defect| defect.number == number)
         .collect();

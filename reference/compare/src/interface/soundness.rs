@@ -5,6 +5,7 @@ use super::checker::Checker;
 use super::fit;
 use super::image::{image, Image};
 use super::layout::{at, phase, OK, UNSOUND};
+use super::states::EARLIER_KINDS;
 use cases::Random;
 use reader::limits::{CLOCK_LIMIT, FIFOS};
 use reader::slow;
@@ -30,6 +31,11 @@ pub fn check(checker: &mut Checker) -> io::Result<()> {
         let image = image(&state);
         check_all(checker, &phase, groups(&image), &mut random)?;
         check_all(checker, &phase, last_groups(&image), &mut random)?;
+    }
+    let mut random = Random::new(0x0005_0DF5);
+    for (phase, state) in fit::states_by_both_plans() {
+        let image = image(&state);
+        check_all(checker, &phase, earlier_records(&image), &mut random)?;
     }
     Ok(())
 }
@@ -135,6 +141,31 @@ fn cycles(image: &Image) -> Vec<Clause> {
     for next in [CLOCK_LIMIT + 1, CLOCK_LIMIT + 200, 1 << 63, u64::MAX] {
         clauses.push(clause(false, image, &[(at::NEXT, next)]));
         clauses.push(clause(false, image, &[(at::NEXT, next), (at::BASE, next)]));
+    }
+    clauses
+}
+
+/// The earlier record's time is below the next cycle (document 02, F-5), with
+/// a base as before or at the next cycle. With kind 0 there is none, and
+/// nothing is asked of the time.
+fn earlier_records(image: &Image) -> Vec<Clause> {
+    let mut clauses = Vec::new();
+    for next in [image[at::NEXT], image[at::NEXT] + 1, CLOCK_LIMIT - 200] {
+        let past = [0, 1, next - 40, next - 2, next - 1];
+        let ahead = [next, next + 1, CLOCK_LIMIT, 1 << 63, u64::MAX];
+        for time in past.into_iter().chain(ahead) {
+            for kind in EARLIER_KINDS {
+                let words = [
+                    (at::NEXT, next),
+                    (at::EARLIER_TIME, time),
+                    (at::EARLIER_KIND, kind.into()),
+                ];
+                let sound = kind == 0 || time < next;
+                clauses.push(clause(sound, image, &words));
+                let words = [&words[..], &[(at::BASE, next)]].concat();
+                clauses.push(clause(sound, image, &words));
+            }
+        }
     }
     clauses
 }

@@ -3,7 +3,7 @@
 use cases::Random;
 use reader::group::Group;
 use reader::limits::CLOCK_LIMIT;
-use reader::{slow, Plan, Recogniser, State, Warnings};
+use reader::{slow, Earlier, Plan, Recogniser, State, Warnings};
 
 /// Registers 0 to 6: the default up to document 02, F-9. Addresses 7 to 10
 /// are missing by it, and exist by the default.
@@ -71,7 +71,33 @@ pub fn random_state(random: &mut Random, plan: Plan) -> State {
             state.recogniser,
             Recogniser::Hunting { .. } | Recogniser::Body { .. }
         );
+    state.earlier = random_earlier(random, next_cycle);
     state
+}
+
+/// Kinds of an earlier record that ask for zeros, or overlap; and two that no
+/// record has.
+pub const EARLIER_KINDS: [u8; 8] = [0x00, 0x01, 0x11, 0x12, 0x18, 0x2F, 0x77, 0xFF];
+
+/// An earlier record that is past (document 02, F-5), often just so; or none,
+/// with any time. By numbers of its own, so that what else a state and its
+/// stream have stays what it was.
+fn random_earlier(random: &Random, next_cycle: u64) -> Earlier {
+    let mut random = Random::new(random.clone().word() ^ 0xF5);
+    let kind = match random.below(4) {
+        0 => random.word() as u8,
+        _ => EARLIER_KINDS[random.below(EARLIER_KINDS.len() as u64) as usize],
+    };
+    if kind == 0 || next_cycle == 0 {
+        let near = next_cycle.wrapping_sub(random.below(20));
+        let time = [near, random.word(), next_cycle, u64::MAX][random.below(4) as usize];
+        return Earlier { time, kind: 0 };
+    }
+    let time = match random.below(4) {
+        0 => random.below(next_cycle),
+        _ => (next_cycle - 1).saturating_sub(random.below(20)),
+    };
+    Earlier { time, kind }
 }
 
 /// An opening cycle; a stream from it may reach the last one.

@@ -1,5 +1,5 @@
-//! Generated streams of each recipe, and ones with noisy front-end groups, cut
-//! into calls at random places.
+//! Generated streams of each recipe, ones with noisy front-end groups and ones
+//! of commands crowded together, cut into calls at random places.
 
 use super::call::{Call, Open};
 use super::checker::Checker;
@@ -9,7 +9,8 @@ use super::layout::{at, IMAGE_WORDS};
 use super::prefilled;
 use super::states::{random_cycle, random_state, PLANS};
 use cases::generate::{
-    bits, commands_at, flip_some, flipped_commands_at, noisy_commands_at, Addresses, Noise,
+    bits, commands_at, crowded_commands_at, flip_some, flipped_commands_at, noisy_commands_at,
+    Addresses, Noise,
 };
 use cases::{Random, Stream};
 use reader::limits::CLOCK_LIMIT;
@@ -25,11 +26,17 @@ const LONGEST: u64 = 24;
 const NOISY: u64 = 24 * NOISES.len() as u64 * PLANS.len() as u64;
 const NOISES: [Noise; 4] = [Noise::Late, Noise::Any, Noise::Cycles(3), Noise::Cycles(20)];
 
+/// Streams of commands crowded together (document 02, F-5): whole, with one
+/// bit inverted and with many, each from an opening and from any state.
+const CROWDED: u64 = 16 * CROWDED_RECIPES * PLANS.len() as u64;
+const CROWDED_RECIPES: u64 = 6;
+
 /// One stream in so many is cut a second time.
 const CUT_AGAIN: u64 = 4;
 
 const SEED: u64 = 0x1F4C_E000_0000;
 const NOISY_SEED: u64 = 0x1F4C_E0F4_0000;
+const CROWDED_SEED: u64 = 0x1F4C_E0F5_0000;
 
 pub fn check(checker: &mut Checker) -> io::Result<()> {
     for number in 0..STREAMS {
@@ -61,7 +68,29 @@ pub fn check(checker: &mut Checker) -> io::Result<()> {
         let name = format!("noisy stream {number}");
         check_stream(checker, &name, plan, false, &stream, &mut random)?;
     }
+    for number in 0..CROWDED {
+        let mut random = Random::new(CROWDED_SEED + number);
+        let recipe = number % CROWDED_RECIPES;
+        let plan = PLANS[(number / CROWDED_RECIPES % PLANS.len() as u64) as usize];
+        let stream = crowded(&mut random, recipe, plan);
+        let name = format!("crowded stream {number}");
+        let any_state = recipe % 2 == 1;
+        check_stream(checker, &name, plan, any_state, &stream, &mut random)?;
+    }
     Ok(())
+}
+
+fn crowded(random: &mut Random, recipe: u64, plan: Plan) -> Stream {
+    let few = 3 + random.below(20) as usize;
+    let mut stream = crowded_commands_at(addresses(plan), random, few);
+    match recipe / 2 {
+        0 => stream,
+        1 => damaged(stream, random),
+        _ => {
+            flip_some(&mut stream, random, 40);
+            stream
+        }
+    }
 }
 
 const RECIPES: u64 = 18;

@@ -20,17 +20,18 @@ pub mod under_test;
 
 use crate::golden;
 use crate::tally::Tally;
-use cases::{fixed, generated, noisy};
+use cases::{crowded, fixed, generated, noisy};
 use scratch::Scratch;
 use situations::Means;
 use std::io;
 use std::path::Path;
 use under_test::UnderTest;
 
-/// Generated streams, and ones with noisy front-end groups, besides all other
-/// cases.
+/// Generated streams, ones with noisy front-end groups and ones with commands
+/// crowded together, besides all other cases.
 const GENERATED: u64 = 450;
 const NOISY: u64 = 100;
+const CROWDED: u64 = 100;
 
 /// Compares everything: the repository's golden files and stored runs with
 /// what the separate reader prints now, and the programs in a folder with it on every case. They have an exit
@@ -38,7 +39,13 @@ const NOISY: u64 = 100;
 pub fn compare(programs: &Path, has_status: bool, repository: &Path) -> io::Result<Tally> {
     let under_test = UnderTest::new(&programs.canonicalize()?, has_status);
     let scratch = Scratch::new()?;
-    let cases = [fixed(), generated(GENERATED), noisy(NOISY)].concat();
+    let cases = [
+        fixed(),
+        generated(GENERATED),
+        noisy(NOISY),
+        crowded(CROWDED),
+    ]
+    .concat();
 
     let mut tally = Tally::default();
     let means = Means::prepare(&scratch)?;

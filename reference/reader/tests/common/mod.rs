@@ -3,7 +3,7 @@
 
 use cases::Stream;
 use reader::limits::{STORE_WORDS, TRAY_BYTES};
-use reader::{frame_part, open, take, Ending, Plan, Record, State};
+use reader::{frame_part, open, take, Earlier, Ending, Plan, Record, State};
 
 /// Registers 0 to 6: the default up to document 02, F-9. Who counts on flag
 /// 08 for addresses 7 to 10 opens with it.
@@ -138,4 +138,63 @@ pub fn position(received: &[bool]) -> Option<u32> {
 /// The records of a stream read from cycle 0 with RunMode on.
 pub fn running_records(stream: &Stream) -> Vec<Record> {
     Reader::running().read(stream)
+}
+
+/// The earlier record that a state remembers.
+pub fn earlier(time: u64, kind: u8) -> Earlier {
+    Earlier { time, kind }
+}
+
+/// Document 01's timing table: the zeros asked between two commands, by the
+/// kinds of their records. What is no LV1 counts as a Fast when it follows.
+pub fn zeros_asked(first: u8, second: u8) -> i64 {
+    let lv1_follows = second == 0x01;
+    match (first, lv1_follows) {
+        (0x11, false) => 2,
+        (0x12, false) => 1,
+        (0x18, true) => 4,
+        _ => 0,
+    }
+}
+
+/// The cycles of a command. Those of a frame are read off its record, and so
+/// do not go by CNT.
+pub fn cycles_of(record: &Record) -> i64 {
+    let frame = record.frame_bits().unwrap_or(0) as i64;
+    match record.kind {
+        0x01 => 5,
+        0x10..=0x1F => 9,
+        0x20 | 0x21 => 17 + 16,
+        0x22 | 0x23 => 17 + 27,
+        0x24 | 0x25 => 17 + 8 * frame,
+        0x26 => 17 + frame,
+        0x28 | 0x29 | 0x2F => 17,
+        0x2A => 17 + 4,
+        kind => panic!("no record has kind {kind:02X}"),
+    }
+}
+
+/// Document 02, F-5, in its words: "its first bit's cycle, less the earlier
+/// record's time, less 1".
+pub fn distance(before: Earlier, record: &Record) -> i64 {
+    let first_bit = record.time as i64 - (cycles_of(record) - 1);
+    first_bit - before.time as i64 - 1
+}
+
+/// Whether a record gets flag 20, with this earlier record. Kind 0 is none.
+pub fn is_too_close(before: Earlier, record: &Record) -> bool {
+    before.kind != 0 && distance(before, record) < zeros_asked(before.kind, record.kind)
+}
+
+/// The record with flag 20 just as the rule says.
+pub fn flagged(before: Earlier, record: Record) -> Record {
+    let close = if is_too_close(before, &record) {
+        0x20
+    } else {
+        0
+    };
+    Record {
+        flags: record.flags & !0x20 | close,
+        ..record
+    }
 }
