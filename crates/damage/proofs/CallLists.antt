@@ -18,8 +18,9 @@ use Rattle.registers.specs.Registers.{cntOf}
 use Rattle.decoder.specs.declared.Decoder.{Decoder}
 use Rattle.controller.specs.declared.Record.{Record}
 use Rattle.controller.specs.Records.{headOf, recordWords, wordsOf}
+use Rattle.controller.proofs.RequestsFit.{step-request-fits}
 use Rattle.calls.specs.Run.{stateAfter, wordsAfter}
-use Rattle.calls.specs.Turn.{System, decoderOf, turnOf}
+use Rattle.calls.specs.Turn.{System, decoderOf, cntAt, turnOf}
 use Rattle.calls.specs.Take.{Call, takeOf, lent}
 use Rattle.calls.specs.Calls.{bitsTaken, wordsStanding, allBits, allWords}
 use Rattle.calls.proofs.CallLists.{call-kept}
@@ -27,12 +28,12 @@ use Rattle.damage.specs.Commands.{Command, widthOf}
 use Rattle.damage.specs.CleanStreams.{Item, itemSize, streamBits, timed, inverted}
 use Rattle.damage.specs.Table.{Replacement, replacementOf}
 use Rattle.damage.specs.Traces.{requestsOf, recogniserAfter, quiet, spread, commandTrace, itemTrace, cleanTrace, damagedItem, damagedTrace}
-use Rattle.damage.specs.Records.{countersOf, sends, requestRecords, cleanRecords, damagedRecords}
+use Rattle.damage.specs.Records.{aheadOf, sends, requestRecords, cleanRecords, damagedRecords}
 use Rattle.damage.proofs.TracesJoined.{requests-append, after-append, length-requests}
 use Rattle.damage.proofs.Recovery.{clean-run}
 use Rattle.damage.proofs.Replacements.{damaged-cases, Passes, own-passes, replacement-passes}
 use Rattle.damage.proofs.InvertedBit.{damaged-run}
-use Rattle.damage.proofs.TraceRecords.{performed, counting, performed-append, counting-append, performed-clean, performed-damaged}
+use Rattle.damage.proofs.TraceRecords.{performed, aheadOn, performed-append, aheadOn-append, performed-clean, performed-damaged}
 use Rattle.damage.proofs.RunModeEffects.{outsideSlow, noSlow, step-any-cnt, step-stays-outside, from-empty, does}
 
 -- no request of a trace leads into a Slow command
@@ -65,30 +66,30 @@ trace d bits = requestsOf (d .recogniser) bits
 
 -- From d the bits lead to v and write the words, RunMode on, as the trace says.
 record Follows (d : Decoder) (bits : List ℕ) (v : Decoder) (words : List ℕ) : Type 0 where
-  written : words ≡ recordWords (performed (sends d) (countersOf d) (d .next) (trace d bits))
+  written : words ≡ recordWords (performed (sends d) (aheadOf d) (d .next) (trace d bits))
   stands : v .recogniser ≡ recogniserAfter (d .recogniser) bits
-  counters : countersOf v ≡ counting (countersOf d) (d .next) (trace d bits)
+  ahead : aheadOf v ≡ aheadOn (aheadOf d) (d .next) (trace d bits)
   next : v .next ≡ d .next + length bits
   running : v .model .running ≡ true
   sent : sends v ≡ sends d
   outside : T (outsideSlow (v .recogniser .phase))
 
 follows-none : (d : Decoder) → d .model .running ≡ true → T (outsideSlow (d .recogniser .phase)) → Follows d [] d []
-unfolding performed counting requestsOf recogniserAfter
-follows-none d r q = record { written = refl; stands = refl; counters = refl; next = omega arith; running = r; sent = refl; outside = q }
+unfolding performed aheadOn requestsOf recogniserAfter
+follows-none d r q = record { written = refl; stands = refl; ahead = refl; next = omega arith; running = r; sent = refl; outside = q }
 
 follows-append : {d v u : Decoder} {xs ys : List ℕ} {ws zs : List ℕ} → Follows d xs v ws → Follows v ys u zs → Follows d (xs ++ ys) u (ws ++ zs)
 follows-append {d} {v} {u} {xs} {ys} {ws} {zs} a b = record {
   written =
       let later : List Request = requestsOf (recogniserAfter (d .recogniser) xs) ys in
-      rw (requests-append (d .recogniser) xs ys, performed-append (sends d) (countersOf d) (d .next) (trace d xs) later, length-requests (d .recogniser) xs)
-      (ap₂ _++_ (a .written) (b .written ∙ (λ i. recordWords (performed (a .sent i) (a .counters i) (a .next i) (requestsOf (a .stands i) ys))))
-      ∙ sym (record-words-append (performed (sends d) (countersOf d) (d .next) (trace d xs)) _));
+      rw (requests-append (d .recogniser) xs ys, performed-append (sends d) (aheadOf d) (d .next) (trace d xs) later, length-requests (d .recogniser) xs)
+      (ap₂ _++_ (a .written) (b .written ∙ (λ i. recordWords (performed (a .sent i) (a .ahead i) (a .next i) (requestsOf (a .stands i) ys))))
+      ∙ sym (record-words-append (performed (sends d) (aheadOf d) (d .next) (trace d xs)) _));
   stands = b .stands ∙ ap (λ (r : Recogniser). recogniserAfter r ys) (a .stands) ∙ sym (after-append (d .recogniser) xs ys);
-  counters =
+  ahead =
       let later : List Request = requestsOf (recogniserAfter (d .recogniser) xs) ys in
-      rw (requests-append (d .recogniser) xs ys, counting-append (countersOf d) (d .next) (trace d xs) later, length-requests (d .recogniser) xs)
-      (b .counters ∙ (λ i. counting (a .counters i) (a .next i) (requestsOf (a .stands i) ys)));
+      rw (requests-append (d .recogniser) xs ys, aheadOn-append (aheadOf d) (d .next) (trace d xs) later, length-requests (d .recogniser) xs)
+      (b .ahead ∙ (λ i. aheadOn (a .ahead i) (a .next i) (requestsOf (a .stands i) ys)));
   next = let e = a .next in let f = b .next in rw length-append (omega arith);
   running = b .running;
   sent = b .sent ∙ a .sent;
@@ -99,18 +100,18 @@ follows-append {d} {v} {u} {xs} {ys} {ws} {zs} a b = record {
 follows-one : (s : System) (bit : ℕ) → s .machine .model .running ≡ true → T (outsideSlow (s .recogniser .phase))
     → T (noSlow (stepOf (s .recogniser) bit 0 .event .request))
     → Follows (decoderOf s) (bit ∷ []) (decoderOf (turnOf s bit .state)) (wordsOf (turnOf s bit .cycle))
-unfolding turnOf performed counting requestsOf recogniserAfter
+unfolding turnOf performed aheadOn requestsOf recogniserAfter
 follows-one s bit r q h =
     let m = s .machine in
     let d : Decoder = decoderOf s in
     let e : stepOf (s .recogniser) bit (cntOf (m .plan) (m .model)) ≡ stepOf (s .recogniser) bit 0 = step-any-cnt (s .recogniser) bit _ q in
     let x : Request = stepOf (s .recogniser) bit 0 .event .request in
-    let f = does (m .plan) (m .model) x (m .next) (m .store) r h in
+    let f = does (m .plan) (m .model) (m .earlier) (cntAt m) (m .next) (m .store) r x (step-request-fits (s .recogniser) bit 0) h in
     rw e
     (record {
-      written = f .words ∙ ap recordWords (sym (append-nil (requestRecords (sends d) (countersOf d) (d .next) x)));
+      written = f .words ∙ ap recordWords (sym (append-nil (requestRecords (sends d) (aheadOf d) (d .next) x)));
       stands = refl;
-      counters = f .counters;
+      ahead = f .after;
       next = omega arith;
       running = f .running;
       sent = ap (λ (l : List ℕ). eqb (getD l (m .plan .csr) 0 / 2 ^ 6 % 2) 0) (f .registers);
@@ -192,20 +193,20 @@ hunting-trace r (bit ∷ bits) h e = ap (λ (x : Transition). x .event .request 
 -- A list of calls in RunMode, from an empty window, whose bits have a trace with no Slow command writes the records of that trace.
 module _ (d : Decoder) (running : d .model .running ≡ true) (hunting : d .recogniser .phase ≡ Hunt) (empty : d .recogniser .shift ≡ 0) where
   writes : (cs : List Call) (es : List Request) → requestsOf idle (allBits d cs) ≡ es → T (noSlowIn es)
-      → allWords d cs ≡ recordWords (performed (sends d) (countersOf d) (d .next) es)
+      → allWords d cs ≡ recordWords (performed (sends d) (aheadOf d) (d .next) es)
   writes cs es e h =
       let t : trace d (allBits d cs) ≡ es = hunting-trace (d .recogniser) (allBits d cs) hunting empty ∙ e in
       let f = follows-calls cs d running (rw hunting tt) (rw t h) in
-      f .1 .written ∙ ap (λ es. recordWords (performed (sends d) (countersOf d) (d .next) es)) t
+      f .1 .written ∙ ap (λ es. recordWords (performed (sends d) (aheadOf d) (d .next) es)) t
 
   pub clean-words : (cs : List Call) (is : List Item) (t : ℕ) → allBits d cs ≡ streamBits is t
-      → allWords d cs ≡ recordWords (cleanRecords (sends d) (countersOf d) (d .next) is)
+      → allWords d cs ≡ recordWords (cleanRecords (sends d) (aheadOf d) (d .next) is)
   clean-words cs is t e =
       writes cs (cleanTrace is t) (ap (requestsOf idle) e ∙ clean-run is t) (noSlow-clean is t)
-      ∙ ap recordWords (performed-clean (sends d) (countersOf d) (d .next) is t)
+      ∙ ap recordWords (performed-clean (sends d) (aheadOf d) (d .next) is t)
 
   pub damaged-words : (cs : List Call) (is : List Item) (t k : ℕ) → T (timed is) → allBits d cs ≡ inverted k (streamBits is t)
-      → allWords d cs ≡ recordWords (damagedRecords (sends d) (countersOf d) (d .next) is k)
+      → allWords d cs ≡ recordWords (damagedRecords (sends d) (aheadOf d) (d .next) is k)
   damaged-words cs is t k h e =
       writes cs (damagedTrace is t k) (ap (requestsOf idle) e ∙ damaged-run is t k h) (noSlow-damaged is t k)
-      ∙ ap recordWords (performed-damaged (sends d) (countersOf d) (d .next) is t k)
+      ∙ ap recordWords (performed-damaged (sends d) (aheadOf d) (d .next) is t k)

@@ -163,7 +163,7 @@ in-tail (suc k) (suc t) = ap (λ (l : List Request). Nothing ∷ l) (in-tail k t
 item-length : (i : Item) → length (itemBits i) ≡ itemSize i
 item-length i = simp (length-append, length-replicate)
 
-spaced-timed : (c : Command) (is : List Item) → T (spaced c is) → T (timed is)
+pub spaced-timed : (c : Command) (is : List Item) → T (spaced c is) → T (timed is)
 spaced-timed c [] h = tt
 spaced-timed c (i ∷ is) h = and-right (leb (zerosBetween c (i .command)) (i .ahead)) _ h
 

@@ -5,6 +5,7 @@ pub mod Recovery
 pub mod Replacements
 pub mod InvertedBit
 pub mod TraceRecords
+pub mod Spacing
 pub mod Comparison
 pub mod RunModeEffects
 pub mod CallLists

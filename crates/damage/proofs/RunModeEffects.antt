@@ -2,9 +2,11 @@
 -- Assumes nothing.
 use mathlib.Core.Path.{_≡_, _∙_, refl, ap}
 use mathlib.Core.Bool.{Bool, true, false, cond, not}
-use mathlib.Core.List.{List}
-use Prim.Native.Nat.{ℕ}
+use mathlib.Core.List.{List, [], _∷_}
+use Prim.Native.Nat.{ℕ, _<_}
+use native.Mathlib.Omega.{arith}
 use lib.Dec.{eqb, ltb, T}
+use borrow.Author.Tests.{ltb-true}
 use Rattle.bits.specs.Bits.{shifted}
 use Rattle.bits.proofs.Truth.{cond-case}
 use Rattle.recogniser.specs.declared.Phase.{Phase}
@@ -21,10 +23,16 @@ use Rattle.recogniser.specs.Hunting.{meaningOf, huntBy, isFast}
 use Rattle.recogniser.specs.Step.{stepBy, stepOf}
 use Rattle.registers.specs.declared.Plan.{Plan}
 use Rattle.registers.specs.declared.Model.{Model}
+use Rattle.controller.specs.declared.Cycle.{Cycle}
+use Rattle.controller.specs.declared.Record.{Record}
 use Rattle.controller.specs.Records.{wordsOf, recordWords}
-use Rattle.controller.specs.Commands.{sendsOf, actOf, fastEffect}
+use Rattle.controller.specs.Commands.{sendsOf, actOf, lv1Record, fastRecord, badFastRecord, fastEffect}
+use Rattle.controller.specs.Requests.{requestFits}
+use Rattle.timing.specs.declared.Earlier.{Earlier}
+use Rattle.timing.specs.TooClose.{earlierOf, flagged, flaggedCycle, earlierAfter}
+use Rattle.timing.proofs.Flagged.{short-flagged}
 use Rattle.decoder.specs.Sound.{insideSlow}
-use Rattle.damage.specs.Records.{requestRecords, countersAfter}
+use Rattle.damage.specs.Records.{Ahead, ahead, requestRecords, aheadAfter}
 
 -- The phases outside Slow commands, and the requests that lead into none.
 abbrev pub outsideSlow : Phase → Bool
@@ -83,23 +91,41 @@ from-empty r bit hunts empty =
     ap (λ (p : Phase). stepBy p r bit 0) hunts ∙ ap (λ (s : ℕ). huntBy (shifted 5 s bit) (meaningOf (shifted 5 s bit))) empty
 
 -- What a request outside Slow commands does in RunMode is what the records' definitions say.
-pub record Does (plan : Plan) (m : Model) (q : Request) (time : ℕ) (store : List ℕ) : Type 0 where
-  pub words : wordsOf (actOf plan m q time store .acted .cycle) ≡ recordWords (requestRecords (sendsOf plan m) (m .counters) time q)
-  pub counters : actOf plan m q time store .acted .model .counters ≡ countersAfter (m .counters) time q
-  pub running : actOf plan m q time store .acted .model .running ≡ true
-  pub registers : actOf plan m q time store .acted .model .registers ≡ m .registers
+module _ (plan : Plan) (m : Model) (e : Earlier) (cnt time : ℕ) (store : List ℕ) where
+  abbrev before : Ahead
+  before = ahead (m .counters) e
 
-pub does : (plan : Plan) (m : Model) (q : Request) (time : ℕ) (store : List ℕ) → m .running ≡ true → T (noSlow q) → Does plan m q time store
-unfolding actOf
-does plan m Nothing time store r h = record { words = refl; counters = refl; running = r; registers = refl }
-does plan m (Lv1 position) time store r h = record { words = rw r; counters = rw r; running = r; registers = refl }
-does plan m (Fast body) time store r h =
-    let after : Bool → Model = λ b. cond b (fastEffect m body time) m in
-    record {
-      words = rw r;
-      counters = ap (λ b. after b .counters) r;
-      running = ap (λ b. after b .running) r ∙ r;
-      registers = ap (λ b. after b .registers) r;
+  abbrev answer : Request → Cycle
+  answer q = flaggedCycle e cnt (actOf plan m q time store .acted .cycle)
+
+  pub record Does (q : Request) : Type 0 where
+    pub words : wordsOf (answer q) ≡ recordWords (requestRecords (sendsOf plan m) before time q)
+    pub after : ahead (actOf plan m q time store .acted .model .counters) (earlierAfter e (answer q)) ≡ aheadAfter before time q
+    pub running : actOf plan m q time store .acted .model .running ≡ true
+    pub registers : actOf plan m q time store .acted .model .registers ≡ m .registers
+
+  -- CNT does not matter to its flag
+  any-cnt-words : (r : Record) → r .kind < 0x20 → recordWords (flagged e cnt r ∷ []) ≡ recordWords (flagged e 0 r ∷ [])
+  any-cnt-words r low = ap (λ (x : Record). recordWords (x ∷ [])) (short-flagged e cnt r low)
+
+  module _ (on : m .running ≡ true) where
+    pub does : (q : Request) → requestFits q ≡ true → T (noSlow q) → Does q
+    unfolding actOf
+    does Nothing fits h = record { words = refl; after = refl; running = on; registers = refl }
+    does (Lv1 position) fits h = record {
+      words = rw on (any-cnt-words (lv1Record true position (sendsOf plan m) (m .counters) time) (omega arith));
+      after = rw on;
+      running = on;
+      registers = refl;
     }
-does plan m (BadFast body) time store r h = record { words = refl; counters = refl; running = r; registers = refl }
-does plan m (Slow slow) time store r h = absurd h
+    does (Fast body) fits h =
+        let low = ltb-true body 16 fits in
+        let after : Bool → Model = λ b. cond b (fastEffect m body time) m in
+        record {
+          words = rw on (any-cnt-words (fastRecord true body time) (omega arith));
+          after = ap (λ b. ahead (after b .counters) (earlierOf (fastRecord true body time))) on;
+          running = ap (λ b. after b .running) on ∙ on;
+          registers = ap (λ b. after b .registers) on;
+        }
+    does (BadFast body) fits h = record { words = any-cnt-words (badFastRecord body time) (omega arith); after = refl; running = on; registers = refl }
+    does (Slow slow) fits h = absurd h

@@ -1,19 +1,12 @@
--- The two tables are whole: each pair of commands has one distance, and each bit of a command one row.
+-- The damage table is whole: each bit of a command has one row.
 -- Assumes nothing.
 use mathlib.Core.Path.{_≡_, refl}
-use mathlib.Core.List.{[], _∷_, map}
+use mathlib.Core.List.{map}
 use Prim.Native.Nat.{suc}
 use Rattle.bits.proofs.Below.{below}
 use Rattle.damage.specs.Commands.{Command, fasts, widthOf}
-use Rattle.damage.specs.CleanStreams.{zerosBetween, table13, distances}
 use Rattle.damage.specs.Table.{ownBit, zeroAhead, table, rowsFor}
-use Rattle.damage.proofs.FiniteFacts.{each, each-at}
-
--- document 01's sentence and the chip paper's Table 1-3 say the same of all 25 pairs
-pub timing : (c d : Command) → distances table13 c d ≡ zerosBetween c d ∷ []
-timing c =
-    each-at (λ d. distances table13 c d) (λ d. zerosBetween c d ∷ [])
-    (each-at (λ c. each (λ d. distances table13 c d)) (λ c. each (λ d. zerosBetween c d ∷ [])) refl c)
+use Rattle.damage.proofs.FiniteFacts.{each-at}
 
 -- every bit of every command has one row of the damage table, and so has each of the two zeros ahead of a Fast
 pub rows : (c : Command) → below (widthOf c) (λ k. rowsFor table c (ownBit (suc k))) ≡ below (widthOf c) (λ k. 1)

@@ -1,44 +1,16 @@
--- Clean streams, the timing table, and one inverted bit (document 01, "The damage table"; the chip paper's Table 1-3).
+-- Clean streams and one inverted bit (document 01, "The damage table").
 -- Assumes nothing.
-use mathlib.Core.Bool.{Bool, true, cond, _&&_}
+use mathlib.Core.Bool.{Bool, true, _&&_}
 use mathlib.Core.List.{List, [], _∷_, _++_}
 use Prim.Native.Nat.{ℕ, zero, suc, _+_, _-_}
 use lib.Dec.{leb}
 use lib.ListN.{replicate}
-use Rattle.damage.specs.Commands.{Command, lv1, bcr, ecr, cal, sync, fasts, among, codeOf, widthOf, isFastCommand}
+use Rattle.timing.specs.Table.{zerosAsked}
+use Rattle.damage.specs.Commands.{Command, codeOf, widthOf, commandKind}
 
--- "The timing table asks for these zeros between commands: after BCR 2, after ECR 1, if a Fast follows; after SYNC 4, if an LV1 follows; otherwise 0."
+-- The zeros between two commands, by the timing table, which goes by the kinds of their records.
 abbrev pub zerosBetween : Command → Command → ℕ
-zerosBetween lv1 next = 0
-zerosBetween bcr next = cond (isFastCommand next) 2 0
-zerosBetween ecr next = cond (isFastCommand next) 1 0
-zerosBetween cal next = 0
-zerosBetween sync next = cond (isFastCommand next) 0 4
-
--- The chip paper's Table 1-3, row by row: the command, the following command, the distance.
-pub record Distance : Type 0 where
-  pub first : List Command
-  pub next : List Command
-  pub zeros : ℕ
-
-abbrev pub distance : List Command → List Command → ℕ → Distance
-distance first next zeros = record { first = first; next = next; zeros = zeros }
-
-abbrev pub table13 : List Distance
-table13 =
-    distance (lv1 ∷ []) (lv1 ∷ []) 0
-    ∷ distance (lv1 ∷ []) fasts 0
-    ∷ distance (bcr ∷ ecr ∷ cal ∷ []) (lv1 ∷ []) 0
-    ∷ distance (sync ∷ []) (lv1 ∷ []) 4
-    ∷ distance (bcr ∷ []) fasts 2
-    ∷ distance (cal ∷ sync ∷ []) fasts 0
-    ∷ distance (ecr ∷ []) fasts 1
-    ∷ []
-
--- The distances that its rows give for two commands.
-abbrev pub distances : List Distance → Command → Command → List ℕ
-distances [] c d = []
-distances (r ∷ rs) c d = cond (among c (r .first) && among d (r .next)) (r .zeros ∷ distances rs c d) (distances rs c d)
+zerosBetween c next = zerosAsked (commandKind c) (commandKind next)
 
 -- A command with the zeros ahead of it.
 pub record Item : Type 0 where

@@ -7,6 +7,8 @@ use lib.Dec.{eqb}
 use lib.ListN.{length}
 use Rattle.recogniser.specs.declared.Request.{Request}
 use Rattle.recogniser.specs.declared.Request.the-variants.{Lv1, Fast}
+use Rattle.controller.specs.Records.{kindLv1}
+use Rattle.timing.specs.Table.{kindBcr, kindEcr, kindCal, kindSync}
 
 -- "Its commands are the exact LV1, BCR, ECR, CAL and SYNC".
 pub data Command : Type 0 where
@@ -48,6 +50,14 @@ isFastCommand bcr = true
 isFastCommand ecr = true
 isFastCommand cal = true
 isFastCommand sync = true
+
+-- The kind of a command's record.
+abbrev pub commandKind : Command → ℕ
+commandKind lv1 = kindLv1
+commandKind bcr = kindBcr
+commandKind ecr = kindEcr
+commandKind cal = kindCal
+commandKind sync = kindSync
 
 -- What a whole command asks for at its last bit: the LV1 is exact.
 abbrev pub requestOf : Command → Request

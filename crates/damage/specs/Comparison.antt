@@ -7,11 +7,10 @@ use mathlib.Core.List.{List, [], _∷_, _++_}
 use Prim.Native.Nat.{ℕ, _+_, _-_, _/_, _%_}
 use lib.Dec.{eqb, ltb, T}
 use Rattle.controller.specs.Records.{kindLv1, kindFast}
-use Rattle.registers.specs.declared.Counters.{Counters}
 use Rattle.controller.specs.declared.Record.{Record}
 use Rattle.damage.specs.CleanStreams.{Item, itemSize}
 use Rattle.damage.specs.Table.{affected, replacementOf}
-use Rattle.damage.specs.Records.{itemRecords, itemCounters, cleanRecords, replacementRecords}
+use Rattle.damage.specs.Records.{Ahead, itemRecords, itemAhead, cleanRecords, replacementRecords}
 
 -- An LV1's value is its position × 65,536 + its trigger number × 256 + its bunch number. Positions differ "as part of the affected record only" (document
 -- 02, F-1), so that here they always agree; each number agrees unless it may still differ. All else is equal.
@@ -22,7 +21,7 @@ SameValue trigger bunch x y =
     (x .value ≡ y .value)
 
 -- The records after the affected command. "L1ID (the trigger number) may differ only .. up to the first ECR after it, the bunch number up to the first
--- BCR".
+-- BCR". Their flags are equal: "only the affected record's flag may differ" (document 02, F-5).
 abbrev pub SameAfter : Bool → Bool → List Record → List Record → Type 0
 SameAfter trigger bunch [] [] = Unit {0}
 SameAfter trigger bunch [] (y ∷ ys) = ⊥
@@ -33,10 +32,19 @@ SameAfter trigger bunch (x ∷ xs) (y ∷ ys) =
 
 -- The damaged records are the clean ones ahead of the item that holds the inverted bit, what the table says of that item, and records like the clean
 -- ones after it; "if none is affected, nowhere" do they differ.
-abbrev pub Replaced : Bool → Counters → ℕ → List Item → ℕ → List Record → Type 0
-Replaced sent c n [] k damaged = damaged ≡ []
-Replaced sent c n (i ∷ is) k damaged =
+abbrev pub Replaced : Bool → Ahead → ℕ → List Item → ℕ → List Record → Type 0
+Replaced sent a n [] k damaged = damaged ≡ []
+Replaced sent a n (i ∷ is) k damaged =
     cond (ltb k (itemSize i))
-    ((rest : List Record) × (damaged ≡ replacementRecords sent c (n + i .ahead) (replacementOf i k) ++ rest)
-    × SameAfter (affected i k) (affected i k) (cleanRecords sent (itemCounters c n i) (n + itemSize i) is) rest)
-    ((rest : List Record) × (damaged ≡ itemRecords sent c n i ++ rest) × Replaced sent (itemCounters c n i) (n + itemSize i) is (k - itemSize i) rest)
+    ((rest : List Record) × (damaged ≡ replacementRecords sent a (n + i .ahead) (replacementOf i k) ++ rest)
+    × SameAfter (affected i k) (affected i k) (cleanRecords sent (itemAhead a n i) (n + itemSize i) is) rest)
+    ((rest : List Record) × (damaged ≡ itemRecords sent a n i ++ rest) × Replaced sent (itemAhead a n i) (n + itemSize i) is (k - itemSize i) rest)
+
+-- A clean stream keeps the timing table, so that only its first command can be too close to a record before it: no later one has flag 20 (document 02, F-5).
+abbrev pub InTime : List Record → Type 0
+InTime [] = Unit {0}
+InTime (r ∷ rs) = (r .flags / 0x20 % 2 ≡ 0) × InTime rs
+
+abbrev pub OnlyFirst : List Record → Type 0
+OnlyFirst [] = Unit {0}
+OnlyFirst (r ∷ rs) = InTime rs

@@ -1,4 +1,5 @@
--- The records of clean and damaged streams in RunMode, by their counters (document 01, "A record" and "The damage table").
+-- The records of clean and damaged streams in RunMode, by the counters and the record ahead of each (document 01, "A record" and "The damage table"; document
+-- 02, F-5).
 -- Assumes nothing.
 use mathlib.Core.Bool.{Bool, true, false, cond}
 use mathlib.Core.List.{List, [], _∷_, _++_}
@@ -9,69 +10,83 @@ use Rattle.recogniser.specs.declared.Request.the-variants.{Nothing, Lv1, Fast, 
 use Rattle.registers.specs.declared.Counters.{Counters}
 use Rattle.controller.specs.declared.Record.{Record}
 use Rattle.controller.specs.Commands.{sendsOf, lv1Record, lv1Counted, fastRecord, fastCounted, badFastRecord}
+use Rattle.timing.specs.declared.Earlier.{Earlier}
+use Rattle.timing.specs.TooClose.{earlierOf, flagged}
 use Rattle.decoder.specs.declared.Decoder.{Decoder}
 use Rattle.damage.specs.Commands.{widthOf, requestOf}
 use Rattle.damage.specs.CleanStreams.{Item, itemSize}
 use Rattle.damage.specs.Table.{Replacement, nothing, at, replacementOf}
 
--- The counters of a state, L1ID and the base cycle, and whether its CSR lets an LV1 be sent to the front ends.
-abbrev pub countersOf : Decoder → Counters
-countersOf d = d .model .counters
+-- What stands ahead of a command: the counters, L1ID and the base cycle, and the record before it.
+pub record Ahead : Type 0 where
+  pub counters : Counters
+  pub earlier : Earlier
 
+abbrev pub ahead : Counters → Earlier → Ahead
+ahead counters earlier = record { counters = counters; earlier = earlier }
+
+abbrev pub aheadOf : Decoder → Ahead
+aheadOf d = ahead (d .model .counters) (d .earlier)
+
+-- Whether a state's CSR lets an LV1 be sent to the front ends.
 abbrev pub sends : Decoder → Bool
 sends d = sendsOf (d .plan) (d .model)
 
--- What a request at a cycle records, RunMode on, and the counters after it. A clean or damaged stream brings no Slow command.
+-- What a request at a cycle records, RunMode on, and what then stands ahead of the next. A clean or damaged stream brings no Slow command, and no other
+-- record's flag goes by CNT.
 pub record Recording : Type 0 where
   pub records : List Record
-  pub after : Counters
+  pub after : Ahead
 
-abbrev pub recording : List Record → Counters → Recording
-recording records after = record { records = records; after = after }
+abbrev pub silence : Ahead → Recording
+silence a = record { records = []; after = a }
 
-abbrev pub recordingOf : Bool → Counters → ℕ → Request → Recording
-recordingOf sent c time Nothing = recording [] c
-recordingOf sent c time (Lv1 position) = recording (lv1Record true position sent c time ∷ []) (lv1Counted c)
-recordingOf sent c time (Fast body) = recording (fastRecord true body time ∷ []) (fastCounted body time c)
-recordingOf sent c time (BadFast body) = recording (badFastRecord body time ∷ []) c
-recordingOf sent c time (Slow slow) = recording [] c
+abbrev pub recording : Ahead → Record → Counters → Recording
+recording a r counters = record { records = flagged (a .earlier) 0 r ∷ []; after = ahead counters (earlierOf r) }
 
-abbrev pub requestRecords : Bool → Counters → ℕ → Request → List Record
-requestRecords sent c time q = recordingOf sent c time q .records
+abbrev pub recordingOf : Bool → Ahead → ℕ → Request → Recording
+recordingOf sent a time Nothing = silence a
+recordingOf sent a time (Lv1 position) = recording a (lv1Record true position sent (a .counters) time) (lv1Counted (a .counters))
+recordingOf sent a time (Fast body) = recording a (fastRecord true body time) (fastCounted body time (a .counters))
+recordingOf sent a time (BadFast body) = recording a (badFastRecord body time) (a .counters)
+recordingOf sent a time (Slow slow) = silence a
 
-abbrev pub countersAfter : Counters → ℕ → Request → Counters
-countersAfter c time q = recordingOf false c time q .after
+abbrev pub requestRecords : Bool → Ahead → ℕ → Request → List Record
+requestRecords sent a time q = recordingOf sent a time q .records
+
+abbrev pub aheadAfter : Ahead → ℕ → Request → Ahead
+aheadAfter a time q = recordingOf false a time q .after
 
 -- The cycle of a command's last bit, in a stream whose first bit is cycle n.
 abbrev pub lastCycle : ℕ → Item → ℕ
 lastCycle n i = n + i .ahead + (widthOf (i .command) - 1)
 
 -- The paper's record for one command, and for each command of a stream and no other.
-abbrev pub itemRecords : Bool → Counters → ℕ → Item → List Record
-itemRecords sent c n i = requestRecords sent c (lastCycle n i) (requestOf (i .command))
+abbrev pub itemRecords : Bool → Ahead → ℕ → Item → List Record
+itemRecords sent a n i = requestRecords sent a (lastCycle n i) (requestOf (i .command))
 
-abbrev pub itemCounters : Counters → ℕ → Item → Counters
-itemCounters c n i = countersAfter c (lastCycle n i) (requestOf (i .command))
+abbrev pub itemAhead : Ahead → ℕ → Item → Ahead
+itemAhead a n i = aheadAfter a (lastCycle n i) (requestOf (i .command))
 
-abbrev pub cleanRecords : Bool → Counters → ℕ → List Item → List Record
-cleanRecords sent c n [] = []
-cleanRecords sent c n (i ∷ is) = itemRecords sent c n i ++ cleanRecords sent (itemCounters c n i) (n + itemSize i) is
+abbrev pub cleanRecords : Bool → Ahead → ℕ → List Item → List Record
+cleanRecords sent a n [] = []
+cleanRecords sent a n (i ∷ is) = itemRecords sent a n i ++ cleanRecords sent (itemAhead a n i) (n + itemSize i) is
 
 -- What the table puts in a command's place: "The new one's time is that bit's cycle, its kind, flags and value those of 'A record', by the clean counters
--- ahead of that command." n is the cycle of the command's first bit.
-abbrev pub replacementRecords : Bool → Counters → ℕ → Replacement → List Record
-replacementRecords sent c n nothing = []
-replacementRecords sent c n (at p e) = requestRecords sent c (n + (p - 1)) e
+-- ahead of that command." n is the cycle of the command's first bit. Its flag 20 goes by the record before it in its own run (document 02, F-5).
+abbrev pub replacementRecords : Bool → Ahead → ℕ → Replacement → List Record
+replacementRecords sent a n nothing = []
+replacementRecords sent a n (at p e) = requestRecords sent a (n + (p - 1)) e
 
-abbrev pub replacementCounters : Counters → ℕ → Replacement → Counters
-replacementCounters c n nothing = c
-replacementCounters c n (at p e) = countersAfter c (n + (p - 1)) e
+abbrev pub replacementAhead : Ahead → ℕ → Replacement → Ahead
+replacementAhead a n nothing = a
+replacementAhead a n (at p e) = aheadAfter a (n + (p - 1)) e
 
 -- "The damaged records are the clean ones with the affected one replaced, or left out at 'none'."
-abbrev pub damagedRecords : Bool → Counters → ℕ → List Item → ℕ → List Record
-damagedRecords sent c n [] k = []
-damagedRecords sent c n (i ∷ is) k =
+abbrev pub damagedRecords : Bool → Ahead → ℕ → List Item → ℕ → List Record
+damagedRecords sent a n [] k = []
+damagedRecords sent a n (i ∷ is) k =
     cond (ltb k (itemSize i))
-    (replacementRecords sent c (n + i .ahead) (replacementOf i k)
-    ++ cleanRecords sent (replacementCounters c (n + i .ahead) (replacementOf i k)) (n + itemSize i) is)
-    (itemRecords sent c n i ++ damagedRecords sent (itemCounters c n i) (n + itemSize i) is (k - itemSize i))
+    (replacementRecords sent a (n + i .ahead) (replacementOf i k)
+    ++ cleanRecords sent (replacementAhead a (n + i .ahead) (replacementOf i k)) (n + itemSize i) is)
+    (itemRecords sent a n i ++ damagedRecords sent (itemAhead a n i) (n + itemSize i) is (k - itemSize i))

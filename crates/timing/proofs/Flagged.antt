@@ -17,7 +17,7 @@ use Rattle.controller.specs.Widths.{WordsFit}
 use Rattle.controller.proofs.RecordStamps.{Stamped}
 use Rattle.controller.proofs.RecordsFit.{CycleFits}
 use Rattle.timing.specs.declared.Earlier.{Earlier}
-use Rattle.timing.specs.TooClose.{isNone, tooClose, flagTooClose, flaggedCycle, earlierBelow, earlierAfter}
+use Rattle.timing.specs.TooClose.{isNone, cyclesBack, tooClose, flagged, flagTooClose, flaggedCycle, earlierBelow, earlierAfter}
 
 module _ (e : Earlier) (cnt time : ℕ) where
   pub flag-low : (r : Record) → flagTooClose (tooClose e (r .time) (r .kind) cnt) ≤ 0x20
@@ -47,3 +47,11 @@ below-next e cnt time (Recorded r) s b =
 pub byte-kind-next : (e : Earlier) (cnt time : ℕ) (c : Cycle) → Stamped time c → e .kind < 256 → earlierAfter e (flaggedCycle e cnt c) .kind < 256
 byte-kind-next e cnt time Silent s b = b
 byte-kind-next e cnt time (Recorded r) s b = s .byte-kind
+
+-- A command that is no Slow has a length of its own, whatever CNT holds.
+short-back : (kind cnt : ℕ) → kind < 0x20 → cyclesBack kind cnt ≡ cyclesBack kind 0
+short-back kind cnt h = simp (lt-ltb kind 0x20 h)
+
+pub short-flagged : (e : Earlier) (cnt : ℕ) (r : Record) → r .kind < 0x20 → flagged e cnt r ≡ flagged e 0 r
+unfolding tooClose
+short-flagged e cnt r h = rw (short-back (r .kind) cnt h)

@@ -2,9 +2,12 @@
 -- Assumes nothing.
 use mathlib.Core.List.{List, [], _∷_, _++_, map}
 use mathlib.Core.Path.{_≡_, refl}
-use Prim.Native.Nat.{ℕ}
+use Prim.Native.Nat.{ℕ, _≤_}
+use native.Mathlib.Omega.{arith}
+use lib.Dec.{eqb}
+use Rattle.bits.proofs.Truth.{cond-most}
 use Rattle.controller.specs.Records.{kindLv1, kindBadFast, kindSlow, kindBadSlow}
-use Rattle.timing.specs.Table.{kindBcr, fastKinds, table13, distances, zerosAsked}
+use Rattle.timing.specs.Table.{kindBcr, kindEcr, kindSync, isLv1Kind, asFast, fastKinds, table13, distances, zerosAsked}
 
 abbrev five : List ℕ
 five = kindLv1 ∷ fastKinds
@@ -27,3 +30,10 @@ nothing-after = refl
 -- Each counts "as a Fast when it follows".
 pub follow-as-fast : pairs zerosAsked five others ≡ pairs (λ kind next. zerosAsked kind kindBcr) five others
 follow-as-fast = refl
+
+-- No entry asks more than four zeros.
+pub asked-most : (kind next : ℕ) → zerosAsked kind next ≤ 4
+asked-most kind next =
+    cond-most (eqb kind kindBcr) (cond-most (asFast next) (omega arith) (omega arith))
+    (cond-most (eqb kind kindEcr) (cond-most (asFast next) (omega arith) (omega arith))
+    (cond-most (eqb kind kindSync) (cond-most (isLv1Kind next) (omega arith) (omega arith)) (omega arith)))

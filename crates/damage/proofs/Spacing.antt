@@ -1,0 +1,153 @@
+-- The zeros of a clean stream are enough: no record after its first command's is too close to the one before, whether that one's command is damaged or not.
+-- Assumes nothing.
+use mathlib.Core.Bool.{Bool, true, false, not, _&&_, and-false}
+use mathlib.Core.List.{List, [], _∷_, _++_}
+use mathlib.Core.Logic.{⊎-elim}
+use mathlib.Core.Path.{_≡_, _∙_, refl, sym, ap}
+use Prim.Native.Nat.{ℕ, _+_, _-_, _<_, _≤_}
+use native.Mathlib.Omega.{arith}
+use lib.Dec.{eqb, ltb, leb, T, leb→le, eqb→eq}
+use borrow.Author.Tests.{le-ltb, lt-ltb, ltb-true}
+use Rattle.bits.proofs.Truth.{clash, cases, either, or-right, cond-most, and-left, and-right}
+use Rattle.recogniser.specs.declared.Request.the-variants.{Nothing, Lv1, Fast, BadFast, Slow}
+use Rattle.controller.specs.declared.Record.{Record}
+use Rattle.controller.specs.Records.{kindFast, flagSent}
+use Rattle.timing.specs.declared.Earlier.{Earlier}
+use Rattle.timing.specs.Table.{zerosAsked}
+use Rattle.timing.specs.TooClose.{isNone, earlierBelow, cyclesBack, tooClose}
+use Rattle.timing.proofs.Distance.{without-subtraction}
+use Rattle.timing.proofs.TableWhole.{asked-most}
+use Rattle.damage.specs.Commands.{Command, lv1, bcr, ecr, cal, sync, widthOf, commandKind, requestOf}
+use Rattle.damage.specs.CleanStreams.{Item, itemSize, zerosBetween, spaced, timed}
+use Rattle.damage.specs.Table.{Replacement, nothing, at, replacementOf}
+use Rattle.damage.specs.Records.{Ahead, requestRecords, aheadAfter, lastCycle, itemAhead, cleanRecords, replacementAhead}
+use Rattle.damage.specs.Comparison.{InTime, OnlyFirst}
+use Rattle.damage.proofs.FiniteFacts.{each-at}
+use Rattle.damage.proofs.Replacements.{replacement-passes}
+
+-- A record's length is its command's.
+length-is : (c : Command) → cyclesBack (commandKind c) 0 + 1 ≡ widthOf c
+length-is = each-at (λ c. cyclesBack (commandKind c) 0 + 1) widthOf refl
+
+abbrev close : Earlier → ℕ → Item → Bool
+close e n j = tooClose e (lastCycle n j) (commandKind (j .command)) 0
+
+-- An earlier record with as many zeros behind it as are asked.
+in-time : (e : Earlier) (n : ℕ) (j : Item) → (isNone e ≡ false → e .time + zerosAsked (e .kind) (commandKind (j .command)) < n + j .ahead) → close e n j ≡ false
+in-time e n j far =
+    let kind = commandKind (j .command) in
+    let long = length-is (j .command) in
+    without-subtraction e (lastCycle n j) kind 0
+    ∙ ⊎-elim (λ none. rw none)
+    (λ some.
+    let h = far some in
+    let after = le-ltb (lastCycle n j) (e .time + (cyclesBack kind 0 + 1) + zerosAsked (e .kind) kind) (omega arith) in
+    ap (λ b. not (isNone e) && b) after ∙ and-false (not (isNone e)))
+    (cases (isNone e))
+
+-- After a command's own record.
+own-earlier : (a : Ahead) (time : ℕ) (c : Command) → aheadAfter a time (requestOf c) .earlier ≡ record { time = time; kind = commandKind c }
+own-earlier a time lv1 = refl
+own-earlier a time bcr = refl
+own-earlier a time ecr = refl
+own-earlier a time cal = refl
+own-earlier a time sync = refl
+
+module _ (a : Ahead) (n : ℕ) (i : Item) where
+  pub below-item : earlierBelow (itemAhead a n i .earlier) (n + itemSize i) ≡ true
+  below-item =
+      let long = length-is (i .command) in
+      rw (own-earlier a (lastCycle n i) (i .command))
+      (or-right (eqb (commandKind (i .command)) 0) (ltb (lastCycle n i) (n + itemSize i)) (lt-ltb (lastCycle n i) (n + itemSize i) (omega arith)))
+
+  own-in-time : (j : Item) → zerosBetween (i .command) (j .command) ≤ j .ahead → close (itemAhead a n i .earlier) (n + itemSize i) j ≡ false
+  own-in-time j asked =
+      let long = length-is (i .command) in
+      rw (own-earlier a (lastCycle n i) (i .command))
+      (in-time (record { time = lastCycle n i; kind = commandKind (i .command) }) (n + itemSize i) j (λ _. omega arith))
+
+-- What the table puts in a command's place comes at its last bit at the latest, and asks zeros only if it is the command itself. A command that it leaves
+-- out has more bits than any record asks zeros.
+abbrev givesWay : Command → Replacement → Bool
+givesWay c nothing = leb 4 (widthOf c)
+givesWay c (at p (Lv1 position)) = leb p (widthOf c)
+givesWay c (at p (BadFast body)) = leb p (widthOf c)
+givesWay c (at p (Fast body)) = leb p (widthOf c) && eqb (kindFast body) (commandKind c)
+givesWay c (at p Nothing) = false
+givesWay c (at p (Slow slow)) = false
+
+gives-way : (i : Item) (k : ℕ) → k < itemSize i → T (givesWay (i .command) (replacementOf i k))
+gives-way = replacement-passes givesWay (record { own = refl; hit = refl; near = refl })
+
+module _ (a : Ahead) (n t : ℕ) (c : Command) (below : earlierBelow (a .earlier) n ≡ true) (j : Item) (asked : zerosBetween c (j .command) ≤ j .ahead) where
+  replaced-in-time : (x : Replacement) → T (givesWay c x) → close (replacementAhead a (n + t) x .earlier) (n + (t + widthOf c)) j ≡ false
+  replaced-in-time nothing h =
+      let four = leb→le 4 (widthOf c) h in
+      let most = asked-most (a .earlier .kind) (commandKind (j .command)) in
+      in-time (a .earlier) _ j
+      (λ some. ⊎-elim (λ none. clash none some) (λ b. let low = ltb-true (a .earlier .time) n b in omega arith)
+      (either (isNone (a .earlier)) (ltb (a .earlier .time) n) below))
+  replaced-in-time (at p (Lv1 position)) h =
+      let last = leb→le p (widthOf c) h in
+      let long = length-is c in
+      in-time (record { time = n + t + (p - 1); kind = 0x01 }) _ j (λ _. omega arith)
+  replaced-in-time (at p (BadFast body)) h =
+      let last = leb→le p (widthOf c) h in
+      let long = length-is c in
+      in-time (record { time = n + t + (p - 1); kind = 0x1F }) _ j (λ _. omega arith)
+  replaced-in-time (at p (Fast body)) h =
+      let last = leb→le p (widthOf c) (and-left (leb p (widthOf c)) _ h) in
+      let same = eqb→eq (kindFast body) (commandKind c) (and-right (leb p (widthOf c)) _ h) in
+      let long = length-is c in
+      in-time (record { time = n + t + (p - 1); kind = kindFast body }) _ j (λ _. rw same (omega arith))
+  replaced-in-time (at p Nothing) h = absurd h
+  replaced-in-time (at p (Slow slow)) h = absurd h
+
+-- The next record is flagged alike after both, as it is after neither.
+abbrev pub Alike : Earlier → Earlier → ℕ → List Item → Type 0
+Alike e f n [] = Unit {0}
+Alike e f n (j ∷ js) = close e n j ≡ close f n j
+
+pub alike-same : (e : Earlier) (n : ℕ) (is : List Item) → Alike e e n is
+alike-same e n [] = tt
+alike-same e n (j ∷ js) = refl
+
+asked-ahead : (c : Command) (j : Item) (js : List Item) → T (spaced c (j ∷ js)) → zerosBetween c (j .command) ≤ j .ahead
+asked-ahead c j js h = leb→le (zerosBetween c (j .command)) (j .ahead) (and-left (leb (zerosBetween c (j .command)) (j .ahead)) _ h)
+
+pub alike-next : (a : Ahead) (n : ℕ) (i : Item) (k : ℕ) → k < itemSize i → earlierBelow (a .earlier) n ≡ true → (is : List Item) → T (spaced (i .command) is)
+    → Alike (itemAhead a n i .earlier) (replacementAhead a (n + i .ahead) (replacementOf i k) .earlier) (n + itemSize i) is
+alike-next a n i k inside below [] h = tt
+alike-next a n i k inside below (j ∷ js) h =
+    let asked = asked-ahead (i .command) j js h in
+    own-in-time a n i j asked ∙ sym (replaced-in-time a n (i .ahead) (i .command) below j asked (replacementOf i k) (gives-way i k inside))
+
+-- Only the first record of a clean stream can be flagged.
+module _ (sent : Bool) where
+  sent-low : flagSent sent ≤ 4
+  sent-low = cond-most sent (omega arith) (omega arith)
+
+  one-in-time : (a : Ahead) (time : ℕ) (c : Command) (rest : List Record) → tooClose (a .earlier) time (commandKind c) 0 ≡ false → InTime rest
+      → InTime (requestRecords sent a time (requestOf c) ++ rest)
+  one-in-time a time lv1 rest e r = (let low = sent-low in rw e (omega arith), r)
+  one-in-time a time bcr rest e r = (rw e, r)
+  one-in-time a time ecr rest e r = (rw e, r)
+  one-in-time a time cal rest e r = (rw e, r)
+  one-in-time a time sync rest e r = (rw e, r)
+
+  after-item : (a : Ahead) (n : ℕ) (i : Item) (is : List Item) → T (spaced (i .command) is) → InTime (cleanRecords sent (itemAhead a n i) (n + itemSize i) is)
+  after-item a n i [] h = tt
+  after-item a n i (j ∷ js) h =
+      one-in-time (itemAhead a n i) (lastCycle (n + itemSize i) j) (j .command) _ (own-in-time a n i j (asked-ahead (i .command) j js h))
+      (after-item (itemAhead a n i) (n + itemSize i) j js (and-right (leb (zerosBetween (i .command) (j .command)) (j .ahead)) _ h))
+
+  first-of : (a : Ahead) (time : ℕ) (c : Command) (rest : List Record) → InTime rest → OnlyFirst (requestRecords sent a time (requestOf c) ++ rest)
+  first-of a time lv1 rest r = r
+  first-of a time bcr rest r = r
+  first-of a time ecr rest r = r
+  first-of a time cal rest r = r
+  first-of a time sync rest r = r
+
+  pub only-first : (a : Ahead) (n : ℕ) (is : List Item) → T (timed is) → OnlyFirst (cleanRecords sent a n is)
+  only-first a n [] h = tt
+  only-first a n (i ∷ is) h = first-of a (lastCycle n i) (i .command) _ (after-item a n i is h)
