@@ -7,6 +7,7 @@ use Rattle.registers.specs.Plan.{planFits}
 use Rattle.registers.specs.Sound.{everyFrom, pointersFit, missingZero}
 use Rattle.registers.specs.Fifos.{writeOf}
 use Rattle.controller.specs.Commands.{actOf}
+use Rattle.timing.specs.TooClose.{tooClose}
 use Rattle.decoder.specs.Fit.{fitOf}
 use Rattle.decoder.specs.Sound.{soundOf}
 use Rattle.calls.specs.Turn.{turnOf}
@@ -15,7 +16,7 @@ use Rattle.image.specs.Image.{imageOf, stateOf}
 use Rattle.effect_examples.specs.EffectExamples.{EffectExamples}
 
 pub effect-examples : EffectExamples
-unfolding stepOf fitOf trayOf planFits everyFrom pointersFit missingZero writeOf actOf soundOf turnOf takenOf takeOf imageOf stateOf
+unfolding stepOf fitOf trayOf planFits everyFrom pointersFit missingZero writeOf actOf tooClose soundOf turnOf takenOf takeOf imageOf stateOf
 effect-examples =
     record {
       registers-give = record { counted = refl; given = refl };

@@ -2,13 +2,13 @@
 -- Assumes nothing.
 use mathlib.Core.List.{List, [], _∷_, _++_}
 use Rattle.worked_examples.specs.CommandBits.{line, field, slow, wrRegister, rdRegister, globalResetMcc}
-use Rattle.worked_examples.specs.Cells.{Cell, wordsFrom, mask, csr, feen, cnt, wlv1, wfst, wslw, register}
+use Rattle.worked_examples.specs.Cells.{Cell, registers, mask, csr, feen, cnt, wlv1, wfst, wslw, register}
 use Rattle.worked_examples.specs.Example.{Row, row, done}
 
 -- All 16 registers with numbers.
 abbrev allSixteen : List Cell
 allSixteen =
-    wordsFrom 20
+    registers
     (0x10A0 ∷ 0x10A1 ∷ 0x10A2 ∷ 0x10A3 ∷ 0x10A4 ∷ 0x10A5 ∷ 0x10A6 ∷ 0x10A7
     ∷ 0x10A8 ∷ 0x10A9 ∷ 0x10AA ∷ 0x10AB ∷ 0x10AC ∷ 0x10AD ∷ 0x10AE ∷ 0x10AF ∷ [])
 

@@ -6,6 +6,7 @@ use Rattle.frames.specs.Tray.{trayOf}
 use Rattle.registers.specs.Plan.{planFits}
 use Rattle.registers.specs.Sound.{everyFrom, pointersFit, missingZero}
 use Rattle.controller.specs.Commands.{actOf}
+use Rattle.timing.specs.TooClose.{tooClose}
 use Rattle.decoder.specs.Fit.{fitOf}
 use Rattle.decoder.specs.Opening.{openOf}
 use Rattle.decoder.specs.Sound.{soundOf}
@@ -39,5 +40,5 @@ host-buffers =
     }
 
 pub host-examples : HostExamples
-unfolding stepOf fitOf trayOf planFits everyFrom pointersFit missingZero actOf soundOf turnOf takenOf takeOf imageOf stateOf imageFits takeResultOf
+unfolding stepOf fitOf trayOf planFits everyFrom pointersFit missingZero actOf tooClose soundOf turnOf takenOf takeOf imageOf stateOf imageFits takeResultOf
 host-examples = record { hosts-give = record { counted = refl; given = refl }; image = host-image; buffers = host-buffers }

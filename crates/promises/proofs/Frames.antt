@@ -28,6 +28,7 @@ use Rattle.controller.specs.Records.{headOf, kindOf, kindSlow, flagUnsteady, fr
 use Rattle.controller.specs.Commands.{frameValueOf}
 use Rattle.controller.specs.Widths.{ModelFits}
 use Rattle.controller.proofs.EffectKeeps.{model-fits}
+use Rattle.timing.specs.TooClose.{tooClose, flagTooClose}
 use Rattle.calls.specs.Run.{stateAfter, wordsAfter}
 use Rattle.calls.specs.Turn.{System, decoderOf, cntAt, transitionOf, turnOf}
 use Rattle.calls.specs.Take.{CallResult, offered}
@@ -164,7 +165,7 @@ module _ (s : System) (ps : List Part) (command address : ℕ) (before field : L
   taken = subst (Taken field) (sym (r .begins)) (taken-from field (r .some) (r .whole) bits-are (eqb command 6) refl)
 
   abbrev head : ℕ
-  head = headOf (frameRecord (taken .time) command (unsteadyIn command field) (cntAt (here .machine)))
+  head = headOf (frameRecord (here .machine .earlier) (taken .time) command (unsteadyIn command field) (cntAt (here .machine)))
 
   abbrev value : ℕ
   value = frameValueOf command (cntAt (here .machine))
@@ -175,11 +176,20 @@ module _ (s : System) (ps : List Part) (command address : ℕ) (before field : L
   low : command < 7
   low = omega (arith, leb-true command 6 (both (leb 4 command) (leb command 6) (r .frame) .1))
 
-  flags : flagUnsteady (unsteadyIn command field) ≤ 16
-  flags = cond-most (unsteadyIn command field) (omega arith) (omega arith)
+  unsteady-low : flagUnsteady (unsteadyIn command field) ≤ 16
+  unsteady-low = cond-most (unsteadyIn command field) (omega arith) (omega arith)
+
+  abbrev close : Bool
+  close = tooClose (here .machine .earlier) (taken .time) (kindSlow command) (cntAt (here .machine))
+
+  close-low : flagTooClose close ≤ 32
+  close-low = cond-most close (omega arith) (omega arith)
+
+  time-is : head / 65536 ≡ taken .time
+  time-is = omega (arith, low, unsteady-low, close-low)
 
   kind-is : kindOf head ≡ kindSlow command
-  kind-is = omega (arith, low, flags)
+  kind-is = omega (arith, low, unsteady-low, close-low)
 
   count-is : countOf head value ≡ length (frameBitsIn command field)
   count-is = ap (λ k. frameBitsOf k value) kind-is ∙ sym (fits .long)
@@ -210,8 +220,8 @@ module _ (s : System) (ps : List Part) (command address : ℕ) (before field : L
     written = carried-words s ps ∙ ap (wordsAfter turnOf s) (r .took) ∙ words-append turnOf s before field
         ∙ ap (λ words. wordsAfter turnOf s before ++ words) (taken .words);
     kind = kind-is;
-    flags = omega (arith, flags);
-    time = omega (arith, low, flags, taken .last-bit, ahead .next);
+    flags = rw (time-is, kind-is) (omega (arith, unsteady-low, close-low));
+    time = omega (arith, time-is, taken .last-bit, ahead .next);
     count = rw kind-is (counts .cycles ∙ sym (r .whole));
     bytes = holds .long ∙ ap (λ n. (n + 7) / 8) (sym count-is);
     bits = holds .bits;

@@ -184,6 +184,7 @@ state-damage d w clean damaged items trailing k r =
     }) in
     record {
       clean-words = same-words clean d w ∙ wrote .clean-words;
+      only-first = wrote .only-first;
       damaged-words = same-words damaged d w ∙ wrote .damaged-words;
       replaced = wrote .replaced;
     }

@@ -4,6 +4,7 @@ use mathlib.Core.Path.{refl}
 use Rattle.recogniser.specs.Step.{stepOf}
 use Rattle.registers.specs.Plan.{planFits}
 use Rattle.controller.specs.Commands.{actOf}
+use Rattle.timing.specs.TooClose.{tooClose}
 use Rattle.decoder.specs.Opening.{openOf}
 use Rattle.calls.specs.Turn.{turnOf}
 use Rattle.hexlines.specs.Line.{lineMeaning}
@@ -17,7 +18,7 @@ use Rattle.program.proofs.Turns.{turns-print}
 use Rattle.promises.specs.Programs.{ProgramPromise}
 
 pub program-promise : ProgramPromise
-unfolding stepOf planFits actOf openOf turnOf lineMeaning linesFrom linesRead charactersOf numbersLine recordText bitsText listingOf stateLines programOf
+unfolding stepOf planFits actOf tooClose openOf turnOf lineMeaning linesFrom linesRead charactersOf numbersLine recordText bitsText listingOf stateLines programOf
 program-promise = record {
   as-read = λ prints store tray out input turns long wide o i. turns-print prints store tray out input long wide i o turns;
   listing = refl;

@@ -1,4 +1,5 @@
--- The third demand: one claim about two lists of taking calls, a clean run and the same bits with one inverted (document 01, "The damage table").
+-- The third demand: one claim about two lists of taking calls, a clean run and the same bits with one inverted (document 01, "The damage table";
+-- document 02, F-1 and F-5).
 -- Assumes nothing.
 use mathlib.Core.Path.{_≡_}
 use mathlib.Core.Bool.{true}
@@ -14,8 +15,8 @@ use Rattle.controller.specs.Records.{recordWords}
 use Rattle.calls.specs.Take.{Call}
 use Rattle.calls.specs.Calls.{allBits, allWords}
 use Rattle.damage.specs.CleanStreams.{Item, streamBits, timed, inverted}
-use Rattle.damage.specs.Records.{countersOf, sends, cleanRecords, damagedRecords}
-use Rattle.damage.specs.Comparison.{Replaced}
+use Rattle.damage.specs.Records.{aheadOf, sends, cleanRecords, damagedRecords}
+use Rattle.damage.specs.Comparison.{OnlyFirst, Replaced}
 
 -- Any sound state in RunMode, hunting, window 00000; a clean stream; and a bit of it.
 pub record Stream (d : Decoder) (items : List Item) (trailing k : ℕ) : Type 0 where
@@ -32,14 +33,16 @@ pub record Runs (d : Decoder) (clean damaged : List ℕ) (items : List Item) (tr
   pub took-clean : clean ≡ streamBits items trailing
   pub took-damaged : damaged ≡ inverted k (streamBits items trailing)
 
--- Their words. The clean run has written the paper's record for each command and no other. The damaged run has written exactly these but for the affected
--- one, which is exactly the damage table's (`damagedRecords`), with the position of document 02, F-1; in the paper's words (`Replaced`), the trigger
--- numbers differ at most after the affected command up to the first ECR after it, the bunch numbers up to the first BCR, and nowhere if no command is
--- affected. The positions of unaffected LV1s agree everywhere.
+-- Their words. The clean run has written the paper's record for each command and no other, and only the first can have flag 20, by the state's earlier
+-- record. The damaged run has written exactly these but for the affected one, which is exactly the damage table's (`damagedRecords`), with the position of
+-- document 02, F-1, and the flag of F-5 by the record before it; in the paper's words (`Replaced`), the trigger numbers differ at most after the affected
+-- command up to the first ECR after it, the bunch numbers up to the first BCR, and nowhere if no command is affected. The positions of unaffected LV1s and
+-- the flags of unaffected records agree everywhere.
 pub record Wrote (d : Decoder) (clean damaged : List ℕ) (items : List Item) (k : ℕ) : Type 0 where
-  pub clean-words : clean ≡ recordWords (cleanRecords (sends d) (countersOf d) (d .next) items)
-  pub damaged-words : damaged ≡ recordWords (damagedRecords (sends d) (countersOf d) (d .next) items k)
-  pub replaced : Replaced (sends d) (countersOf d) (d .next) items k (damagedRecords (sends d) (countersOf d) (d .next) items k)
+  pub clean-words : clean ≡ recordWords (cleanRecords (sends d) (aheadOf d) (d .next) items)
+  pub only-first : OnlyFirst (cleanRecords (sends d) (aheadOf d) (d .next) items)
+  pub damaged-words : damaged ≡ recordWords (damagedRecords (sends d) (aheadOf d) (d .next) items k)
+  pub replaced : Replaced (sends d) (aheadOf d) (d .next) items k (damagedRecords (sends d) (aheadOf d) (d .next) items k)
 
 -- Any cuts, any buffers, refused calls included.
 abbrev pub ThirdDemand : Type 0

@@ -15,6 +15,7 @@ use Rattle.recogniser.specs.Fields.{isFrame, lengthOf}
 use Rattle.frames.specs.Tray.{partOf}
 use Rattle.controller.specs.Records.{kindOf, kindSlow, flagActed, flagUnsteady, frameBitsOf}
 use Rattle.controller.specs.Widths.{ModelFits}
+use Rattle.timing.specs.TooClose.{tooClose, flagTooClose}
 use Rattle.calls.specs.Run.{stateAfter, wordsAfter}
 use Rattle.calls.specs.Turn.{System, cntAt, turnOf}
 use Rattle.calls.specs.Calls.{Part, carriedBits, carriedWords, carriedSystem}
@@ -50,15 +51,21 @@ countOf head value = frameBitsOf (kindOf head) value
 abbrev pub handedBack : List ℕ → ℕ → ℕ → List ℕ
 handedBack tray head value = partOf tray (countOf head value)
 
--- Behind the records of the bits ahead of Field 5 the calls write one, the frame's, with the time of its last bit, flag 10 where a group was unsteady, and
--- the count of its bits. The part handed back has as many bytes as they need; each of its bits, "highest bit first", is the frame's at that place, and 0
+-- Whether a record behind some bits, of which its first word is at hand, is too close to the last one of those bits (document 02, F-5).
+abbrev pub closeBehind : System → List ℕ → ℕ → Bool
+closeBehind s before head =
+    let m = stateAfter turnOf s before .machine in
+    tooClose (m .earlier) (head / 65536) (kindOf head) (cntAt m)
+
+-- Behind the records of the bits ahead of Field 5 the calls write one, the frame's, with the time of its last bit, flag 10 where a group was unsteady, flag
+-- 20 where it is too close to the record before, and the count of its bits. The part handed back has as many bytes as they need; each of its bits, "highest bit first", is the frame's at that place, and 0
 -- beyond the frame's last.
 pub record HandsBack (s : System) (words tray : List ℕ) (command : ℕ) (before field : List ℕ) : Type 0 where
   pub head : ℕ
   pub value : ℕ
   pub written : words ≡ wordsAfter turnOf s before ++ (head ∷ value ∷ [])
   pub kind : kindOf head ≡ kindSlow command
-  pub flags : head % 256 ≡ flagActed true + flagUnsteady (unsteadyIn command field)
+  pub flags : head % 256 ≡ flagActed true + flagUnsteady (unsteadyIn command field) + flagTooClose (closeBehind s before head)
   pub time : head / 65536 + 1 ≡ s .machine .next + length before + length field
   pub count : countOf head value * cyclesEach command ≡ length field
   pub bytes : length (handedBack tray head value) ≡ (countOf head value + 7) / 8

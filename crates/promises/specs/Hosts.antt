@@ -45,13 +45,13 @@ pub record ByWidths (image : List ℕ) : Type 0 where
   pub only : imageFits image ≡ true → Formed image
   pub all : Formed image → imageFits image ≡ true
 
--- The image in numbers, as the header has it: 68 words, layout 2, and what each word behind the layout's number may be.
+-- The image in numbers, as the header has it: 70 words, layout 3, and what each word behind the layout's number may be.
 pub record LayoutInNumbers : Type 0 where
-  pub length-is : imageLength ≡ 68
-  pub layout-is : layout ≡ 2
+  pub length-is : imageLength ≡ 70
+  pub layout-is : layout ≡ 3
   pub limits-are : wordLimits
       ≡ bits 16 ∷ bits 8 ∷ bits 8 ∷ bits 8 ∷ whole ∷ upTo 4 ∷ bits 8 ∷ bits 8 ∷ bits 8 ∷ bits 32 ∷ bits 32 ∷ bits 8 ∷ upTo 1
-      ∷ upTo 1 ∷ bits 8 ∷ whole ∷ upTo 1 ∷ upTo 1 ∷ upTo 1
+      ∷ upTo 1 ∷ bits 8 ∷ whole ∷ upTo 1 ∷ upTo 1 ∷ upTo 1 ∷ whole ∷ bits 8
       ∷ (replicate 16 (bits 16) ++ (replicate 16 (bits 8) ++ replicate 16 (bits 8)))
 
 pub record HostPromise : Type 0 where

@@ -7,6 +7,7 @@ use Rattle.registers.specs.Plan.{planFits}
 use Rattle.registers.specs.Sound.{everyFrom, pointersFit, missingZero}
 use Rattle.registers.specs.Fifos.{writeOf}
 use Rattle.controller.specs.Commands.{actOf}
+use Rattle.timing.specs.TooClose.{tooClose}
 use Rattle.decoder.specs.Fit.{fitOf}
 use Rattle.decoder.specs.Sound.{soundOf}
 use Rattle.calls.specs.Turn.{turnOf}
@@ -18,7 +19,7 @@ pub window-examples : WindowExamples
 window-examples = record { listed = record { counted = refl; given = refl }; near = record { counted = refl; given = refl } }
 
 pub taking-examples : TakingExamples
-unfolding stepOf fitOf trayOf planFits everyFrom pointersFit missingZero writeOf actOf soundOf turnOf takenOf takeOf imageOf stateOf
+unfolding stepOf fitOf trayOf planFits everyFrom pointersFit missingZero writeOf actOf tooClose soundOf turnOf takenOf takeOf imageOf stateOf
 taking-examples =
     record {
       marked = record { counted = refl; given = refl };

@@ -80,27 +80,37 @@ wfst n = cell (image-at 18) n
 abbrev pub wslw : ℕ → Cell
 wslw n = cell (image-at 19) n
 
+-- The record before: its time and its kind, 0 for none.
+abbrev pub earlierTime : ℕ → Cell
+earlierTime n = cell (image-at 20) n
+
+abbrev pub earlierKind : ℕ → Cell
+earlierKind n = cell (image-at 21) n
+
 -- The registers and the FIFOs' pointers, 16 of each.
 abbrev pub register : ℕ → ℕ → Cell
-register address n = cell (image-at (20 + address)) n
+register address n = cell (image-at (22 + address)) n
 
 abbrev pub writePointer : ℕ → ℕ → Cell
-writePointer fifo n = cell (image-at (36 + fifo)) n
+writePointer fifo n = cell (image-at (38 + fifo)) n
 
 abbrev pub readPointer : ℕ → ℕ → Cell
-readPointer fifo n = cell (image-at (52 + fifo)) n
+readPointer fifo n = cell (image-at (54 + fifo)) n
 
 -- Words of the image from a place on.
 abbrev pub wordsFrom : ℕ → List ℕ → List Cell
 wordsFrom at [] = []
 wordsFrom at (n ∷ ns) = cell (image-at at) n ∷ wordsFrom (1 + at) ns
 
--- The pointers of FIFO 0 on.
+-- The registers from address 0 on, and the pointers of FIFO 0 on.
+abbrev pub registers : List ℕ → List Cell
+registers ns = wordsFrom 22 ns
+
 abbrev pub writePointers : List ℕ → List Cell
-writePointers ns = wordsFrom 36 ns
+writePointers ns = wordsFrom 38 ns
 
 abbrev pub readPointers : List ℕ → List Cell
-readPointers ns = wordsFrom 52 ns
+readPointers ns = wordsFrom 54 ns
 
 -- "FIFO n from word 128 × n"
 abbrev pub word : ℕ → ℕ → ℕ → Cell

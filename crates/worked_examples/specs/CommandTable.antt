@@ -24,12 +24,12 @@ table =
     ∷ row [] (line "11100 11111 11001 10101 01101") (done 25 5)
     (0x040102 ∷ 0x00050000 ∷ 0x090102 ∷ 0x00040000 ∷ 0x0E0102 ∷ 0x00030000 ∷ 0x130102 ∷ 0x00020000 ∷ 0x180102 ∷ 0x00010000 ∷ [])
     (l1id 0 ∷ wlv1 1 ∷ [])
-    -- "10 + body for a Fast": BCR, ECR, CAL, SYNC
+    -- "10 + body for a Fast": BCR, ECR, CAL, SYNC; two of them too close, flag 20
     ∷ row (runMode 1 ∷ []) (bcr ++ (ecr ++ (cal ++ sync))) (done 36 4)
-    (0x081101 ∷ 0 ∷ 0x111201 ∷ 0 ∷ 0x1A1401 ∷ 0 ∷ 0x231801 ∷ 0 ∷ [])
+    (0x081101 ∷ 0 ∷ 0x111221 ∷ 0 ∷ 0x1A1421 ∷ 0 ∷ 0x231801 ∷ 0 ∷ [])
     (runMode 1 ∷ wfst 0 ∷ [])
     ∷ row [] (bcr ++ (ecr ++ (cal ++ sync))) (done 36 4)
-    (0x081100 ∷ 0 ∷ 0x111200 ∷ 0 ∷ 0x1A1400 ∷ 0 ∷ 0x231800 ∷ 0 ∷ [])
+    (0x081100 ∷ 0 ∷ 0x111220 ∷ 0 ∷ 0x1A1420 ∷ 0 ∷ 0x231800 ∷ 0 ∷ [])
     (runMode 0 ∷ wfst 0 ∷ [])
     -- "any other a bad Fast", kind 1F, never acted on; the value is "its body"
     ∷ row (runMode 1 ∷ [])
@@ -40,7 +40,7 @@ table =
     (runMode 1 ∷ wlv1 0 ∷ wfst 1 ∷ wslw 0 ∷ [])
     ∷ row [] (line "10110 0000") (done 9 1) (0x081F00 ∷ 0 ∷ []) (wfst 1 ∷ [])
     -- "1101 straight after a command is an LV1 with flip", its first bit the cleared window's; the bunch number counts from the BCR
-    ∷ row (runMode 1 ∷ []) (bcr ++ line "1101") (done 13 2) (0x081101 ∷ 0 ∷ 0x0C0107 ∷ 0x00010004 ∷ []) []
+    ∷ row (runMode 1 ∷ []) (bcr ++ line "1101") (done 13 2) (0x081101 ∷ 0 ∷ 0x0C0127 ∷ 0x00010004 ∷ []) []
     -- and straight after an opening
     ∷ row [] (line "1101") (done 4 1) (0x030102 ∷ 0x00010000 ∷ []) []
     -- "20 + Field 3 for a Slow"; EnDataTake starts RunMode with its last bit, whatever Field 4 is

@@ -22,9 +22,9 @@ pub record Buffers : Type 0 where
 abbrev pub buffers : List ℕ → List ℕ → List ℕ → Buffers
 buffers image store tray = record { image = image; store = store; tray = tray }
 
--- The default opening at cycle 0: layout 2, mask 07FF, CSR 0, FEEN 2, CNT 5, and all else 0. Zeros in the store and the tray.
+-- The default opening at cycle 0: layout 3, mask 07FF, CSR 0, FEEN 2, CNT 5, and all else 0. Zeros in the store and the tray.
 abbrev pub opening : Buffers
-opening = buffers (2 ∷ 0x07FF ∷ 0 ∷ 2 ∷ 5 ∷ replicate 63 0) (replicate 2048 0) (replicate 8192 0)
+opening = buffers (3 ∷ 0x07FF ∷ 0 ∷ 2 ∷ 5 ∷ replicate 65 0) (replicate 2048 0) (replicate 8192 0)
 
 abbrev pub put : Place → ℕ → Buffers → Buffers
 put (image-at at) n b = buffers (set (b .image) at n) (b .store) (b .tray)

@@ -1,9 +1,10 @@
--- Which states are sound, number 3 where they are not (document 01, "A taking call", the paragraph below the refusal table; document 02, F-4).
+-- Which states are sound, number 3 where they are not (document 01, "A taking call", the paragraph below the refusal table; document 02, F-4 and
+-- F-5).
 -- Assumes nothing.
 use mathlib.Core.List.{List, [], _∷_, _++_}
 use lib.ListN.{replicate}
 use Rattle.worked_examples.specs.Cells.{Cell, mask, csr, feen, cnt, next, phase, shift, command, address, count, held, group, unsteady}
-use Rattle.worked_examples.specs.Cells.{wordsFrom, runMode, base, register, writePointer, writePointers, readPointer, readPointers}
+use Rattle.worked_examples.specs.Cells.{registers, runMode, base, earlierTime, earlierKind, register, writePointer, writePointers, readPointer, readPointers}
 use Rattle.worked_examples.specs.Example.{Row, row, done, refused}
 
 -- A call that is offered no bits: it is 'done', or number 3.
@@ -29,6 +30,13 @@ table =
     ∷ unsound (next 0x1000000000001 ∷ [])
     ∷ sound (next 5 ∷ base 5 ∷ [])
     ∷ unsound (next 5 ∷ base 6 ∷ [])
+    -- document 02, F-5: "a sound state has that time", the earlier record's, "below its next cycle"; where there is none, nothing is asked
+    ∷ sound (next 5 ∷ earlierTime 4 ∷ earlierKind 0x01 ∷ [])
+    ∷ unsound (next 5 ∷ earlierTime 5 ∷ earlierKind 0x01 ∷ [])
+    ∷ unsound (earlierKind 0x01 ∷ [])
+    ∷ sound (next 5 ∷ earlierTime 0xFFFFFFFFFFFFFFFF ∷ [])
+    ∷ sound (next 0x1000000000000 ∷ earlierTime 0xFFFFFFFFFFFF ∷ earlierKind 0xFF ∷ [])
+    ∷ unsound (next 0x1000000000000 ∷ earlierTime 0xFFFFFFFFFFFFFFFF ∷ earlierKind 0x18 ∷ [])
     -- "pointers are below 128"
     ∷ sound (writePointers (replicate 16 127) ++ readPointers (replicate 16 127))
     ∷ unsound (writePointer 0 128 ∷ []) ∷ unsound (writePointer 1 128 ∷ []) ∷ unsound (writePointer 2 128 ∷ []) ∷ unsound (writePointer 3 128 ∷ [])
@@ -40,10 +48,10 @@ table =
     ∷ unsound (readPointer 8 128 ∷ []) ∷ unsound (readPointer 9 128 ∷ []) ∷ unsound (readPointer 10 128 ∷ []) ∷ unsound (readPointer 11 128 ∷ [])
     ∷ unsound (readPointer 12 128 ∷ []) ∷ unsound (readPointer 13 128 ∷ []) ∷ unsound (readPointer 14 128 ∷ []) ∷ unsound (readPointer 15 128 ∷ [])
     -- "missing registers hold 0"
-    ∷ sound (wordsFrom 20 (replicate 11 0xFFFF))
+    ∷ sound (registers (replicate 11 0xFFFF))
     ∷ unsound (register 11 1 ∷ []) ∷ unsound (register 12 1 ∷ []) ∷ unsound (register 13 1 ∷ []) ∷ unsound (register 14 1 ∷ [])
     ∷ unsound (register 15 0x8000 ∷ [])
-    ∷ sound (mask 0x007F ∷ wordsFrom 20 (replicate 7 0xFFFF))
+    ∷ sound (mask 0x007F ∷ registers (replicate 7 0xFFFF))
     ∷ unsound (mask 0x007F ∷ register 7 1 ∷ []) ∷ unsound (mask 0x007F ∷ register 8 1 ∷ [])
     ∷ unsound (mask 0x007F ∷ register 9 1 ∷ []) ∷ unsound (mask 0x007F ∷ register 10 1 ∷ [])
     -- "RunMode is off inside a Slow command"

@@ -9,7 +9,7 @@ abbrev running : List Cell
 running = runMode 1 ∷ []
 
 -- A record is "time × 65,536 + kind × 256 + flags, then a value". "Exact at t" is kind 01 with flags 05, "flip at t" with flags 07; the value of both is
--- the position × 65,536, the trigger number × 256 and the bunch number, which is t.
+-- the position × 65,536, the trigger number × 256 and the bunch number, which is t. The second of 111011101 is too close, flag 20 (document 02, F-5).
 abbrev pub table : List Row
 table =
     row running (line "11101") (done 5 1) (0x040105 ∷ 0x0004 ∷ []) []
@@ -17,7 +17,7 @@ table =
     ∷ row running (line "000111101") (done 9 1) (0x080105 ∷ 0x0008 ∷ []) []
     ∷ row running (line "11110") (done 5 0) [] []
     ∷ row running (line "1110111101") (done 10 2) (0x040105 ∷ 0x0004 ∷ 0x090105 ∷ 0x0109 ∷ []) []
-    ∷ row running (line "111011101") (done 9 2) (0x040105 ∷ 0x0004 ∷ 0x080107 ∷ 0x00010108 ∷ []) []
+    ∷ row running (line "111011101") (done 9 2) (0x040105 ∷ 0x0004 ∷ 0x080127 ∷ 0x00010108 ∷ []) []
     ∷ row running (line "101100001") (done 9 1) (0x081101 ∷ 0 ∷ []) []
     ∷ row running (line "101101001") (done 9 1) (0x081F00 ∷ 9 ∷ []) []
     ∷ row running (line "101110100") (done 9 1) (0x060105 ∷ 0x0006 ∷ []) []

@@ -25,7 +25,7 @@ pub record TakingExamples : Type 0 where
   pub marked : MarkedStreams
   pub chip-gives : Gives 80 chip.table
   pub commands-give : Gives 31 commands.table
-  pub sound-gives : Gives 123 sound.table
+  pub sound-gives : Gives 129 sound.table
   pub calls-give : Table calls.callShown calls.callExpected 28 calls.table
   pub ranges-give : Table ranges.rangeShown ranges.rangeExpected 18 ranges.table
   pub before-gives : Table ranges.beforeShown ranges.rangeExpected 6 ranges.beforeTable
