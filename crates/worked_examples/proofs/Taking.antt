@@ -25,6 +25,7 @@ taking-examples =
       marked = record { counted = refl; given = refl };
       chip-gives = record { counted = refl; given = refl };
       commands-give = record { counted = refl; given = refl };
+      timing-gives = record { counted = refl; given = refl };
       sound-gives = record { counted = refl; given = refl };
       calls-give = record { counted = refl; given = refl };
       ranges-give = record { counted = refl; given = refl };

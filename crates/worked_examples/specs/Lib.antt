@@ -6,6 +6,7 @@ pub mod WindowTable
 pub mod StreamTable
 pub mod ChipTable
 pub mod CommandTable
+pub mod TimingTable
 pub mod SoundTable
 pub mod CallTable
 pub mod RangeTable

@@ -7,6 +7,7 @@ use Rattle.worked_examples.specs.WindowTable as windows
 use Rattle.worked_examples.specs.StreamTable as streams
 use Rattle.worked_examples.specs.ChipTable as chip
 use Rattle.worked_examples.specs.CommandTable as commands
+use Rattle.worked_examples.specs.TimingTable as timing
 use Rattle.worked_examples.specs.SoundTable as sound
 use Rattle.worked_examples.specs.CallTable as calls
 use Rattle.worked_examples.specs.RangeTable as ranges
@@ -25,6 +26,7 @@ pub record TakingExamples : Type 0 where
   pub marked : MarkedStreams
   pub chip-gives : Gives 80 chip.table
   pub commands-give : Gives 31 commands.table
+  pub timing-gives : Gives 39 timing.table
   pub sound-gives : Gives 129 sound.table
   pub calls-give : Table calls.callShown calls.callExpected 28 calls.table
   pub ranges-give : Table ranges.rangeShown ranges.rangeExpected 18 ranges.table
