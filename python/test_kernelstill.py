@@ -625,7 +625,7 @@ class TooClose(unittest.TestCase):
 
     def test_listing(self):
         """As docs/USING.md shows it: one way to be too close a line."""
-        decoder, lines = Decoder(), ("B5C000", "B0AC20", "B15900", "B40E80", "EE80", "B0AD7000")
+        decoder, lines = Decoder(), ("B5C000", "B0AC20", "B15900", "B40E80", "EE80", "B0AD740A")
         records = [record for line in lines for record in decoder.take(hex_line(line))]
         expected = (
             "000000000010 28 01 00000000\n"
@@ -638,7 +638,7 @@ class TooClose(unittest.TestCase):
             "000000000064 01 05 0000013A\n"
             "000000000068 01 27 0001023E\n"
             "000000000078 11 01 00000000\n"
-            "00000000008A 28 21 00000000\n"
+            "00000000008E 2A 21 0000000B\n"
         )
         self.assertEqual(listing(records), expected)
 
