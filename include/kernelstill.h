@@ -33,10 +33,10 @@ extern "C" {
 #endif
 
 /* The version; CHANGES.md says what each one holds. */
-#define KERNELSTILL_VERSION "1.5.0"
+#define KERNELSTILL_VERSION "1.6.0"
 
 /* The elements of each slice, and the limits of a call. */
-#define KERNELSTILL_IMAGE_WORDS 68       /* the state, exactly */
+#define KERNELSTILL_IMAGE_WORDS 70       /* the state, exactly */
 #define KERNELSTILL_STORE_WORDS 2048     /* the FIFO words, exactly */
 #define KERNELSTILL_TRAY_BYTES 8192      /* the frame bits, exactly */
 #define KERNELSTILL_RESULT_WORDS 3       /* the result of a taking call, exactly */
@@ -100,12 +100,22 @@ extern "C" {
 #define KERNELSTILL_LV1_L1ID(value) ((value) >> 8 & 0xFF) /* the trigger number */
 #define KERNELSTILL_LV1_BUNCH(value) ((value) & 0xFF)     /* the bunch number */
 
-/* The flags of a record, added up. */
-#define KERNELSTILL_FLAG_ACTED 0x01    /* acted on */
-#define KERNELSTILL_FLAG_FLIP 0x02     /* an LV1 with flip: its position is not 0 */
-#define KERNELSTILL_FLAG_SENT 0x04     /* sent to the front ends */
-#define KERNELSTILL_FLAG_MISSING 0x08  /* a missing register */
-#define KERNELSTILL_FLAG_UNSTEADY 0x10 /* a front-end group was unsteady */
+/*
+ * The flags of a record, added up.
+ *
+ * A command is too close, in and out of RunMode, when fewer zeros than the
+ * timing table asks lie between the record before and it: after BCR 2 and
+ * after ECR 1, if anything but an LV1 follows; after SYNC 4, if an LV1 follows,
+ * exact or with flip; otherwise 0. 1101 straight after a command always is: as
+ * an LV1 it has five bits, and the first of them is that command's last. The
+ * first record after an opening never is. docs/USING.md has examples.
+ */
+#define KERNELSTILL_FLAG_ACTED 0x01     /* acted on */
+#define KERNELSTILL_FLAG_FLIP 0x02      /* an LV1 with flip: its position is not 0 */
+#define KERNELSTILL_FLAG_SENT 0x04      /* sent to the front ends */
+#define KERNELSTILL_FLAG_MISSING 0x08   /* a missing register */
+#define KERNELSTILL_FLAG_UNSTEADY 0x10  /* a front-end group was unsteady */
+#define KERNELSTILL_FLAG_TOO_CLOSE 0x20 /* too close to the record before */
 
 /*
  * The store: FIFO n has the words 128 x n to 128 x n + 127. WrFifo writes
@@ -128,42 +138,48 @@ extern "C" {
  * so is one with a word beyond its width; nothing else is.
  *
  * A state is sound when its plan would open; NEXT is at most 2^48 and BASE at
- * most NEXT; pointers are below 128; registers outside the mask hold 0;
- * RUN_MODE is 0 in phases 2, 3 and 4; in phase 0, SHIFT is below 32; in phases
- * 1 to 3, COUNT is below 4 and SHIFT below 2^COUNT; in phase 3, COMMAND is
- * below 16; in phase 4, COMMAND is 0 to 6 or 10, ADDRESS is below 16, COUNT is
- * below the length of Field 5, which for commands 4 to 6 goes by the register
- * CNT, HELD is below 2^COUNT for the commands that use it, and for commands 4
- * and 5 GROUP is below 2^(COUNT modulo 8). Every state that an opening or a
- * taking call wrote is sound.
+ * most NEXT; EARLIER_KIND is 0 or EARLIER_TIME is below NEXT; pointers are
+ * below 128; registers outside the mask hold 0; RUN_MODE is 0 in phases 2, 3
+ * and 4; in phase 0, SHIFT is below 32; in phases 1 to 3, COUNT is below 4 and
+ * SHIFT below 2^COUNT; in phase 3, COMMAND is below 16; in phase 4, COMMAND is
+ * 0 to 6 or 10, ADDRESS is below 16, COUNT is below the length of Field 5,
+ * which for commands 4 to 6 goes by the register CNT, HELD is below 2^COUNT for
+ * the commands that use it, and for commands 4 and 5 GROUP is below
+ * 2^(COUNT modulo 8). Every state that an opening or a taking call wrote is
+ * sound.
  *
  * Words 7 to 13 are the recogniser's. What those hold that the present phase
  * does not use means nothing. From an opening on they are 0 there.
+ *
+ * Words 20 and 21 are the record before, which GlobalResetMCC does not forget.
+ * An opening writes 0 into both.
  */
-#define KERNELSTILL_LAYOUT 2
-#define KERNELSTILL_AT_LAYOUT 0    /* KERNELSTILL_LAYOUT */
-#define KERNELSTILL_AT_MASK 1      /* the plan: the addresses that exist, 16 bits; bit n for address n */
-#define KERNELSTILL_AT_CSR 2       /* the address of CSR, 8 bits */
-#define KERNELSTILL_AT_FEEN 3      /* the address of FEEN, 8 bits */
-#define KERNELSTILL_AT_CNT 4       /* the address of CNT, 8 bits */
-#define KERNELSTILL_AT_NEXT 5      /* the number of the next cycle, 64 bits */
-#define KERNELSTILL_AT_PHASE 6     /* 0 hunting, 1 in a header's body, 2 in Field 3, 3 in Field 4, 4 in Field 5 */
-#define KERNELSTILL_AT_SHIFT 7     /* hunting, the window; in a body, Field 3 or 4, the bits received of it; 8 bits */
-#define KERNELSTILL_AT_COMMAND 8   /* in Fields 4 and 5, Field 3; 8 bits */
-#define KERNELSTILL_AT_ADDRESS 9   /* in Field 5, Field 4; 8 bits */
-#define KERNELSTILL_AT_COUNT 10    /* how many bits of the present body or field are received, 32 bits */
-#define KERNELSTILL_AT_HELD 11     /* in Field 5 of WrRegister, WrFifo and GlobalResetFE, its bits so far; 32 bits */
-#define KERNELSTILL_AT_GROUP 12    /* in a front-end frame, the bits received of the present group, the latest lowest; 8 bits */
-#define KERNELSTILL_AT_UNSTEADY 13 /* in a front-end frame, whether one of its finished groups was unsteady; 0 or 1 */
-#define KERNELSTILL_AT_RUN_MODE 14 /* RunMode, 0 or 1 */
-#define KERNELSTILL_AT_L1ID 15     /* the trigger number, 8 bits */
-#define KERNELSTILL_AT_BASE 16     /* the cycle from which the bunch number counts, 64 bits */
-#define KERNELSTILL_AT_WLV1 17     /* the warning of an LV1 with flip, CSR bit 8; 0 or 1 */
-#define KERNELSTILL_AT_WFST 18     /* the warning of a bad Fast, CSR bit 9; 0 or 1 */
-#define KERNELSTILL_AT_WSLW 19     /* the warning of a bad Slow, CSR bit 10; 0 or 1 */
-#define KERNELSTILL_AT_REGISTERS 20 /* 16 words: the registers as stored, 16 bits each */
-#define KERNELSTILL_AT_WRITES 36   /* 16 words: the FIFOs' write pointers, 8 bits each */
-#define KERNELSTILL_AT_READS 52    /* 16 words: the FIFOs' read pointers, 8 bits each */
+#define KERNELSTILL_LAYOUT 3
+#define KERNELSTILL_AT_LAYOUT 0        /* KERNELSTILL_LAYOUT */
+#define KERNELSTILL_AT_MASK 1          /* the plan: the addresses that exist, 16 bits; bit n for address n */
+#define KERNELSTILL_AT_CSR 2           /* the address of CSR, 8 bits */
+#define KERNELSTILL_AT_FEEN 3          /* the address of FEEN, 8 bits */
+#define KERNELSTILL_AT_CNT 4           /* the address of CNT, 8 bits */
+#define KERNELSTILL_AT_NEXT 5          /* the number of the next cycle, 64 bits */
+#define KERNELSTILL_AT_PHASE 6         /* 0 hunting, 1 in a header's body, 2 in Field 3, 3 in Field 4, 4 in Field 5 */
+#define KERNELSTILL_AT_SHIFT 7         /* hunting, the window; in a body, Field 3 or 4, the bits received of it; 8 bits */
+#define KERNELSTILL_AT_COMMAND 8       /* in Fields 4 and 5, Field 3; 8 bits */
+#define KERNELSTILL_AT_ADDRESS 9       /* in Field 5, Field 4; 8 bits */
+#define KERNELSTILL_AT_COUNT 10        /* how many bits of the present body or field are received, 32 bits */
+#define KERNELSTILL_AT_HELD 11         /* in Field 5 of WrRegister, WrFifo and GlobalResetFE, its bits so far; 32 bits */
+#define KERNELSTILL_AT_GROUP 12        /* in a front-end frame, the bits received of the present group, the latest lowest; 8 bits */
+#define KERNELSTILL_AT_UNSTEADY 13     /* in a front-end frame, whether one of its finished groups was unsteady; 0 or 1 */
+#define KERNELSTILL_AT_RUN_MODE 14     /* RunMode, 0 or 1 */
+#define KERNELSTILL_AT_L1ID 15         /* the trigger number, 8 bits */
+#define KERNELSTILL_AT_BASE 16         /* the cycle from which the bunch number counts, 64 bits */
+#define KERNELSTILL_AT_WLV1 17         /* the warning of an LV1 with flip, CSR bit 8; 0 or 1 */
+#define KERNELSTILL_AT_WFST 18         /* the warning of a bad Fast, CSR bit 9; 0 or 1 */
+#define KERNELSTILL_AT_WSLW 19         /* the warning of a bad Slow, CSR bit 10; 0 or 1 */
+#define KERNELSTILL_AT_EARLIER_TIME 20 /* the time of the record before, 64 bits; it means nothing where there is none */
+#define KERNELSTILL_AT_EARLIER_KIND 21 /* its kind, 8 bits; 0 where there is none */
+#define KERNELSTILL_AT_REGISTERS 22    /* 16 words: the registers as stored, 16 bits each */
+#define KERNELSTILL_AT_WRITES 38       /* 16 words: the FIFOs' write pointers, 8 bits each */
+#define KERNELSTILL_AT_READS 54        /* 16 words: the FIFOs' read pointers, 8 bits each */
 
 /*
  * Opens with a register plan at a cycle: writes the start state into the

@@ -77,13 +77,13 @@ __all__ = [
     "hex_line",
 ]
 
-__version__ = "1.5.0"
+__version__ = "1.6.0"
 
 # As kernelstill.h has them.
 CLOCK_LIMIT = 1 << 48
 INPUT_BYTES = 1_048_576
-_LAYOUT = 2
-_IMAGE_WORDS = 68
+_LAYOUT = 3
+_IMAGE_WORDS = 70
 _STORE_WORDS = 2_048
 _TRAY_BYTES = 8_192
 _RESULT_WORDS = 3
@@ -276,6 +276,14 @@ class Record(NamedTuple):
 
     A front-end bit is 1 with five ones or more among its eight cycles, 0 with
     three or fewer, and with four ones the first cycle's bit.
+
+    A command is too close when fewer zeros than the timing table asks lie
+    between the record before and it: after BCR 2 and after ECR 1, if anything
+    but an LV1 follows; after SYNC 4, if an LV1 follows; otherwise 0. Of three
+    BCRs the second has one zero ahead of it here, the third two:
+
+    >>> [record.too_close for record in Decoder().take(hex_line("2C2B0961"))]
+    [False, True, False]
     """
 
     time: int  # the cycle of its last bit
@@ -331,6 +339,12 @@ class Record(NamedTuple):
     def unsteady(self) -> bool:
         """A front-end frame with a bit that differed within its eight cycles."""
         return bool(self.flags & 0x10)
+
+    @property
+    def too_close(self) -> bool:
+        """A command with fewer zeros ahead of it than the timing table asks
+        after the record before; never the first one after an opening."""
+        return bool(self.flags & 0x20)
 
     @property
     def frame_bits(self) -> int:
@@ -390,6 +404,8 @@ class State:
     l1id: int  # the next trigger's number
     base: int  # the cycle from which the bunch number counts
     warnings: Warnings
+    earlier_time: int  # of the record before
+    earlier_kind: int  # its kind; 0 if there was none, and then its time means nothing
     registers: Tuple[int, ...]  # 16, as stored
     write_pointers: Tuple[int, ...]  # 16, a FIFO each
     read_pointers: Tuple[int, ...]
@@ -560,9 +576,11 @@ class Decoder:
             l1id=image[15],
             base=image[16],
             warnings=Warnings(*map(bool, image[17:20])),
-            registers=tuple(image[20:36]),
-            write_pointers=tuple(image[36:52]),
-            read_pointers=tuple(image[52:68]),
+            earlier_time=image[20],
+            earlier_kind=image[21],
+            registers=tuple(image[22:38]),
+            write_pointers=tuple(image[38:54]),
+            read_pointers=tuple(image[54:70]),
             fifos=tuple(map(self.fifo, range(_FIFOS))),
         )
 
@@ -575,14 +593,15 @@ class Decoder:
     def save(self) -> bytes:
         """All that the decoder remembers, for `resume`.
 
-        16,928 bytes, little-endian: the image's 68 words of 64 bits, the
+        16,944 bytes, little-endian: the image's 70 words of 64 bits, the
         store's 2,048 words of 32 bits, the tray's 8,192 bytes.
         """
         return _SAVED.pack(*self._image, *self._store, bytes(self._tray))
 
     @classmethod
     def resume(cls, saved: BytesLike) -> Decoder:
-        """A decoder that goes on where `save` was called; refused with 3."""
+        """A decoder that goes on where `save` was called; refused with 3, as
+        is what a version before 1.6 saved."""
         try:
             words = _SAVED.unpack(memoryview(saved).tobytes())
         except struct.error:

@@ -1,5 +1,5 @@
 """Tests of the Python module: the header's numbers, cuts, refusals, frames,
-state, save and resume."""
+commands sent too close, state, save and resume."""
 
 import array
 import copy
@@ -37,6 +37,9 @@ def at_bit_0(*commands):
     """What `take` is given for strings of 0 and 1."""
     bits = "".join(commands)
     return packed(bits), 0, len(bits)
+
+
+LV1, BCR, ECR, CAL, SYNC = "11101", "101100001", "101100010", "101100100", "101101000"
 
 
 def slow(field3, field4, field5=""):
@@ -98,7 +101,7 @@ class Header(unittest.TestCase):
 
     def test_flags(self):
         properties = {"ACTED": "acted_on", "FLIP": "flip", "SENT": "sent"}
-        properties.update({"MISSING": "missing", "UNSTEADY": "unsteady"})
+        properties.update({"MISSING": "missing", "UNSTEADY": "unsteady", "TOO_CLOSE": "too_close"})
         flags = self.named("FLAG_")
         self.assertEqual(set(flags), set(properties))
         for name, flag in flags.items():
@@ -149,6 +152,8 @@ def by_place(state):
         "RUN_MODE": state.run_mode,
         "L1ID": state.l1id,
         "BASE": state.base,
+        "EARLIER_TIME": state.earlier_time,
+        "EARLIER_KIND": state.earlier_kind,
     }
     for names in (state.plan, state.warnings):
         single.update((name.upper(), word) for name, word in names._asdict().items())
@@ -309,9 +314,11 @@ class Refusals(unittest.TestCase):
     def test_unsound(self):
         saved = Decoder().save()
         # Layout, CSR's address that of FEEN, CNT's missing, next cycle, phase, window.
-        unsound = [(0, 3), (2, 2), (4, 11), (5, CLOCK_LIMIT + 1), (6, 5), (7, 32)]
-        # Group, RunMode, L1ID, base, a missing register, a write and a read pointer.
-        unsound += [(12, 256), (14, 2), (15, 256), (16, 1), (31, 1), (36, 128), (67, 128)]
+        unsound = [(0, 2), (2, 2), (4, 11), (5, CLOCK_LIMIT + 1), (6, 5), (7, 32)]
+        # Group, RunMode, L1ID, base, an earlier record not before the next cycle, a kind too wide.
+        unsound += [(12, 256), (14, 2), (15, 256), (16, 1), (21, 1), (21, 256)]
+        # A missing register, a write and a read pointer.
+        unsound += [(33, 1), (38, 128), (69, 128)]
         for place, word in unsound:
             image = bytearray(saved)
             struct.pack_into("<Q", image, 8 * place, word)
@@ -320,15 +327,42 @@ class Refusals(unittest.TestCase):
             self.refused(3, Decoder.resume, other)
 
     def test_layout(self):
-        """An image of layout 1 is refused, inside a front-end frame too."""
+        """An image of layout 1 or 2 is refused, inside a front-end frame too."""
         decoder = Decoder()
         for bits in ("0", wr_register(5, 8) + slow(4, 0, "1")):
             decoder.take(*at_bit_0(bits))
             saved = bytearray(decoder.save())
-            for layout, sound in ((0, False), (1, False), (2, True), (3, False)):
+            for layout, sound in ((0, False), (1, False), (2, False), (3, True), (4, False)):
                 struct.pack_into("<Q", saved, 0, layout)
                 if sound:
                     self.assertEqual(Decoder.resume(saved).save(), decoder.save())
+                else:
+                    self.refused(3, Decoder.resume, saved)
+
+    def test_image_of_68_words(self):
+        """As versions before 1.6 saved it, of layout 1 or 2."""
+        decoder = Decoder()
+        decoder.take(CAPTURE, 0, 1001)
+        saved = decoder.save()
+        image, rest = saved[: 8 * 20] + saved[8 * 22 : 8 * 70], saved[8 * 70 :]
+        for layout in (1, 2):
+            image = struct.pack("<Q", layout) + image[8:]
+            self.assertEqual(len(image + rest), 16_928)
+            self.refused(3, Decoder.resume, image + rest)
+            # Filled up to 70 words it is refused by its layout.
+            self.refused(3, Decoder.resume, image + bytes(16) + rest)
+
+    def test_earlier_record(self):
+        """Its time is below the next cycle; without one, any time is sound."""
+        decoder = Decoder()
+        decoder.take(*at_bit_0(BCR, "0"))
+        saved = bytearray(decoder.save())
+        for time in (0, 9, 10, 11, CLOCK_LIMIT, 2**64 - 1):
+            for kind in (0x00, 0x01, 0x11, 0x77, 0xFF, 0x100):
+                struct.pack_into("<QQ", saved, 8 * 20, time, kind)
+                if kind == 0 or (time < 10 and kind < 0x100):
+                    state = Decoder.resume(saved).state
+                    self.assertEqual((state.earlier_time, state.earlier_kind), (time, kind))
                 else:
                     self.refused(3, Decoder.resume, saved)
 
@@ -567,6 +601,124 @@ class Frames(unittest.TestCase):
             self.assertEqual((record.frame_bits, record.frame), (12, frame))
 
 
+class TooClose(unittest.TestCase):
+    """Fewer zeros than the timing table asks lie ahead of a command."""
+
+    FLIPPED = ("01101", "10101", "11001", "11111", "11100")
+    BAD = ("101100101", slow(15, 0))
+    REGISTERS = (wr_register(1, 0xFFFF), slow(1, 1, 16 * "1"))
+    FIFOS = (slow(2, 0, 27 * "1"), slow(3, 0, 27 * "1"))
+    # While CNT is 0.
+    FRAMES = (slow(4, 0), slow(5, 0), slow(6, 0))
+    OTHERS = (slow(8, 0), slow(9, 0), slow(10, 0, "1111"))
+    COMMANDS = (LV1, BCR, ECR, CAL, SYNC) + FLIPPED + BAD + REGISTERS + FIFOS + FRAMES + OTHERS
+
+    def asked(self, first, second):
+        """The timing table."""
+        if second == LV1 or second in self.FLIPPED:
+            return 4 if first == SYNC else 0
+        return {BCR: 2, ECR: 1}.get(first, 0)
+
+    def flags(self, *commands):
+        """Of each record, whether it is too close."""
+        return [record.too_close for record in Decoder().take(*at_bit_0(*commands))]
+
+    def test_listing(self):
+        """As docs/USING.md shows it: one way to be too close a line."""
+        decoder, lines = Decoder(), ("B5C000", "B0AC20", "B15900", "B40E80", "EE80", "B0AD740A")
+        records = [record for line in lines for record in decoder.take(hex_line(line))]
+        expected = (
+            "000000000010 28 01 00000000\n"
+            "000000000020 11 01 00000000\n"
+            "00000000002A 11 21 00000000\n"
+            "000000000038 12 01 00000000\n"
+            "000000000041 14 21 00000000\n"
+            "000000000050 18 01 00000000\n"
+            "000000000058 01 25 0000002E\n"
+            "000000000064 01 05 0000013A\n"
+            "000000000068 01 27 0001023E\n"
+            "000000000078 11 01 00000000\n"
+            "00000000008E 2A 21 0000000B\n"
+        )
+        self.assertEqual(listing(records), expected)
+
+    def test_each_pair(self):
+        """Each command after each other, in and out of RunMode: with fewer
+        zeros than asked it is too close, and with as many it is not."""
+        for run_mode in (False, True):
+            ahead = [slow(8, 0) + "00000"] if run_mode else []
+            for first in self.COMMANDS:
+                for second in self.COMMANDS:
+                    for zeros in range(6):
+                        pair = first, zeros * "0", second
+                        close = zeros < self.asked(first, second)
+                        expected = [False] * len(ahead) + [False, close]
+                        self.assertEqual(self.flags(*ahead, *pair), expected, pair)
+
+    def test_overlap(self):
+        """1101 straight after a command, at distance -1, is always too close."""
+        for command in self.COMMANDS:
+            for zeros in range(7):
+                # A zero of the line takes the place of the first bit.
+                close = zeros - 1 < self.asked(command, LV1)
+                self.assertEqual(self.flags(command, zeros * "0", "1101"), [False, close])
+
+    def test_first_record(self):
+        """It is never too close, wherever the opening is, and 1101 neither."""
+        for command in self.COMMANDS + ("1101",):
+            for cycle in (0, 1, 2**40):
+                (record,) = Decoder(cycle=cycle).take(*at_bit_0(command))
+                self.assertFalse(record.too_close)
+
+    def test_global_reset_mcc(self):
+        """It is itself too close, and does not forget a record: 1101 straight
+        after it overlaps it."""
+        reset = slow(9, 0)
+        self.assertEqual(self.flags(BCR, "0", reset, "1101"), [False, True, True])
+        self.assertEqual(self.flags(BCR, "00", reset, BCR), [False, False, False])
+        decoder = Decoder()
+        decoder.take(*at_bit_0(BCR, "00", reset, "0"))
+        self.assertEqual((decoder.state.earlier_time, decoder.state.earlier_kind), (27, 0x29))
+
+    def test_length_of_a_slow(self):
+        """By CNT as it stands ahead of the command's own effect."""
+        # CNT 9: eight control bits and a data bit, and in a WrReceiver nine bytes.
+        commands = [slow(field3, 0, 72 * "1") for field3 in (4, 5, 6)]
+        for command in commands + [wr_register(5, 0xFFFF), slow(9, 0)]:
+            for zeros in range(4):
+                flags = self.flags(wr_register(5, 9), BCR, zeros * "0", command)
+                self.assertEqual(flags, [False, False, zeros < 2])
+
+    def test_other_flags(self):
+        """It is added to them: a missing register, an unsteady group."""
+        *_, record = Decoder().take(*at_bit_0(BCR, slow(1, 15, 16 * "0")))
+        self.assertEqual((record.flags, record.missing, record.too_close), (0x28, True, True))
+        *_, record = Decoder().take(*at_bit_0(wr_register(5, 8), ECR, slow(4, 0, "01111111")))
+        self.assertEqual((record.flags, record.unsteady, record.too_close), (0x31, True, True))
+
+    def test_cuts(self):
+        """The record before is carried from call to call, by a saved state too."""
+        data, _, bits = at_bit_0(slow(8, 0), "0", SYNC, "000", LV1, BCR, "0", wr_register(5, 8))
+        records = Decoder().take(data, 0, bits)
+        self.assertEqual([r.flags for r in records], [0x01, 0x01, 0x25, 0x01, 0x21])
+        for cut in range(bits + 1):
+            decoder = Decoder()
+            taken = decoder.take(data, 0, cut)
+            decoder = Decoder.resume(decoder.save())
+            self.assertEqual(taken + decoder.take(data, cut, bits - cut), records, cut)
+
+    def test_state(self):
+        """The record before, from record to record; none after an opening."""
+        decoder, seen = Decoder(cycle=100), set()
+        for command in self.COMMANDS:
+            state = decoder.state
+            before = state.earlier_time, state.earlier_kind
+            self.assertEqual(before, max(seen, default=(0, 0)))
+            *_, record = decoder.take(*at_bit_0("00000", command))
+            seen.add((record.time, record.kind))
+        self.assertEqual(len(seen), len(self.COMMANDS))
+
+
 class States(unittest.TestCase):
     def test_start(self):
         state = Decoder(Plan(0x00FF, 1, 3, 7), 12).state
@@ -575,6 +727,7 @@ class States(unittest.TestCase):
         self.assertEqual((state.phase, state.window), (Phase.HUNTING, 0))
         self.assertEqual((state.run_mode, state.l1id), (False, 0))
         self.assertEqual(state.warnings, (False, False, False))
+        self.assertEqual((state.earlier_time, state.earlier_kind), (0, 0))
         for sixteen in (state.registers, state.write_pointers, state.read_pointers):
             self.assertEqual(sixteen, (0,) * 16)
 
@@ -616,6 +769,7 @@ class States(unittest.TestCase):
         self.assertEqual(state.warnings, (True, True, True))
         self.assertEqual((state.register(0), state.register(2), state.register(5)), (0x0700, 3, 2))
         self.assertEqual((state.l1id, state.base, state.run_mode), (6, 0x8EA, False))
+        self.assertEqual((state.earlier_time, state.earlier_kind), (0xB0C, 0x23))
         self.assertEqual(decoder.fifo(0)[:3], (0x0000ABCD, 0x07FF0001, 0))
         self.assertEqual(len(decoder.fifo(15)), 128)
         self.assertEqual(state.fifos, tuple(map(decoder.fifo, range(16))))
@@ -666,11 +820,11 @@ class Saving(unittest.TestCase):
         decoder = Decoder(cycle=258)
         decoder.take(CAPTURE)
         saved = decoder.save()
-        self.assertEqual(len(saved), 8 * 68 + 4 * 2048 + 8192)
-        self.assertEqual(int.from_bytes(saved[:8], "little"), 2)
+        self.assertEqual(len(saved), 8 * 70 + 4 * 2048 + 8192)
+        self.assertEqual(int.from_bytes(saved[:8], "little"), 3)
         self.assertEqual(int.from_bytes(saved[40:48], "little"), 258 + 8 * len(CAPTURE))
-        self.assertEqual(struct.unpack_from("<128I", saved, 544), decoder.fifo(0))
-        self.assertEqual(saved[544 + 8192 :][:2], b"\xa5\xc3")
+        self.assertEqual(struct.unpack_from("<128I", saved, 560), decoder.fifo(0))
+        self.assertEqual(saved[560 + 8192 :][:2], b"\xa5\xc3")
 
     def test_bytes_like(self):
         decoder = Decoder()

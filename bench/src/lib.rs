@@ -51,7 +51,7 @@ pub struct Taken {
 /// Opens with the default plan at cycle 0 and takes `count` bits from bit
 /// `first` on.
 pub fn take_fresh(input: &[u8], first: usize, count: usize, b: &mut Buffers, free: usize) -> Taken {
-    let mut image = [0; 68];
+    let mut image = [0; 70];
     let mut result = [0; 3];
     // The separate reader's, so that the two open alike.
     let plan = Plan::DEFAULT;
