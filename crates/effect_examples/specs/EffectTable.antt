@@ -4,12 +4,14 @@ use mathlib.Core.List.{List, [], _∷_, _++_}
 use Prim.Native.Nat.{ℕ}
 use lib.ListN.{replicate}
 use Rattle.worked_examples.specs.CommandBits.{line, field, eightfold, lv1, bcr, ecr, cal, sync, slow, wrRegister, rdRegister, wrFifo, rdFifo}
-use Rattle.worked_examples.specs.Cells.{Cell, wordsFrom, next, word}
+use Rattle.worked_examples.specs.Cells as cell
+use Rattle.worked_examples.specs.Cells.{Cell, wordsFrom, writePointers, readPointers, next, word}
 use Rattle.worked_examples.specs.Example.{Row, row, done, frame}
 
 -- All that the controller holds: RunMode, L1ID and base; WLV1, WFST and WSLW; 16 registers; 16 write and 16 read pointers.
 abbrev controller : List ℕ → List ℕ → List ℕ → List ℕ → List ℕ → List Cell
-controller counters warnings registers writes reads = wordsFrom 14 (counters ++ (warnings ++ (registers ++ (writes ++ reads))))
+controller counters warnings registers writes reads =
+    wordsFrom 14 (counters ++ warnings) ++ (cell.registers registers ++ (writePointers writes ++ readPointers reads))
 
 -- Registers 7 to 15 of the default plan: those that are missing, 11 to 15, hold 0.
 abbrev fromSeven : List ℕ
@@ -56,9 +58,9 @@ table =
     -- CAL and SYNC: nothing
     ∷ from running ones cal (done 9 1) (0x1081401 ∷ 0 ∷ []) (controller running ones regs writes reads)
     ∷ from running ones sync (done 9 1) (0x1081801 ∷ 0 ∷ []) (controller running ones regs writes reads)
-    -- out of RunMode: nothing
+    -- out of RunMode: nothing; ECR and CAL are too close to the one before, flag 20
     ∷ from stopped ones (lv1 ++ (bcr ++ (ecr ++ (cal ++ sync)))) (done 41 5)
-    (0x1040100 ∷ 0 ∷ 0x10D1100 ∷ 0 ∷ 0x1161200 ∷ 0 ∷ 0x11F1400 ∷ 0 ∷ 0x1281800 ∷ 0 ∷ [])
+    (0x1040100 ∷ 0 ∷ 0x10D1100 ∷ 0 ∷ 0x1161220 ∷ 0 ∷ 0x11F1420 ∷ 0 ∷ 0x1281800 ∷ 0 ∷ [])
     (controller stopped ones regs writes reads)
     -- an LV1 with flip, a bad Fast and a bad Slow: each its own warning, beside the others
     ∷ from running (0 ∷ 1 ∷ 1 ∷ []) (line "11100") (done 5 1) (0x1040107 ∷ 0x000509F4 ∷ []) (controller (1 ∷ 10 ∷ 0x10 ∷ []) ones regs writes reads)

@@ -12,7 +12,7 @@ pub record OpeningExamples : Type 0 where
 
 -- The library for hosts: taking calls on an image, the image word by word, and buffers of other lengths.
 pub record HostExamples : Type 0 where
-  pub hosts-give : Table hosts.hostShown hosts.hostExpected 18 hosts.table
+  pub hosts-give : Table hosts.hostShown hosts.hostExpected 22 hosts.table
   pub image : hosts.HostImage
   pub buffers : hosts.HostBuffers
 

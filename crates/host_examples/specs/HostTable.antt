@@ -43,13 +43,14 @@ someState = record {
       reads = 221 ∷ 222 ∷ 223 ∷ 224 ∷ 225 ∷ 226 ∷ 227 ∷ 228 ∷ 229 ∷ 230 ∷ 231 ∷ 232 ∷ 233 ∷ 234 ∷ 235 ∷ 236 ∷ [];
     };
   };
+  earlier = record { time = 0x23456789ABCD; kind = 41 };
 }
 
 abbrev pub someImage : List ℕ
 someImage =
-    2 ∷ 0x1234 ∷ 11 ∷ 12 ∷ 13 ∷ 0x123456789ABC
+    3 ∷ 0x1234 ∷ 11 ∷ 12 ∷ 13 ∷ 0x123456789ABC
     ∷ 4 ∷ 21 ∷ 23 ∷ 24 ∷ 22 ∷ 25 ∷ 26 ∷ 0
-    ∷ 1 ∷ 31 ∷ 32 ∷ 0 ∷ 1 ∷ 0
+    ∷ 1 ∷ 31 ∷ 32 ∷ 0 ∷ 1 ∷ 0 ∷ 0x23456789ABCD ∷ 41
     ∷ 101 ∷ 102 ∷ 103 ∷ 104 ∷ 105 ∷ 106 ∷ 107 ∷ 108 ∷ 109 ∷ 110 ∷ 111 ∷ 112 ∷ 113 ∷ 114 ∷ 115 ∷ 116
     ∷ 201 ∷ 202 ∷ 203 ∷ 204 ∷ 205 ∷ 206 ∷ 207 ∷ 208 ∷ 209 ∷ 210 ∷ 211 ∷ 212 ∷ 213 ∷ 214 ∷ 215 ∷ 216
     ∷ 221 ∷ 222 ∷ 223 ∷ 224 ∷ 225 ∷ 226 ∷ 227 ∷ 228 ∷ 229 ∷ 230 ∷ 231 ∷ 232 ∷ 233 ∷ 234 ∷ 235 ∷ 236 ∷ []
@@ -94,19 +95,25 @@ table =
     hostRow start (enDataTake ++ lv1) 22 4 nines 0 (22 ∷ 2 ∷ 0 ∷ [])
     ∷ hostRow start (wrFrontEnd [] ++ lv1) 22 4 nines 0 (17 ∷ 1 ∷ 1 ∷ [])
     ∷ hostRow start (enDataTake ++ lv1) 22 3 nines 0 (17 ∷ 1 ∷ 2 ∷ [])
-    -- 3: an image of another length or layout, with a word beyond its width (the group, RunMode, L1ID, register 1), or of an unsound state
-    ∷ hostRow (2 ∷ 0x07FF ∷ 0 ∷ 2 ∷ 5 ∷ replicate 62 0) lv1 5 4 nines 3 nines
-    ∷ hostRow (2 ∷ 0x07FF ∷ 0 ∷ 2 ∷ 5 ∷ replicate 64 0) lv1 5 4 nines 3 nines
+    -- 3: an image of another length or layout, with a word beyond its width (the group, RunMode, L1ID, the kind of the record before, register 1), or of
+    -- an unsound state
+    ∷ hostRow (3 ∷ 0x07FF ∷ 0 ∷ 2 ∷ 5 ∷ replicate 64 0) lv1 5 4 nines 3 nines
+    ∷ hostRow (3 ∷ 0x07FF ∷ 0 ∷ 2 ∷ 5 ∷ replicate 66 0) lv1 5 4 nines 3 nines
     ∷ hostRow (set start 0 1) lv1 5 4 nines 3 nines
-    ∷ hostRow (set start 0 3) lv1 5 4 nines 3 nines
+    ∷ hostRow (set start 0 2) lv1 5 4 nines 3 nines
+    ∷ hostRow (set start 0 4) lv1 5 4 nines 3 nines
+    -- an image as layout 2 had it, of 68 words
+    ∷ hostRow (2 ∷ 0x07FF ∷ 0 ∷ 2 ∷ 5 ∷ replicate 63 0) lv1 5 4 nines 3 nines
     ∷ hostRow (set start 12 255) lv1 5 4 nines 0 (5 ∷ 1 ∷ 0 ∷ [])
     ∷ hostRow (set start 12 256) lv1 5 4 nines 3 nines
     ∷ hostRow (set start 14 2) lv1 5 4 nines 3 nines
     ∷ hostRow (set start 15 255) lv1 5 4 nines 0 (5 ∷ 1 ∷ 0 ∷ [])
     ∷ hostRow (set start 15 256) lv1 5 4 nines 3 nines
-    ∷ hostRow (set start 21 65535) lv1 5 4 nines 0 (5 ∷ 1 ∷ 0 ∷ [])
-    ∷ hostRow (set start 21 65536) lv1 5 4 nines 3 nines
-    ∷ hostRow (set start 36 128) lv1 5 4 nines 3 nines
+    ∷ hostRow (set (set start 5 1) 21 255) lv1 5 4 nines 0 (5 ∷ 1 ∷ 0 ∷ [])
+    ∷ hostRow (set (set start 5 1) 21 256) lv1 5 4 nines 3 nines
+    ∷ hostRow (set start 23 65535) lv1 5 4 nines 0 (5 ∷ 1 ∷ 0 ∷ [])
+    ∷ hostRow (set start 23 65536) lv1 5 4 nines 3 nines
+    ∷ hostRow (set start 38 128) lv1 5 4 nines 3 nines
     -- 4: a result of other than three words; 5 and 6 as of the taking call
     ∷ hostRow start lv1 5 4 (9 ∷ 9 ∷ []) 4 (9 ∷ 9 ∷ [])
     ∷ hostRow start lv1 9 4 nines 5 nines
@@ -115,9 +122,9 @@ table =
 
 -- Buffers of other lengths, and a line in and out.
 pub record HostBuffers : Type 0 where
-  -- an image of 67 words: 3, or the opening's own number
-  pub open-length : openResultOf 0x07FF 0 2 5 0 (replicate 67 9) ≡ openResult 3 (replicate 67 9)
-  pub open-number : openResultOf 0x07FF 2 2 5 0 (replicate 67 9) ≡ openResult 1 (replicate 67 9)
+  -- an image of 69 words: 3, or the opening's own number
+  pub open-length : openResultOf 0x07FF 0 2 5 0 (replicate 69 9) ≡ openResult 3 (replicate 69 9)
+  pub open-number : openResultOf 0x07FF 2 2 5 0 (replicate 69 9) ≡ openResult 1 (replicate 69 9)
   -- a hexadecimal line wants 32 bytes of room
   pub hex-room : hexResultOf (ascii "B5C0") (replicate 31 9) ≡ lineResult 4 (replicate 31 9)
   pub hex-read : hexResultOf (ascii "B5C0") (replicate 32 9) ≡ lineResult 0 (0xB5 ∷ 0xC0 ∷ replicate 30 9)

@@ -5,7 +5,7 @@ use Prim.Native.Nat.{ℕ}
 use lib.ListN.{replicate}
 use Rattle.kernelstill.specs.Open.{openResultOf}
 
--- A row: mask, the addresses of CSR, FEEN and CNT, and the cycle; the refusal number; and the image that is written over 68 words of 9.
+-- A row: mask, the addresses of CSR, FEEN and CNT, and the cycle; the refusal number; and the image that is written over 70 words of 9.
 pub record OpeningRow : Type 0 where
   pub mask : ℕ
   pub csr : ℕ
@@ -15,7 +15,7 @@ pub record OpeningRow : Type 0 where
   pub number : ℕ
   pub image : List ℕ
 
--- "An accepted opening": layout 2, the plan, the next cycle, and the base, word 16, at the opening cycle; all else is 0.
+-- "An accepted opening": layout 3, the plan, the next cycle, and the base, word 16, at the opening cycle; all else is 0.
 abbrev opens : ℕ → ℕ → ℕ → ℕ → ℕ → OpeningRow
 opens mask csr feen cnt cycle = record {
   mask = mask;
@@ -24,7 +24,7 @@ opens mask csr feen cnt cycle = record {
   cnt = cnt;
   cycle = cycle;
   number = 0;
-  image = 2 ∷ mask ∷ csr ∷ feen ∷ cnt ∷ cycle ∷ (replicate 10 0 ++ (cycle ∷ replicate 51 0));
+  image = 3 ∷ mask ∷ csr ∷ feen ∷ cnt ∷ cycle ∷ (replicate 10 0 ++ (cycle ∷ replicate 53 0));
 }
 
 -- "A refused opening gives the default start state at cycle 0": mask 07FF, CSR 0, FEEN 2, CNT 5.
@@ -36,12 +36,12 @@ rejects number mask csr feen cnt cycle = record {
   cnt = cnt;
   cycle = cycle;
   number = number;
-  image = 2 ∷ 0x07FF ∷ 0 ∷ 2 ∷ 5 ∷ replicate 63 0;
+  image = 3 ∷ 0x07FF ∷ 0 ∷ 2 ∷ 5 ∷ replicate 65 0;
 }
 
 abbrev pub openingShown : OpeningRow → ℕ × List ℕ
 openingShown r =
-    let opened = openResultOf (r .mask) (r .csr) (r .feen) (r .cnt) (r .cycle) (replicate 68 9) in
+    let opened = openResultOf (r .mask) (r .csr) (r .feen) (r .cnt) (r .cycle) (replicate 70 9) in
     (opened .number, opened .image)
 
 abbrev pub openingExpected : OpeningRow → ℕ × List ℕ
