@@ -1,12 +1,12 @@
 -- What a record with the flag of F-5 keeps of itself.
 -- Assumes nothing.
-use mathlib.Core.Bool.{true}
+use mathlib.Core.Bool.{true, false}
 use mathlib.Core.Logic.{⊎-elim}
 use mathlib.Core.Path.{_≡_}
 use Prim.Native.Nat.{ℕ, _+_, _<_, _≤_}
 use native.Mathlib.Omega.{arith}
 use lib.Dec.{ltb, eqb}
-use borrow.Author.Tests.{ltb-true, lt-ltb}
+use borrow.Author.Tests.{ltb-true, lt-ltb, ne-eqb}
 use Rattle.limits.specs.Limits.{clockLimit}
 use Rattle.bits.proofs.Truth.{cond-most, either, or-left, or-right}
 use Rattle.controller.specs.declared.Cycle.{Cycle}
@@ -14,10 +14,10 @@ use Rattle.controller.specs.declared.Cycle.the-variants.{Silent, Recorded}
 use Rattle.controller.specs.declared.Record.{Record}
 use Rattle.controller.specs.Records.{wordsOf}
 use Rattle.controller.specs.Widths.{WordsFit}
-use Rattle.controller.proofs.RecordStamps.{Stamped}
+use Rattle.controller.proofs.RecordStamps.{Stamp, Stamped}
 use Rattle.controller.proofs.RecordsFit.{CycleFits}
 use Rattle.timing.specs.declared.Earlier.{Earlier}
-use Rattle.timing.specs.TooClose.{isNone, cyclesBack, tooClose, flagged, flagTooClose, flaggedCycle, earlierBelow, earlierAfter}
+use Rattle.timing.specs.TooClose.{isNone, earlierOf, cyclesBack, tooClose, flagged, flagTooClose, flaggedCycle, earlierBelow, earlierAfter}
 
 module _ (e : Earlier) (cnt time : ℕ) where
   pub flag-low : (r : Record) → flagTooClose (tooClose e (r .time) (r .kind) cnt) ≤ 0x20
@@ -55,3 +55,7 @@ short-back kind cnt h = simp (lt-ltb kind 0x20 h)
 pub short-flagged : (e : Earlier) (cnt : ℕ) (r : Record) → r .kind < 0x20 → flagged e cnt r ≡ flagged e 0 r
 unfolding tooClose
 short-flagged e cnt r h = rw (short-back (r .kind) cnt h)
+
+-- After a record there is one before: no record has kind 0.
+pub remembered : (time : ℕ) (r : Record) → Stamp time r → isNone (earlierOf r) ≡ false
+remembered time r s = ne-eqb (r .kind) 0 (λ none. let some = s .some-kind in absurd (omega arith))

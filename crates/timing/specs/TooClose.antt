@@ -13,7 +13,7 @@ use Rattle.controller.specs.Records.{recordOf, kindSlow}
 use Rattle.timing.specs.declared.Earlier.{Earlier}
 use Rattle.timing.specs.Table.{isLv1Kind, zerosAsked}
 
--- "The state remembers the earlier record": its time and kind. No record has kind 0.
+-- "The state remembers the earlier record": its time and kind, 0 where there is none. No record has kind 0 (`remembered`).
 abbrev pub none : Earlier
 none = record { time = 0; kind = 0 }
 

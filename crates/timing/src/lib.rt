@@ -1,7 +1,7 @@
 // The timing table, and whether a record's command was sent too close to the recorded one before it.
 ghost use mathlib.Core.Path.{_≡_};
 ghost use mathlib.Core.Bool.{true};
-ghost use Prim.Native.Nat.{_<_, _≤_, _^_};
+ghost use Prim.Native.Nat.{_<_, _^_};
 ghost use Rattle.limits.specs.Limits.{clockLimit};
 ghost use Rattle.timing.specs.Table.{zerosAsked};
 ghost use Rattle.timing.specs.TooClose.{none, earlierOf, earlierBelow, cyclesBack, tooClose, flagged};
@@ -29,19 +29,15 @@ const FLAG_TOO_CLOSE: u8 = 0x20;
 
 // The zeros asked between two commands, by the kinds of their records.
 pub fn zeros_asked(kind: u8, next: u8) -> u8
-    ensures { λ r. ⌜ (r ≡ zerosAsked kind next) × (r ≤ 4) ⌝ }
+    ensures { λ r. ⌜ r ≡ zerosAsked kind next ⌝ }
 {
-    let lv1 = next == LV1;
+    if next == LV1 {
+        return if kind == SYNC { 4 } else { 0 };
+    }
     if kind == BCR {
-        return registers::flag(!lv1, 2);
+        return 2;
     }
-    if kind == ECR {
-        return registers::flag(!lv1, 1);
-    }
-    if kind == SYNC {
-        return registers::flag(lv1, 4);
-    }
-    0
+    if kind == ECR { 1 } else { 0 }
 }
 
 // How many cycles a command's first bit lies before its last, by the kind of its record.

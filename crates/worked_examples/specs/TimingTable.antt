@@ -2,7 +2,8 @@
 -- Assumes nothing.
 use mathlib.Core.List.{List, [], _∷_, _++_}
 use Prim.Native.Nat.{ℕ}
-use Rattle.worked_examples.specs.CommandBits.{line, field, lv1, bcr, ecr, cal, sync, slow, enDataTake, globalResetMcc, wrReceiver, wrFrontEnd}
+use Rattle.worked_examples.specs.CommandBits.{line, field, lv1, bcr, ecr, cal, sync, slow, wrRegister, wrFifo, wrFrontEnd, wrReceiver}
+use Rattle.worked_examples.specs.CommandBits.{enDataTake, globalResetMcc, globalResetFe}
 use Rattle.worked_examples.specs.Cells.{Cell, next, shift, runMode, register, earlierTime, earlierKind}
 use Rattle.worked_examples.specs.Example.{Row, row, done, frame}
 
@@ -40,13 +41,24 @@ table =
     ∷ row running (bcr ++ (line "00" ++ enDataTake)) (done 28 2) (0x081101 ∷ 0 ∷ 0x1B2801 ∷ 0 ∷ []) []
     ∷ row running (bcr ++ (line "0" ++ badSlow)) (done 27 2) (0x081101 ∷ 0 ∷ 0x1A2F20 ∷ 7 ∷ []) []
     ∷ row running (bcr ++ (line "00" ++ badSlow)) (done 28 2) (0x081101 ∷ 0 ∷ 0x1B2F00 ∷ 7 ∷ []) []
-    -- "reckoned back by its length", with Field 5 by CNT
+    ∷ row running (ecr ++ badFast) (done 18 2) (0x081201 ∷ 0 ∷ 0x111F20 ∷ 0 ∷ []) []
+    ∷ row running (ecr ++ enDataTake) (done 26 2) (0x081201 ∷ 0 ∷ 0x192821 ∷ 0 ∷ []) []
+    ∷ row running (bcr ++ (line "0" ++ globalResetMcc)) (done 27 2) (0x081101 ∷ 0 ∷ 0x1A2921 ∷ 0 ∷ []) []
+    -- "reckoned back by its length": 33 bits of a register command, here to a missing register, 44 of a FIFO command, 21 of GlobalResetFE
+    ∷ row running (bcr ++ (line "0" ++ wrRegister 15 0xFFFF)) (done 43 2) (0x081101 ∷ 0 ∷ 0x2A2028 ∷ 0x000FFFFF ∷ []) []
+    ∷ row running (bcr ++ (line "00" ++ wrRegister 15 0xFFFF)) (done 44 2) (0x081101 ∷ 0 ∷ 0x2B2008 ∷ 0x000FFFFF ∷ []) []
+    ∷ row running (bcr ++ (line "0" ++ wrFifo 5)) (done 54 2) (0x081101 ∷ 0 ∷ 0x352221 ∷ 5 ∷ []) []
+    ∷ row running (bcr ++ (line "00" ++ wrFifo 5)) (done 55 2) (0x081101 ∷ 0 ∷ 0x362201 ∷ 5 ∷ []) []
+    ∷ row running (bcr ++ (line "0" ++ globalResetFe 0)) (done 31 2) (0x081101 ∷ 0 ∷ 0x1E2A21 ∷ 1 ∷ []) []
+    ∷ row running (bcr ++ (line "00" ++ globalResetFe 0)) (done 32 2) (0x081101 ∷ 0 ∷ 0x1F2A01 ∷ 1 ∷ []) []
+    -- with Field 5 by CNT; the flags are added
     ∷ row (runMode 1 ∷ register 5 0x0001 ∷ []) (bcr ++ (line "0" ++ wrReceiver (field 8 0))) (frame 35 2)
     (0x081101 ∷ 0 ∷ 0x222621 ∷ 8 ∷ [])
     (earlierTime 0x22 ∷ earlierKind 0x26 ∷ [])
     ∷ row (runMode 1 ∷ register 5 0x0001 ∷ []) (bcr ++ (line "00" ++ wrReceiver (field 8 0))) (frame 36 2) (0x081101 ∷ 0 ∷ 0x232601 ∷ 8 ∷ []) []
     ∷ row (runMode 1 ∷ register 5 0x0008 ∷ []) (bcr ++ (line "0" ++ wrFrontEnd (field 8 0))) (frame 35 2) (0x081101 ∷ 0 ∷ 0x222421 ∷ 1 ∷ []) []
     ∷ row (runMode 1 ∷ register 5 0x0008 ∷ []) (bcr ++ (line "00" ++ wrFrontEnd (field 8 0))) (frame 36 2) (0x081101 ∷ 0 ∷ 0x232401 ∷ 1 ∷ []) []
+    ∷ row (runMode 1 ∷ register 5 0x0008 ∷ []) (bcr ++ (line "0" ++ wrFrontEnd (line "10000000"))) (frame 35 2) (0x081101 ∷ 0 ∷ 0x222431 ∷ 1 ∷ []) []
     -- "none of these three asks zeros after itself"
     ∷ row running (badFast ++ (bcr ++ lv1)) (done 23 3) (0x081F00 ∷ 0 ∷ 0x111101 ∷ 0 ∷ 0x160105 ∷ 0x0005 ∷ []) []
     ∷ row running (badFast ++ lv1) (done 14 2) (0x081F00 ∷ 0 ∷ 0x0D0105 ∷ 0x000D ∷ []) []

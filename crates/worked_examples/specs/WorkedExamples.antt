@@ -26,7 +26,7 @@ pub record TakingExamples : Type 0 where
   pub marked : MarkedStreams
   pub chip-gives : Gives 80 chip.table
   pub commands-give : Gives 31 commands.table
-  pub timing-gives : Gives 39 timing.table
+  pub timing-gives : Gives 49 timing.table
   pub sound-gives : Gives 129 sound.table
   pub calls-give : Table calls.callShown calls.callExpected 28 calls.table
   pub ranges-give : Table ranges.rangeShown ranges.rangeExpected 18 ranges.table

@@ -55,7 +55,7 @@ returns-2 c =
     let n = z .before .before in
     let s = n .before .before .before in
     sym (without-subtraction (s .args .self) (s .args .entry .time) (s .args .entry .kind) (s .args .cnt)
-    ∙ simp (ne-eqb _ _ (n .before .if1 .left), n .cycles-back .ensures .0, z .zeros-asked .ensures .0))
+    ∙ simp (ne-eqb _ _ (n .before .if1 .left), n .cycles-back .ensures .0, z .zeros-asked .ensures))
 
 pub is-too-close-spec : {M : Type 1} → statement M
 is-too-close-spec =
