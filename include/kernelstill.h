@@ -104,7 +104,7 @@ extern "C" {
  * The flags of a record, added up.
  *
  * A command is too close, in and out of RunMode, when fewer zeros than the
- * timing table asks lie between the record before and it: after BCR 2 and
+ * timing table asks lie between the earlier record and it: after BCR 2 and
  * after ECR 1, if anything but an LV1 follows; after SYNC 4, if an LV1 follows,
  * exact or with flip; otherwise 0. 1101 straight after a command always is: as
  * an LV1 it has five bits, and the first of them is that command's last. The
@@ -115,7 +115,7 @@ extern "C" {
 #define KERNELSTILL_FLAG_SENT 0x04      /* sent to the front ends */
 #define KERNELSTILL_FLAG_MISSING 0x08   /* a missing register */
 #define KERNELSTILL_FLAG_UNSTEADY 0x10  /* a front-end group was unsteady */
-#define KERNELSTILL_FLAG_TOO_CLOSE 0x20 /* too close to the record before */
+#define KERNELSTILL_FLAG_TOO_CLOSE 0x20 /* too close to the earlier record */
 
 /*
  * The store: FIFO n has the words 128 x n to 128 x n + 127. WrFifo writes
@@ -151,7 +151,7 @@ extern "C" {
  * Words 7 to 13 are the recogniser's. What those hold that the present phase
  * does not use means nothing. From an opening on they are 0 there.
  *
- * Words 20 and 21 are the record before, which GlobalResetMCC does not forget.
+ * Words 20 and 21 are the earlier record; GlobalResetMCC's own becomes it.
  * An opening writes 0 into both.
  */
 #define KERNELSTILL_LAYOUT 3
@@ -175,7 +175,7 @@ extern "C" {
 #define KERNELSTILL_AT_WLV1 17         /* the warning of an LV1 with flip, CSR bit 8; 0 or 1 */
 #define KERNELSTILL_AT_WFST 18         /* the warning of a bad Fast, CSR bit 9; 0 or 1 */
 #define KERNELSTILL_AT_WSLW 19         /* the warning of a bad Slow, CSR bit 10; 0 or 1 */
-#define KERNELSTILL_AT_EARLIER_TIME 20 /* the time of the record before, 64 bits; it means nothing where there is none */
+#define KERNELSTILL_AT_EARLIER_TIME 20 /* the time of the earlier record, 64 bits; it means nothing where there is none */
 #define KERNELSTILL_AT_EARLIER_KIND 21 /* its kind, 8 bits; 0 where there is none */
 #define KERNELSTILL_AT_REGISTERS 22    /* 16 words: the registers as stored, 16 bits each */
 #define KERNELSTILL_AT_WRITES 38       /* 16 words: the FIFOs' write pointers, 8 bits each */

@@ -278,7 +278,7 @@ class Record(NamedTuple):
     three or fewer, and with four ones the first cycle's bit.
 
     A command is too close when fewer zeros than the timing table asks lie
-    between the record before and it: after BCR 2 and after ECR 1, if anything
+    between the earlier record and it: after BCR 2 and after ECR 1, if anything
     but an LV1 follows; after SYNC 4, if an LV1 follows; otherwise 0. Of three
     BCRs the second has one zero ahead of it here, the third two:
 
@@ -343,7 +343,7 @@ class Record(NamedTuple):
     @property
     def too_close(self) -> bool:
         """A command with fewer zeros ahead of it than the timing table asks
-        after the record before; never the first one after an opening."""
+        after the earlier record; never the first one after an opening."""
         return bool(self.flags & 0x20)
 
     @property
@@ -404,7 +404,7 @@ class State:
     l1id: int  # the next trigger's number
     base: int  # the cycle from which the bunch number counts
     warnings: Warnings
-    earlier_time: int  # of the record before
+    earlier_time: int  # of the earlier record
     earlier_kind: int  # its kind; 0 if there was none, and then its time means nothing
     registers: Tuple[int, ...]  # 16, as stored
     write_pointers: Tuple[int, ...]  # 16, a FIFO each

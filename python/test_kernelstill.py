@@ -697,7 +697,7 @@ class TooClose(unittest.TestCase):
         self.assertEqual((record.flags, record.unsteady, record.too_close), (0x31, True, True))
 
     def test_cuts(self):
-        """The record before is carried from call to call, by a saved state too."""
+        """The earlier record is carried from call to call, by a saved state too."""
         data, _, bits = at_bit_0(slow(8, 0), "0", SYNC, "000", LV1, BCR, "0", wr_register(5, 8))
         records = Decoder().take(data, 0, bits)
         self.assertEqual([r.flags for r in records], [0x01, 0x01, 0x25, 0x01, 0x21])
@@ -708,7 +708,7 @@ class TooClose(unittest.TestCase):
             self.assertEqual(taken + decoder.take(data, cut, bits - cut), records, cut)
 
     def test_state(self):
-        """The record before, from record to record; none after an opening."""
+        """The earlier record, from record to record; none after an opening."""
         decoder, seen = Decoder(cycle=100), set()
         for command in self.COMMANDS:
             state = decoder.state

@@ -59,7 +59,7 @@ abbrev pub answered : Call → System → ℕ → ℕ → Ending → List ℕ �
 answered c s taken at ending list =
     result (takenWith (decoderOf s) taken ((at - c .free) / 2) ending) (s .machine .store) (s .machine .tray) list
 
--- The run that is left, finished onto what is taken and written so far, is the whole call. The record before has a time below the next cycle.
+-- The run that is left, finished onto what is taken and written so far, is the whole call. The earlier record has a time below the next cycle.
 pub record Invariant (d : Decoder) (c : Call) (store tray list : List ℕ) (r : Recogniser) (p : Performed) (taken : ℕ) : Type 0 where
   pub low : taken ≤ c .count
   pub below : earlierBelow (p .earlier) (d .next + taken) ≡ true
@@ -141,7 +141,8 @@ pub record AfterRequest (d : Decoder) (c : Call) (tray : List ℕ) (r : Recognis
       → answered c (standsAt d (p .store) tray r (p .performed) taken) taken (p .performed .at) Frame (p .list) ≡ takenOf d c
 
 -- a record leaves the store
-same-store : (plan : Plan) (m : Model) (e : Earlier) (y : Cycle) (store list : List ℕ) (at : ℕ) → length (recordedAt plan m e y store list at .store) ≡ length store
+same-store : (plan : Plan) (m : Model) (e : Earlier) (y : Cycle) (store list : List ℕ) (at : ℕ)
+    → length (recordedAt plan m e y store list at .store) ≡ length store
 same-store plan m e Silent store list at = refl
 same-store plan m e (Recorded x) store list at = refl
 
@@ -213,8 +214,9 @@ module _ {d : Decoder} {c : Call} {store tray list : List ℕ} {r : Recogniser} 
       time = omega arith
 
       module _ (tray₁ : List ℕ) (put : tray₁ ≡ trayOf tray (s .event .frame)) (kept-tray : length tray₁ ≡ length tray) where
-        module _ (f : Effect) (did : f ≡ actOf (d .plan) (p .model) (s .event .request) (d .next + on - 1) store) (kept : length (f .store) ≡ length store) where
-          -- what the cycle answers, and the record before after it
+        module _ (f : Effect) (did : f ≡ actOf (d .plan) (p .model) (s .event .request) (d .next + on - 1) store)
+            (kept : length (f .store) ≡ length store) where
+          -- what the cycle answers, and the earlier record then
           abbrev answer : Cycle
           answer = flaggedCycle (p .earlier) (p .cnt) (f .acted .cycle)
 

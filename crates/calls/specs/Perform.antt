@@ -26,7 +26,7 @@ pub record PerformResult : Type 0 where
 abbrev pub performResult : Performed → List ℕ → List ℕ → PerformResult
 performResult performed store list = record { performed = performed; store = store; list = list }
 
--- The model with its CNT, the record before, the next free word of the list, and whether the call stops here.
+-- The model with its CNT, the earlier record, the next free word of the list, and whether the call stops here.
 abbrev pub performedWith : Plan → Model → Earlier → ℕ → Bool → Performed
 performedWith plan m earlier at stops = record { model = m; cnt = cntOf plan m; earlier = earlier; at = at; stops = stops }
 

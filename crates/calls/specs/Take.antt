@@ -60,7 +60,7 @@ result taken store tray list = record { taken = taken; store = store; tray = tra
 abbrev pub takenWith : Decoder → ℕ → ℕ → Ending → Taken
 takenWith d bits records ending = record { decoder = d; report = record { bits = bits; records = records; ending = ending } }
 
--- A decoder after so many cycles, with its recogniser, its model and the record before then.
+-- A decoder after so many cycles, with its recogniser, its model and the earlier record then.
 abbrev pub decoderAfter : Decoder → Recogniser → Model → Earlier → ℕ → Decoder
 decoderAfter d r m earlier taken = record { plan = d .plan; next = d .next + taken; recogniser = r; model = m; earlier = earlier }
 

@@ -18,7 +18,7 @@ use Rattle.timing.specs.TooClose.{flaggedCycle, earlierAfter}
 use Rattle.decoder.specs.declared.Decoder.{Decoder}
 use Rattle.calls.specs.Run.{Turned}
 
--- All that an event reads or changes: the plan, the number of the next cycle, the model, the record before, the store and the tray.
+-- All that an event reads or changes: the plan, the number of the next cycle, the model, the earlier record, the store and the tray.
 pub record Machine : Type 0 where
   pub plan : Plan
   pub next : ℕ
@@ -52,7 +52,7 @@ cntAt m = cntOf (m .plan) (m .model)
 abbrev pub effectAt : Machine → Request → ℕ → Effect
 effectAt m request time = actOf (m .plan) (m .model) request time (m .store)
 
--- What the cycle answers: its record with the flag of one too close to the record before, by CNT as it stood ahead of the record's effect (document 02, F-5).
+-- What the cycle answers: its record with the flag of one too close to the earlier record, by CNT as it stood ahead of the record's effect (document 02, F-5).
 abbrev pub answerBy : Machine → Effect → Cycle
 answerBy m e = flaggedCycle (m .earlier) (cntAt m) (e .acted .cycle)
 

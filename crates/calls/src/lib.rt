@@ -124,7 +124,7 @@ impl Taken {
     }
 }
 
-// Where a call stands once a request is performed: the model with its CNT, the record before, the next free word of the list, and whether the call stops
+// Where a call stands once a request is performed: the model with its CNT, the earlier record, the next free word of the list, and whether the call stops
 // here.
 pub struct Performed {
     pub model: Model,

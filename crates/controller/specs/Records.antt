@@ -48,7 +48,8 @@ kindSlow command = 0x20 + command
 abbrev pub kindBadSlow : ℕ
 kindBadSlow = 0x2F
 
--- Flags: "01 acted on, 02 with flip, 04 sent to the front ends .., 08 missing register, 10 an unsteady group".
+-- Flags: "01 acted on, 02 with flip, 04 sent to the front ends .., 08 missing register, 10 an unsteady group". Document 02's flag 20 goes by the earlier
+-- record and is added behind the controller (`timing`).
 abbrev pub flagActed : Bool → ℕ
 flagActed b = cond b 0x01 0
 

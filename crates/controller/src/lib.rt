@@ -80,7 +80,7 @@ const KIND_SLOW: u8 = 0x20;
 
 const KIND_BAD_SLOW: u8 = 0x2F;
 
-// The flags of a record, which are added.
+// The flags of a record, which are added; `timing` adds one more, 0x20.
 const FLAG_ACTED: u8 = 0x01;
 
 const FLAG_FLIP: u8 = 0x02;

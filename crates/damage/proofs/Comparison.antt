@@ -38,7 +38,7 @@ same-flags flags e = ap (λ b. flags + flagTooClose b) e
 
 -- one command, recorded at cycle m, and what follows it from cycle n on
 module _ (sent : Bool) (m n : ℕ) (is : List Item) (more : Onward sent n is) (a b : Ahead) (t u : Bool) (g : Agree t u (a .counters) (b .counters)) where
-  -- the two records are flagged alike, and are then the record before
+  -- the two records are flagged alike, and each is then the earlier one
   same-one : (e : Command) → tooClose (a .earlier) m (commandKind e) 0 ≡ tooClose (b .earlier) m (commandKind e) 0
       → SameAfter t u (requestRecords sent a m (requestOf e) ++ cleanRecords sent (aheadAfter a m (requestOf e)) n is)
       (requestRecords sent b m (requestOf e) ++ cleanRecords sent (aheadAfter b m (requestOf e)) n is)
@@ -78,11 +78,10 @@ replaced sent a n (i ∷ is) k timed below =
     (λ inside. (
       _,
       refl,
-      same-after sent (n + itemSize i) is _ _ (affected i k) (affected i k)
-      (
+      same-after sent (n + itemSize i) is _ _ (affected i k) (affected i k) (
         (λ h. ap (λ (x : Replacement). replacementAhead a (n + i .ahead) x .counters .l1id) (sym (spared i k h))),
         (λ h. ap (λ (x : Replacement). replacementAhead a (n + i .ahead) x .counters .base) (sym (spared i k h))),
       )
-      (alike-next a n i k (ltb→lt k (itemSize i) inside) below is timed),
+          (alike-next a n i k (ltb→lt k (itemSize i) inside) below is timed),
     ))
     (λ later. (_, refl, replaced sent (itemAhead a n i) (n + itemSize i) is (k - itemSize i) (spaced-timed (i .command) is timed) (below-item a n i)))

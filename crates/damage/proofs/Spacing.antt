@@ -11,7 +11,7 @@ use borrow.Author.Tests.{le-ltb, lt-ltb, ltb-true}
 use Rattle.bits.proofs.Truth.{clash, cases, either, or-right, cond-most, and-left, and-right}
 use Rattle.recogniser.specs.declared.Request.the-variants.{Nothing, Lv1, Fast, BadFast, Slow}
 use Rattle.controller.specs.declared.Record.{Record}
-use Rattle.controller.specs.Records.{kindFast, flagSent}
+use Rattle.controller.specs.Records.{kindLv1, kindFast, kindBadFast, flagSent}
 use Rattle.timing.specs.declared.Earlier.{Earlier}
 use Rattle.timing.specs.Table.{zerosAsked}
 use Rattle.timing.specs.TooClose.{isNone, earlierBelow, cyclesBack, tooClose}
@@ -66,6 +66,13 @@ module _ (a : Ahead) (n : ℕ) (i : Item) where
       rw (own-earlier a (lastCycle n i) (i .command))
       (in-time (record { time = lastCycle n i; kind = commandKind (i .command) }) (n + itemSize i) j (λ _. omega arith))
 
+-- An LV1 and a bad Fast ask nothing.
+lv1-asks : (c : Command) → zerosAsked kindLv1 (commandKind c) ≡ 0
+lv1-asks = each-at (λ c. zerosAsked kindLv1 (commandKind c)) (λ c. 0) refl
+
+bad-fast-asks : (c : Command) → zerosAsked kindBadFast (commandKind c) ≡ 0
+bad-fast-asks = each-at (λ c. zerosAsked kindBadFast (commandKind c)) (λ c. 0) refl
+
 -- What the table puts in a command's place comes at its last bit at the latest, and asks zeros only if it is the command itself. A command that it leaves
 -- out has more bits than any record asks zeros.
 abbrev givesWay : Command → Replacement → Bool
@@ -90,11 +97,13 @@ module _ (a : Ahead) (n t : ℕ) (c : Command) (below : earlierBelow (a .earlier
   replaced-in-time (at p (Lv1 position)) h =
       let last = leb→le p (widthOf c) h in
       let long = length-is c in
-      in-time (record { time = n + t + (p - 1); kind = 0x01 }) _ j (λ _. omega arith)
+      let none = lv1-asks (j .command) in
+      in-time (record { time = n + t + (p - 1); kind = kindLv1 }) _ j (λ _. omega arith)
   replaced-in-time (at p (BadFast body)) h =
       let last = leb→le p (widthOf c) h in
       let long = length-is c in
-      in-time (record { time = n + t + (p - 1); kind = 0x1F }) _ j (λ _. omega arith)
+      let none = bad-fast-asks (j .command) in
+      in-time (record { time = n + t + (p - 1); kind = kindBadFast }) _ j (λ _. omega arith)
   replaced-in-time (at p (Fast body)) h =
       let last = leb→le p (widthOf c) (and-left (leb p (widthOf c)) _ h) in
       let same = eqb→eq (kindFast body) (commandKind c) (and-right (leb p (widthOf c)) _ h) in
@@ -103,7 +112,7 @@ module _ (a : Ahead) (n t : ℕ) (c : Command) (below : earlierBelow (a .earlier
   replaced-in-time (at p Nothing) h = absurd h
   replaced-in-time (at p (Slow slow)) h = absurd h
 
--- The next record is flagged alike after both, as it is after neither.
+-- The next record is flagged after neither of two earlier ones, or after both.
 abbrev pub Alike : Earlier → Earlier → ℕ → List Item → Type 0
 Alike e f n [] = Unit {0}
 Alike e f n (j ∷ js) = close e n j ≡ close f n j

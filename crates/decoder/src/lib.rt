@@ -17,7 +17,7 @@ pub struct Decoder {
     pub next: u64,
     pub recogniser: Recogniser,
     pub model: Model,
-    // The record before, which says whether the next one is too close to it.
+    // The earlier record, which says whether the next one is too close to it.
     pub earlier: Earlier,
 }
 
@@ -223,6 +223,8 @@ impl Decoder {
         let stopped = !(slow & model.running);
         let cnt = model.cnt(plan);
         let fits = fit(recogniser, cnt);
-        opens & (clock & (base & (before & (writes_fit & (reads_fit & (missing & (stopped & fits)))))))
+        opens
+            & (clock
+                & (base & (before & (writes_fit & (reads_fit & (missing & (stopped & fits)))))))
     }
 }

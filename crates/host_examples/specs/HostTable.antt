@@ -95,7 +95,7 @@ table =
     hostRow start (enDataTake ++ lv1) 22 4 nines 0 (22 ∷ 2 ∷ 0 ∷ [])
     ∷ hostRow start (wrFrontEnd [] ++ lv1) 22 4 nines 0 (17 ∷ 1 ∷ 1 ∷ [])
     ∷ hostRow start (enDataTake ++ lv1) 22 3 nines 0 (17 ∷ 1 ∷ 2 ∷ [])
-    -- 3: an image of another length or layout, with a word beyond its width (the group, RunMode, L1ID, the kind of the record before, register 1), or of
+    -- 3: an image of another length or layout, with a word beyond its width (the group, RunMode, L1ID, the kind of the earlier record, register 1), or of
     -- an unsound state
     ∷ hostRow (3 ∷ 0x07FF ∷ 0 ∷ 2 ∷ 5 ∷ replicate 64 0) lv1 5 4 nines 3 nines
     ∷ hostRow (3 ∷ 0x07FF ∷ 0 ∷ 2 ∷ 5 ∷ replicate 66 0) lv1 5 4 nines 3 nines

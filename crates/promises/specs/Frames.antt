@@ -58,8 +58,8 @@ closeBehind s before head =
     tooClose (m .earlier) (head / 65536) (kindOf head) (cntAt m)
 
 -- Behind the records of the bits ahead of Field 5 the calls write one, the frame's, with the time of its last bit, flag 10 where a group was unsteady, flag
--- 20 where it is too close to the record before, and the count of its bits. The part handed back has as many bytes as they need; each of its bits, "highest bit first", is the frame's at that place, and 0
--- beyond the frame's last.
+-- 20 where it is too close to the earlier record, and the count of its bits. The part handed back has as many bytes as they need; each of its bits,
+-- "highest bit first", is the frame's at that place, and 0 beyond the frame's last.
 pub record HandsBack (s : System) (words tray : List ℕ) (command : ℕ) (before field : List ℕ) : Type 0 where
   pub head : ℕ
   pub value : ℕ

@@ -7,7 +7,7 @@ ghost use Rattle.timing.specs.Table.{zerosAsked};
 ghost use Rattle.timing.specs.TooClose.{none, earlierOf, earlierBelow, cyclesBack, tooClose, flagged};
 use controller::Record;
 
-// The record before, by its time and kind. Kind 0, which no record has, stands for none.
+// The earlier record: that of the command before, by its time and kind. Kind 0, which no record has, stands for none.
 pub struct Earlier {
     pub time: u64,
     pub kind: u8,

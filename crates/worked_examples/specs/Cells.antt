@@ -80,7 +80,7 @@ wfst n = cell (image-at 18) n
 abbrev pub wslw : ℕ → Cell
 wslw n = cell (image-at 19) n
 
--- The record before: its time and its kind, 0 for none.
+-- The earlier record: its time and its kind, 0 for none.
 abbrev pub earlierTime : ℕ → Cell
 earlierTime n = cell (image-at 20) n
 

@@ -4,7 +4,8 @@
 use mathlib.Core.List.{List, [], _∷_, _++_}
 use lib.ListN.{replicate}
 use Rattle.worked_examples.specs.Cells.{Cell, mask, csr, feen, cnt, next, phase, shift, command, address, count, held, group, unsteady}
-use Rattle.worked_examples.specs.Cells.{registers, runMode, base, earlierTime, earlierKind, register, writePointer, writePointers, readPointer, readPointers}
+use Rattle.worked_examples.specs.Cells.{registers, runMode, base, register, writePointer, writePointers, readPointer, readPointers}
+use Rattle.worked_examples.specs.Cells.{earlierTime, earlierKind}
 use Rattle.worked_examples.specs.Example.{Row, row, done, refused}
 
 -- A call that is offered no bits: it is 'done', or number 3.

@@ -100,8 +100,10 @@ at-requires c κs = search needs
 loop-holds : tie.Need-loop-holds Inv-loop μ-loop
 loop-holds c =
     let s = begun (c .before) in
-    let b = stands {place = s .args .first} (c .at .ensures) in
-    (rw (c .before .nothing .ensures) (initially (s .args .decoder) _ (omega (arith, s)) (s .pre .0 .2)), record { inside = b .inside; under = omega (arith, b) })
+    let b = stands {place = s .args .first} (c .at .ensures) in (
+      rw (c .before .nothing .ensures) (initially (s .args .decoder) _ (omega (arith, s)) (s .pre .0 .2)),
+      record { inside = b .inside; under = omega (arith, b) },
+    )
 
 sub-if1 : tie.Need-sub-if1 Inv-loop μ-loop
 sub-if1 c = search needs
