@@ -19,8 +19,7 @@ use Rattle.promises.specs.Programs.{ProgramPromise}
 
 pub program-promise : ProgramPromise
 unfolding stepOf planFits actOf tooClose openOf turnOf lineMeaning linesFrom linesRead charactersOf numbersLine recordText bitsText listingOf stateLines
-
-unfolding programOf
+    programOf
 program-promise = record {
   as-read = λ prints store tray out input turns long wide o i. turns-print prints store tray out input long wide i o turns;
   listing = refl;
