@@ -625,7 +625,8 @@ class TooClose(unittest.TestCase):
 
     def test_listing(self):
         """As docs/USING.md shows it: one way to be too close a line."""
-        decoder, lines = Decoder(), ("B5C000", "B0AC20", "B15900", "B40E80", "EE80", "B0AD740A")
+        lines = "B5C000", "B0AC20", "B15900", "B40E80", "EE80", "B0AC00", "B40E00", "B0AD740A"
+        decoder = Decoder()
         records = [record for line in lines for record in decoder.take(hex_line(line))]
         expected = (
             "000000000010 28 01 00000000\n"
@@ -638,7 +639,11 @@ class TooClose(unittest.TestCase):
             "000000000064 01 05 0000013A\n"
             "000000000068 01 27 0001023E\n"
             "000000000078 11 01 00000000\n"
-            "00000000008E 2A 21 0000000B\n"
+            "000000000082 1F 20 00000000\n"
+            "000000000090 18 01 00000000\n"
+            "000000000098 01 27 00050320\n"
+            "0000000000A8 11 01 00000000\n"
+            "0000000000BE 2A 21 0000000B\n"
         )
         self.assertEqual(listing(records), expected)
 
