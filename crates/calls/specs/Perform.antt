@@ -6,6 +6,7 @@ use Prim.Native.Nat.{ℕ, _+_}
 use lib.ListN.{set}
 use Rattle.limits.specs.Limits.{listUnit}
 use Rattle.recogniser.specs.declared.Request.{Request}
+use Rattle.recogniser.specs.declared.Request.the-variants.{Nothing, Lv1, Fast, BadFast, Slow}
 use Rattle.registers.specs.declared.Plan.{Plan}
 use Rattle.registers.specs.declared.Model.{Model}
 use Rattle.registers.specs.Registers.{cntOf}
@@ -29,6 +30,14 @@ performResult performed store list = record { performed = performed; store = sto
 -- The model with its CNT, the earlier record, the next free word of the list, and whether the call stops here.
 abbrev pub performedWith : Plan → Model → Earlier → ℕ → Bool → Performed
 performedWith plan m earlier at stops = record { model = m; cnt = cntOf plan m; earlier = earlier; at = at; stops = stops }
+
+-- CNT after a request, by what it was ahead of it: only a Slow changes a register.
+abbrev pub cntAfter : Plan → Model → Request → ℕ → ℕ
+cntAfter plan m Nothing cnt = cnt
+cntAfter plan m (Lv1 position) cnt = cnt
+cntAfter plan m (Fast body) cnt = cnt
+cntAfter plan m (BadFast body) cnt = cnt
+cntAfter plan m (Slow slow) cnt = cntOf plan m
 
 -- What a cycle answers, in the list from a word on.
 abbrev pub recordedAt : Plan → Model → Earlier → Cycle → List ℕ → List ℕ → ℕ → PerformResult

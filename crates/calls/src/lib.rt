@@ -6,8 +6,9 @@ ghost use lib.ListN.{length, set};
 ghost use Rattle.limits.specs.Limits.{clockLimit, storeLength, listUnit};
 ghost use Rattle.controller.specs.Records.{headOf};
 ghost use Rattle.controller.specs.Requests.{requestFits};
+ghost use Rattle.registers.specs.Registers.{cntOf};
 ghost use Rattle.timing.specs.TooClose.{earlierBelow};
-ghost use Rattle.calls.specs.Perform.{performResult, performedWith, performOf};
+ghost use Rattle.calls.specs.Perform.{performResult, performedWith, cntAfter, performOf};
 ghost use Rattle.calls.specs.Take.{takenWith, decoderAfter, buffersFit, endingNumber};
 use controller::Cycle;
 use controller::Record;
@@ -152,6 +153,19 @@ impl Performed {
     }
 }
 
+// CNT after a request, where it was so ahead of it: only a Slow changes a register.
+fn cnt_after(model: Model, plan: Plan, request: Request, cnt: u16) -> u16
+    ensures { λ r. ⌜ r ≡ cntAfter plan model request cnt ⌝ }
+{
+    match request {
+        Request::Nothing => cnt,
+        Request::Lv1 { position } => cnt,
+        Request::Fast { body } => cnt,
+        Request::BadFast { body } => cnt,
+        Request::Slow { slow } => model.cnt(plan),
+    }
+}
+
 // Performs a request at its cycle: its effect, and its record in the list, flagged where it is too close to the one before.
 pub fn perform(
     from: Performed,
@@ -162,7 +176,7 @@ pub fn perform(
     list: &mut [u64],
 ) -> Performed
     requires { ⌜ (time < clockLimit) × (length (now store) ≡ storeLength) × (requestFits request ≡ true) × (listUnit ≤ length (now list) - from .at) ⌝ }
-    requires { ⌜ earlierBelow (from .earlier) clockLimit ≡ true ⌝ }
+    requires { ⌜ (earlierBelow (from .earlier) clockLimit ≡ true) × (from .cnt ≡ cntOf plan (from .model)) ⌝ }
     ensures { λ r. ⌜ performResult r (now (store .exit)) (now (list .exit))
         ≡ performOf plan from request time (now (store .entry)) (now (list .entry)) ⌝ }
 {
@@ -170,7 +184,7 @@ pub fn perform(
     let model = from.model;
     let acted = controller::act(model, plan, request, time, store);
     let m = acted.model;
-    let cnt = m.cnt(plan);
+    let cnt = cnt_after(m, plan, request, from.cnt);
     let cycle = acted.cycle;
     let earlier = from.earlier;
     let Cycle::Recorded { entry } = cycle else {

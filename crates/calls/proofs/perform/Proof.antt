@@ -1,11 +1,13 @@
 -- `perform` is a request performed.
 -- Assumes nothing.
+use mathlib.Core.Path.{_≡_}
 use Prim.Native.Nat.{_<_}
 use native.Mathlib.Omega.{arith}
 use borrow.Author.Needs.{needs}
 use lib.ListN.{length-take, length-drop}
 use Rattle.limits.specs.Limits.{clockLimit}
-use Rattle.calls.proofs.PerformCases.{with-stamp, silently, recorded}
+use Rattle.registers.specs.Registers.{cntOf}
+use Rattle.calls.proofs.PerformCases.{with-stamp, present-cnt, silently, recorded}
 use Rattle.calls.proofs.LoopInvariant.{two-put}
 use Rattle.calls.proofs.perform.Statement.{statement}
 use Rattle.calls.proofs.perform.Tie as tie
@@ -14,10 +16,10 @@ use Rattle.calls.proofs.perform.Tie as tie
 abbrev called : tie.After-act → tie.Start
 called a = let k = a .before .before .before .before in k .before
 
-abbrev acted : tie.After-cnt → tie.After-act
+abbrev acted : tie.After-cnt-after → tie.After-act
 acted n = n .before .before .before .before
 
-abbrev counted : tie.After-cycle → tie.After-cnt
+abbrev counted : tie.After-cycle → tie.After-cnt-after
 counted k = k .before .before .before
 
 abbrev read : tie.After-flagged → tie.After-cycle
@@ -31,11 +33,18 @@ stamp k =
     let w = with-stamp (s .args .plan) (s .args .from) (s .args .request) (s .args .time) _ _ _ (a .act .ensures) _ (s .pre .0 .2) (k .cycle .given .1) in
     (rw (w .at-time) (s .pre .0 .0), w .low-flags)
 
+-- CNT is the model's.
+present : (n : tie.After-cnt-after) → n .cnt-after .result ≡ cntOf (called (acted n) .args .plan) (acted n .act .result .model)
+present n =
+    let a = acted n in
+    let s = called a in
+    present-cnt (s .args .plan) (s .args .from) (s .args .request) (s .args .time) _ _ _ (a .act .ensures) _ (s .pre .1 .1) (n .cnt-after .ensures)
+
 act-requires : tie.Need-act-requires
 act-requires c κs = search needs
 
-cnt-requires : tie.Need-cnt-requires
-cnt-requires c κs = search needs
+cnt-after-requires : tie.Need-cnt-after-requires
+cnt-after-requires c κs = search needs
 
 enum-known-cycle : tie.Need-enum-known-cycle
 enum-known-cycle c = search needs
@@ -49,12 +58,12 @@ same-length c = search needs
 returns : tie.Need-returns
 returns c =
     let n = c .before .before .before in
-    silently _ _ _ _ _ _ _ (acted n .act .ensures) _ _ (n .cnt .ensures) (c .enum-told .given .1)
+    silently _ _ _ _ _ _ _ (acted n .act .ensures) _ _ (present n) (c .enum-told .given .1)
 
 flagged-requires : tie.Need-flagged-requires
 flagged-requires c κs =
     let k = c .before in
-    (stamp k .1, called (acted (counted k)) .pre .1)
+    (stamp k .1, called (acted (counted k)) .pre .1 .0)
 
 mul-write-record : tie.Need-mul-write-record
 mul-write-record c =
@@ -104,7 +113,7 @@ returns-2 c =
     let n = counted k in
     let a = acted n in
     let s = called a in
-    recorded _ _ _ _ _ _ _ (a .act .ensures) _ _ (n .cnt .ensures) _ _ _ (f .flagged .ensures) (o .of .ensures) _ _ (k .cycle .given .1) (c .is-frame .ensures)
+    recorded _ _ _ _ _ _ _ (a .act .ensures) _ _ (present n) _ _ _ (f .flagged .ensures) (o .of .ensures) _ _ (k .cycle .given .1) (c .is-frame .ensures)
     (rw (w .write-record .ensures) (two-put (s .args .list .now) (s .args .from .at) _ _ (s .pre .0 .3)))
 
 pub perform-spec : {M : Type 1} → statement M
@@ -112,7 +121,7 @@ perform-spec =
     tie.close
     (tie.spec
     act-requires
-    cnt-requires
+    cnt-after-requires
     enum-known-cycle
     enum-told
     same-length

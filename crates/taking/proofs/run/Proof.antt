@@ -178,7 +178,7 @@ perform-requires c κs =
     let m = moves a in
     let fits = stretched-fits (l .loop .inv .0) (a .before .before .before .loop-test .taken) (a .before .if1 .left) (stretch a) (walks a) in
     let below = below-later (l .loop .done .earlier) _ clockLimit (omega (arith, l, called l)) (l .loop .inv .0 .below) in
-    ((omega (arith, l, called l), (l .loop .inv .0 .long ∙ called l .pre .0 .1), fits, a .before .if1 .left), below)
+    ((omega (arith, l, called l), (l .loop .inv .0 .long ∙ called l .pre .0 .1), fits, a .before .if1 .left), (below, l .loop .inv .0 .cnt-is))
 
 ended-requires-2 : tie.Need-ended-requires-2 Inv-loop μ-loop
 ended-requires-2 c κs =
