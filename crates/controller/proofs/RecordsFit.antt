@@ -18,13 +18,13 @@ use Rattle.controller.specs.declared.Acted.{Acted}
 use Rattle.controller.specs.declared.Cycle.{Cycle}
 use Rattle.controller.specs.declared.Cycle.the-variants.{Silent, Recorded}
 use Rattle.controller.specs.Commands.{frameValueOf, slowOf, actOf}
-use Rattle.controller.specs.Widths.{ModelFits, SlowNarrow, Narrow}
+use Rattle.controller.specs.Widths.{ModelFits, SlowNarrow, Narrow, ValueFits}
 use Rattle.controller.proofs.EffectCases.{command-cases}
 use Rattle.controller.proofs.RecordStamps.{flags-low}
 
 abbrev pub CycleFits : Cycle → Type 0
 CycleFits Silent = Unit {0}
-CycleFits (Recorded r) = r .value < 2 ^ 32
+CycleFits (Recorded r) = ValueFits (r .value)
 
 warnings-low : (w : Warnings) → warningBits w ≤ 7
 warnings-low w = flags-low (w .wlv1) (w .wfst) (w .wslw)
@@ -36,10 +36,10 @@ module _ (plan : Plan) (m : Model) (fit : ModelFits m) (time : ℕ) (store : Lis
       let w = warnings-low (m .warnings) in
       choice (λ v. v < 2 ^ 16) (eqb address (plan .csr)) (λ _. omega arith) (λ _. h)
 
-  frame-low : (command : ℕ) → frameValueOf command (cntOf plan m) < 2 ^ 32
+  frame-low : (command : ℕ) → ValueFits (frameValueOf command (cntOf plan m))
   frame-low command =
       let h = fit .each-register (plan .cnt) in
-      choice (λ v. v < 2 ^ 32) (eqb command 6) (λ _. omega arith) (λ _. omega arith)
+      choice ValueFits (eqb command 6) (λ _. omega arith) (λ _. omega arith)
 
   slow-fits : (s : SlowRequest) → SlowNarrow s → CycleFits (slowOf plan m s time store .acted .cycle)
   slow-fits LeaveRunMode n = tt
@@ -57,7 +57,7 @@ module _ (plan : Plan) (m : Model) (fit : ModelFits m) (time : ℕ) (store : Lis
   unfolding actOf
   cycle-fits Nothing n = tt
   cycle-fits (Lv1 position) n =
-      choice (λ v. position * 65536 + v < 2 ^ 32) (m .running) (λ _. omega arith) (λ _. omega arith)
+      choice (λ v. ValueFits (position * 65536 + v)) (m .running) (λ _. omega arith) (λ _. omega arith)
   cycle-fits (Fast body) n = omega arith
   cycle-fits (BadFast body) n = omega arith
   cycle-fits (Slow s) n = slow-fits s n

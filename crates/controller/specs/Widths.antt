@@ -33,8 +33,12 @@ Narrow (Fast body) = body < 2 ^ 4
 Narrow (BadFast body) = body < 2 ^ 4
 Narrow (Slow slow) = SlowNarrow slow
 
--- The words of whole records, each with its time below 2^48 and "a value below 2^32": 12 and 8 hexadecimal digits, as a record's line has them.
+-- "a value below 2^32"
+abbrev pub ValueFits : ℕ → Type 0
+ValueFits value = value < 2 ^ 32
+
+-- The words of whole records, each with its time below 2^48 and a value that fits: 12 and 8 hexadecimal digits, as a record's line has them.
 abbrev pub WordsFit : List ℕ → Type 0
 WordsFit [] = Unit {0}
 WordsFit (head ∷ []) = ⊥
-WordsFit (head ∷ value ∷ words) = (head / 65536 < clockLimit) × (value < 2 ^ 32) × WordsFit words
+WordsFit (head ∷ value ∷ words) = (head / 65536 < clockLimit) × ValueFits value × WordsFit words
