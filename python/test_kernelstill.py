@@ -625,7 +625,7 @@ class TooClose(unittest.TestCase):
 
     def test_listing(self):
         """As docs/USING.md shows it: one way to be too close a line."""
-        lines = "B5C000", "B0AC20", "B15900", "B40E80", "EE80", "B0AC00", "B40E00", "B0AD740A"
+        lines = "B5C000 B0AC20 B15900 B40E80 EE80 B0AC00 B40E00 B0AD740A B0AD6E00".split()
         decoder = Decoder()
         records = [record for line in lines for record in decoder.take(hex_line(line))]
         expected = (
@@ -644,6 +644,8 @@ class TooClose(unittest.TestCase):
             "000000000098 01 27 00050320\n"
             "0000000000A8 11 01 00000000\n"
             "0000000000BE 2A 21 0000000B\n"
+            "0000000000C8 11 00 00000000\n"
+            "0000000000DA 2F 20 00000007\n"
         )
         self.assertEqual(listing(records), expected)
 

@@ -70,13 +70,13 @@ const GLOBAL_RESET_MCC: u8 = 9;
 const GLOBAL_RESET_FE: u8 = 10;
 
 // The kinds of a record; a Fast and a Slow add their body and Field 3.
-const KIND_LV1: u8 = 0x01;
+pub const KIND_LV1: u8 = 0x01;
 
-const KIND_FAST: u8 = 0x10;
+pub const KIND_FAST: u8 = 0x10;
 
 const KIND_BAD_FAST: u8 = 0x1F;
 
-const KIND_SLOW: u8 = 0x20;
+pub const KIND_SLOW: u8 = 0x20;
 
 const KIND_BAD_SLOW: u8 = 0x2F;
 

@@ -6,8 +6,9 @@ use mathlib.Core.Bool.{Bool, cond, not, _&&_}
 use mathlib.Core.List.{List, [], _∷_, _++_}
 use Prim.Native.Nat.{ℕ, _+_, _-_, _/_, _%_}
 use lib.Dec.{eqb, ltb, T}
-use Rattle.controller.specs.Records.{kindLv1, kindFast}
+use Rattle.controller.specs.Records.{kindLv1}
 use Rattle.controller.specs.declared.Record.{Record}
+use Rattle.timing.specs.Table.{kindBcr, kindEcr}
 use Rattle.damage.specs.CleanStreams.{Item, itemSize}
 use Rattle.damage.specs.Table.{affected, replacementOf}
 use Rattle.damage.specs.Records.{Ahead, itemRecords, itemAhead, cleanRecords, replacementRecords}
@@ -28,7 +29,7 @@ SameAfter trigger bunch [] (y ∷ ys) = ⊥
 SameAfter trigger bunch (x ∷ xs) [] = ⊥
 SameAfter trigger bunch (x ∷ xs) (y ∷ ys) =
     (x .time ≡ y .time) × (x .kind ≡ y .kind) × (x .flags ≡ y .flags) × SameValue trigger bunch x y
-    × SameAfter (trigger && not (eqb (x .kind) (kindFast 0b0010))) (bunch && not (eqb (x .kind) (kindFast 0b0001))) xs ys
+    × SameAfter (trigger && not (eqb (x .kind) kindEcr)) (bunch && not (eqb (x .kind) kindBcr)) xs ys
 
 -- The damaged records are the clean ones ahead of the item that holds the inverted bit, what the table says of that item, and records like the clean
 -- ones after it; "if none is affected, nowhere" do they differ.

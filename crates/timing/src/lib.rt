@@ -5,6 +5,9 @@ ghost use Prim.Native.Nat.{_<_, _^_};
 ghost use Rattle.limits.specs.Limits.{clockLimit};
 ghost use Rattle.timing.specs.Table.{zerosAsked};
 ghost use Rattle.timing.specs.TooClose.{none, earlierOf, earlierBelow, cyclesBack, tooClose, flagged};
+use controller::KIND_FAST;
+use controller::KIND_LV1;
+use controller::KIND_SLOW;
 use controller::Record;
 
 // The earlier record: that of the command before, by its time and kind. Kind 0, which no record has, stands for none.
@@ -13,16 +16,12 @@ pub struct Earlier {
     pub kind: u8,
 }
 
-// The kinds that the table tells apart; from SLOW on they are those of Slow commands.
-const LV1: u8 = 0x01;
+// The kinds of the Fasts that ask zeros after themselves.
+const BCR: u8 = KIND_FAST + 0b0001;
 
-const BCR: u8 = 0x11;
+const ECR: u8 = KIND_FAST + 0b0010;
 
-const ECR: u8 = 0x12;
-
-const SYNC: u8 = 0x18;
-
-const SLOW: u8 = 0x20;
+const SYNC: u8 = KIND_FAST + 0b1000;
 
 // The flag of a record too close to the one before it; the controller's flags are below it.
 const FLAG_TOO_CLOSE: u8 = 0x20;
@@ -31,7 +30,7 @@ const FLAG_TOO_CLOSE: u8 = 0x20;
 pub fn zeros_asked(kind: u8, next: u8) -> u8
     ensures { λ r. ⌜ r ≡ zerosAsked kind next ⌝ }
 {
-    if next == LV1 {
+    if next == KIND_LV1 {
         return if kind == SYNC { 4 } else { 0 };
     }
     if kind == BCR {
@@ -44,13 +43,13 @@ pub fn zeros_asked(kind: u8, next: u8) -> u8
 fn cycles_back(kind: u8, cnt: u16) -> u64
     ensures { λ r. ⌜ (r ≡ cyclesBack kind cnt) × (r < 2 ^ 33) ⌝ }
 {
-    if kind == LV1 {
+    if kind == KIND_LV1 {
         return 4;
     }
-    if kind < SLOW {
+    if kind < KIND_SLOW {
         return 8;
     }
-    16 + recogniser::length(kind - SLOW, cnt) as u64
+    16 + recogniser::length(kind - KIND_SLOW, cnt) as u64
 }
 
 impl Earlier {
