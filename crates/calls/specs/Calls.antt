@@ -26,6 +26,11 @@ unfoldable pub allWords : Decoder → List Call → List ℕ
 allWords d [] = []
 allWords d (c ∷ cs) = wordsStanding d c ++ allWords (takeOf d c .taken .decoder) cs
 
+-- The state that the last of them hands on.
+unfoldable pub stateLeft : Decoder → List Call → Decoder
+stateLeft d [] = d
+stateLeft d (c ∷ cs) = stateLeft (takeOf d c .taken .decoder) cs
+
 -- "Across cuts, state, store and tray are carried over unchanged": what a call of such a list is lent of its own.
 pub record Part : Type 0 where
   pub input : List ℕ

@@ -1,9 +1,9 @@
 -- Lists of taking calls over a clean or damaged stream write the records of its trace.
 -- Assumes nothing.
 use mathlib.Core.Path.{_≡_, _∙_, refl, sym, ap, ap₂}
-use mathlib.Core.Bool.{Bool, true, _&&_}
+use mathlib.Core.Bool.{Bool, true, false, _&&_}
 use mathlib.Core.List.{List, [], _∷_, _++_, append-nil}
-use Prim.Native.Nat.{ℕ, zero, suc, _+_, _-_, _/_, _%_, _^_, _<_}
+use Prim.Native.Nat.{ℕ, zero, suc, _+_, _/_, _%_, _^_}
 use native.Mathlib.Omega.{arith}
 use lib.Dec.{eqb, T}
 use lib.ListN.{length, getD, length-append}
@@ -22,18 +22,20 @@ use Rattle.controller.proofs.RequestsFit.{step-request-fits}
 use Rattle.calls.specs.Run.{stateAfter, wordsAfter}
 use Rattle.calls.specs.Turn.{System, decoderOf, cntAt, turnOf}
 use Rattle.calls.specs.Take.{Call, takeOf, lent}
-use Rattle.calls.specs.Calls.{bitsTaken, wordsStanding, allBits, allWords}
+use Rattle.calls.specs.Calls.{bitsTaken, wordsStanding, allBits, allWords, stateLeft}
 use Rattle.calls.proofs.CallLists.{call-kept}
 use Rattle.damage.specs.Commands.{Command, widthOf}
-use Rattle.damage.specs.CleanStreams.{Item, itemSize, streamBits, timed, inverted}
-use Rattle.damage.specs.Table.{Replacement, replacementOf}
-use Rattle.damage.specs.Traces.{requestsOf, recogniserAfter, quiet, spread, commandTrace, itemTrace, cleanTrace, damagedItem, damagedTrace}
-use Rattle.damage.specs.Records.{aheadOf, sends, requestRecords, cleanRecords, damagedRecords}
+use Rattle.damage.specs.CleanStreams.{Item, itemSize, streamBits, timed}
+use Rattle.damage.specs.Table.{Replacement, itself}
+use Rattle.damage.specs.Hits.{Hits, invertedAt, standsIn, apartByItems}
+use Rattle.damage.specs.Traces.{requestsOf, recogniserAfter, quiet, spread, itemTrace, cleanTrace, hitTrace}
+use Rattle.damage.specs.Records.{Recording, aheadOf, sends, requestRecords, cleanRecords, cleanAhead, hitRecords, hitAhead}
 use Rattle.damage.proofs.TracesJoined.{requests-append, after-append, length-requests}
 use Rattle.damage.proofs.Recovery.{clean-run}
-use Rattle.damage.proofs.Replacements.{damaged-cases, Passes, own-passes, replacement-passes}
-use Rattle.damage.proofs.InvertedBit.{damaged-run}
-use Rattle.damage.proofs.TraceRecords.{performed, aheadOn, performed-append, aheadOn-append, performed-clean, performed-damaged}
+use Rattle.damage.proofs.Replacements.{Passes, own-passes}
+use Rattle.damage.proofs.HitItems.{stands-passes}
+use Rattle.damage.proofs.HitRuns.{hit-run}
+use Rattle.damage.proofs.TraceRecords.{behind, performed, performed-append, performed-clean, performed-hit}
 use Rattle.damage.proofs.RunModeEffects.{outsideSlow, noSlow, step-any-cnt, step-stays-outside, from-empty, does}
 
 -- no request of a trace leads into a Slow command
@@ -64,43 +66,47 @@ record-words-append (e ∷ es) fs = ap (λ l. headOf e ∷ e .value ∷ l) (reco
 abbrev trace : Decoder → List ℕ → List Request
 trace d bits = requestsOf (d .recogniser) bits
 
+abbrev performs : Decoder → List ℕ → Recording
+performs d bits = performed (sends d) (aheadOf d) (d .next) (trace d bits)
+
 -- From d the bits lead to v and write the words, RunMode on, as the trace says.
 record Follows (d : Decoder) (bits : List ℕ) (v : Decoder) (words : List ℕ) : Type 0 where
-  written : words ≡ recordWords (performed (sends d) (aheadOf d) (d .next) (trace d bits))
+  written : words ≡ recordWords (performs d bits .records)
   stands : v .recogniser ≡ recogniserAfter (d .recogniser) bits
-  ahead : aheadOf v ≡ aheadOn (aheadOf d) (d .next) (trace d bits)
+  ahead : aheadOf v ≡ performs d bits .after
   next : v .next ≡ d .next + length bits
   running : v .model .running ≡ true
   sent : sends v ≡ sends d
   outside : T (outsideSlow (v .recogniser .phase))
 
 follows-none : (d : Decoder) → d .model .running ≡ true → T (outsideSlow (d .recogniser .phase)) → Follows d [] d []
-unfolding performed aheadOn requestsOf recogniserAfter
+unfolding performed requestsOf recogniserAfter
 follows-none d r q = record { written = refl; stands = refl; ahead = refl; next = omega arith; running = r; sent = refl; outside = q }
 
 follows-append : {d v u : Decoder} {xs ys : List ℕ} {ws zs : List ℕ} → Follows d xs v ws → Follows v ys u zs → Follows d (xs ++ ys) u (ws ++ zs)
-follows-append {d} {v} {u} {xs} {ys} {ws} {zs} a b = record {
-  written =
-      let later : List Request = requestsOf (recogniserAfter (d .recogniser) xs) ys in
-      rw (requests-append (d .recogniser) xs ys, performed-append (sends d) (aheadOf d) (d .next) (trace d xs) later, length-requests (d .recogniser) xs)
-      (ap₂ _++_ (a .written) (b .written ∙ (λ i. recordWords (performed (a .sent i) (a .ahead i) (a .next i) (requestsOf (a .stands i) ys))))
-      ∙ sym (record-words-append (performed (sends d) (aheadOf d) (d .next) (trace d xs)) _));
-  stands = b .stands ∙ ap (λ (r : Recogniser). recogniserAfter r ys) (a .stands) ∙ sym (after-append (d .recogniser) xs ys);
-  ahead =
-      let later : List Request = requestsOf (recogniserAfter (d .recogniser) xs) ys in
-      rw (requests-append (d .recogniser) xs ys, aheadOn-append (aheadOf d) (d .next) (trace d xs) later, length-requests (d .recogniser) xs)
-      (b .ahead ∙ (λ i. aheadOn (a .ahead i) (a .next i) (requestsOf (a .stands i) ys)));
-  next = let e = a .next in let f = b .next in rw length-append (omega arith);
-  running = b .running;
-  sent = b .sent ∙ a .sent;
-  outside = b .outside;
-}
+follows-append {d} {v} {u} {xs} {ys} {ws} {zs} a b =
+    let p : Recording = performs d xs in
+    let later : List Request = requestsOf (recogniserAfter (d .recogniser) xs) ys in
+    let q : Recording = performed (sends d) (p .after) (d .next + length xs) later in
+    let on : performs v ys ≡ q = λ i. performed (a .sent i) (a .ahead i) (a .next i) (requestsOf (a .stands i) ys) in
+    let joined : performs d (xs ++ ys) ≡ behind (p .records) q =
+    rw (requests-append (d .recogniser) xs ys, performed-append (sends d) (aheadOf d) (d .next) (trace d xs) later, length-requests (d .recogniser) xs) in
+    record {
+      written = ap₂ _++_ (a .written) (b .written ∙ ap (λ (r : Recording). recordWords (r .records)) on)
+          ∙ sym (ap (λ (r : Recording). recordWords (r .records)) joined ∙ record-words-append (p .records) (q .records));
+      stands = b .stands ∙ ap (λ (r : Recogniser). recogniserAfter r ys) (a .stands) ∙ sym (after-append (d .recogniser) xs ys);
+      ahead = b .ahead ∙ ap (λ (r : Recording). r .after) on ∙ sym (ap (λ (r : Recording). r .after) joined);
+      next = let e = a .next in let f = b .next in rw length-append (omega arith);
+      running = b .running;
+      sent = b .sent ∙ a .sent;
+      outside = b .outside;
+    }
 
 -- one cycle
 follows-one : (s : System) (bit : ℕ) → s .machine .model .running ≡ true → T (outsideSlow (s .recogniser .phase))
     → T (noSlow (stepOf (s .recogniser) bit 0 .event .request))
     → Follows (decoderOf s) (bit ∷ []) (decoderOf (turnOf s bit .state)) (wordsOf (turnOf s bit .cycle))
-unfolding turnOf performed aheadOn requestsOf recogniserAfter
+unfolding turnOf performed requestsOf recogniserAfter
 follows-one s bit r q h =
     let m = s .machine in
     let d : Decoder = decoderOf s in
@@ -144,9 +150,9 @@ follows-call d c r q h =
     rw (e, k .words) f
 
 follows-calls : (cs : List Call) (d : Decoder) → d .model .running ≡ true → T (outsideSlow (d .recogniser .phase)) → T (noSlowIn (trace d (allBits d cs)))
-    → (v : Decoder) × Follows d (allBits d cs) v (allWords d cs)
-unfolding allBits allWords
-follows-calls [] d r q h = (d, follows-none d r q)
+    → Follows d (allBits d cs) (stateLeft d cs) (allWords d cs)
+unfolding allBits allWords stateLeft
+follows-calls [] d r q h = follows-none d r q
 follows-calls (c ∷ cs) d r q h =
     let v : Decoder = takeOf d c .taken .decoder in
     let xs : List ℕ = bitsTaken d c in
@@ -154,8 +160,7 @@ follows-calls (c ∷ cs) d r q h =
     let later : List Request = requestsOf (recogniserAfter (d .recogniser) xs) ys in
     let k : T (noSlowIn (trace d xs ++ later)) = rw (← requests-append (d .recogniser) xs ys) h in
     let a = follows-call d c r q (noSlowIn-left (trace d xs) later k) in
-    let b = follows-calls cs v (a .running) (a .outside) (rw (a .stands) (noSlowIn-right (trace d xs) later k)) in
-    (b .0, follows-append a (b .1))
+    follows-append a (follows-calls cs v (a .running) (a .outside) (rw (a .stands) (noSlowIn-right (trace d xs) later k)))
 
 -- clean and damaged traces have no Slow command: computed for what stands in a command's place
 abbrev noSlowAt : Command → Replacement → Bool
@@ -164,25 +169,20 @@ noSlowAt c x = noSlowIn (spread (widthOf c) x)
 noSlow-passes : Passes noSlowAt
 noSlow-passes = record { own = refl; hit = refl; near = refl }
 
-noSlow-item : (i : Item) → T (noSlowIn (itemTrace i))
-noSlow-item i =
-    noSlowIn-append (quiet (i .ahead)) (commandTrace (i .command)) (noSlowIn-quiet (i .ahead)) (own-passes noSlowAt noSlow-passes (i .command))
-
-noSlow-hit : (i : Item) (k : ℕ) → k < itemSize i → T (noSlowIn (damagedItem i k))
-noSlow-hit i k h =
-    noSlowIn-append (quiet (i .ahead)) (spread (widthOf (i .command)) (replacementOf i k)) (noSlowIn-quiet (i .ahead))
-    (replacement-passes noSlowAt noSlow-passes i k h)
+noSlow-item : (i : Item) (x : Replacement) → T (noSlowAt (i .command) x) → T (noSlowIn (itemTrace i x))
+noSlow-item i x h = noSlowIn-append (quiet (i .ahead)) (spread (widthOf (i .command)) x) (noSlowIn-quiet (i .ahead)) h
 
 noSlow-clean : (is : List Item) (t : ℕ) → T (noSlowIn (cleanTrace is t))
 noSlow-clean [] t = noSlowIn-quiet t
-noSlow-clean (i ∷ is) t = noSlowIn-append (itemTrace i) (cleanTrace is t) (noSlow-item i) (noSlow-clean is t)
+noSlow-clean (i ∷ is) t =
+    let own = noSlow-item i (itself (i .command)) (own-passes noSlowAt noSlow-passes (i .command)) in
+    noSlowIn-append (itemTrace i (itself (i .command))) (cleanTrace is t) own (noSlow-clean is t)
 
-noSlow-damaged : (is : List Item) (t k : ℕ) → T (noSlowIn (damagedTrace is t k))
-noSlow-damaged [] t k = noSlowIn-quiet t
-noSlow-damaged (i ∷ is) t k =
-    damaged-cases (λ es. T (noSlowIn es)) i is t k
-    (λ h. noSlowIn-append (damagedItem i k) (cleanTrace is t) (noSlow-hit i k h) (noSlow-clean is t))
-    (λ _. noSlowIn-append (itemTrace i) (damagedTrace is t (k - itemSize i)) (noSlow-item i) (noSlow-damaged is t (k - itemSize i)))
+noSlow-hit : (hits : Hits) (n : ℕ) (is : List Item) (t : ℕ) → T (noSlowIn (hitTrace hits n is t))
+noSlow-hit hits n [] t = noSlowIn-quiet t
+noSlow-hit hits n (i ∷ is) t =
+    let stands = noSlow-item i (standsIn hits n i) (stands-passes noSlowAt noSlow-passes hits n i) in
+    noSlowIn-append (itemTrace i (standsIn hits n i)) (hitTrace hits (n + itemSize i) is t) stands (noSlow-hit hits (n + itemSize i) is t)
 
 -- the trace from a state that hunts with an empty window is that of an empty recogniser
 hunting-trace : (r : Recogniser) (bits : List ℕ) → r .phase ≡ Hunt → r .shift ≡ 0 → requestsOf r bits ≡ requestsOf idle bits
@@ -190,23 +190,29 @@ unfolding requestsOf
 hunting-trace r [] h e = refl
 hunting-trace r (bit ∷ bits) h e = ap (λ (x : Transition). x .event .request ∷ requestsOf (x .next) bits) (from-empty r bit h e)
 
--- A list of calls in RunMode, from an empty window, whose bits have a trace with no Slow command writes the records of that trace.
+-- What a list of calls has written, and what stands ahead of the next command in the state that it left.
+pub record Recorded (d : Decoder) (cs : List Call) (r : Recording) : Type 0 where
+  pub words : allWords d cs ≡ recordWords (r .records)
+  pub after : aheadOf (stateLeft d cs) ≡ r .after
+
+-- A list of calls in RunMode, from an empty window, whose bits have a trace with no Slow command records what that trace says.
 module _ (d : Decoder) (running : d .model .running ≡ true) (hunting : d .recogniser .phase ≡ Hunt) (empty : d .recogniser .shift ≡ 0) where
-  writes : (cs : List Call) (es : List Request) → requestsOf idle (allBits d cs) ≡ es → T (noSlowIn es)
-      → allWords d cs ≡ recordWords (performed (sends d) (aheadOf d) (d .next) es)
-  writes cs es e h =
+  records : (cs : List Call) (es : List Request) (r : Recording) → requestsOf idle (allBits d cs) ≡ es → T (noSlowIn es)
+      → performed (sends d) (aheadOf d) (d .next) es ≡ r → Recorded d cs r
+  records cs es r e h p =
       let t : trace d (allBits d cs) ≡ es = hunting-trace (d .recogniser) (allBits d cs) hunting empty ∙ e in
       let f = follows-calls cs d running (rw hunting tt) (rw t h) in
-      f .1 .written ∙ ap (λ es. recordWords (performed (sends d) (aheadOf d) (d .next) es)) t
+      let same : performs d (allBits d cs) ≡ r = ap (performed (sends d) (aheadOf d) (d .next)) t ∙ p in
+      record { words = f .written ∙ ap (λ (r : Recording). recordWords (r .records)) same; after = f .ahead ∙ ap (λ (r : Recording). r .after) same }
 
-  pub clean-words : (cs : List Call) (is : List Item) (t : ℕ) → allBits d cs ≡ streamBits is t
-      → allWords d cs ≡ recordWords (cleanRecords (sends d) (aheadOf d) (d .next) is)
-  clean-words cs is t e =
-      writes cs (cleanTrace is t) (ap (requestsOf idle) e ∙ clean-run is t) (noSlow-clean is t)
-      ∙ ap recordWords (performed-clean (sends d) (aheadOf d) (d .next) is t)
+  pub clean-recorded : (cs : List Call) (is : List Item) (t : ℕ) → allBits d cs ≡ streamBits is t
+      → Recorded d cs (record { records = cleanRecords (sends d) (aheadOf d) (d .next) is; after = cleanAhead (aheadOf d) (d .next) is })
+  clean-recorded cs is t e =
+      records cs (cleanTrace is t) _ (ap (requestsOf idle) e ∙ clean-run is t) (noSlow-clean is t) (performed-clean (sends d) (aheadOf d) (d .next) is t)
 
-  pub damaged-words : (cs : List Call) (is : List Item) (t k : ℕ) → T (timed is) → allBits d cs ≡ inverted k (streamBits is t)
-      → allWords d cs ≡ recordWords (damagedRecords (sends d) (aheadOf d) (d .next) is k)
-  damaged-words cs is t k h e =
-      writes cs (damagedTrace is t k) (ap (requestsOf idle) e ∙ damaged-run is t k h) (noSlow-damaged is t k)
-      ∙ ap recordWords (performed-damaged (sends d) (aheadOf d) (d .next) is t k)
+  pub hit-recorded : (cs : List Call) (hits : Hits) (is : List Item) (t : ℕ) → T (timed is) → T (apartByItems hits false (d .next) is t)
+      → allBits d cs ≡ invertedAt hits (d .next) (streamBits is t)
+      → Recorded d cs (record { records = hitRecords (sends d) hits (aheadOf d) (d .next) is; after = hitAhead hits (aheadOf d) (d .next) is })
+  hit-recorded cs hits is t h apart e =
+      records cs (hitTrace hits (d .next) is t) _ (ap (requestsOf idle) e ∙ hit-run hits (d .next) is t h apart) (noSlow-hit hits (d .next) is t)
+      (performed-hit (sends d) hits (aheadOf d) (d .next) is t)

@@ -1,15 +1,15 @@
 -- One inverted bit in a clean stream: the recogniser shows what the damage table says.
 -- Assumes nothing.
-use mathlib.Core.Path.{_≡_, _∙_, refl, ap}
-use mathlib.Core.Bool.{Bool, cond, _&&_, and-false}
+use mathlib.Core.Path.{_≡_, _∙_, refl, sym, ap}
+use mathlib.Core.Bool.{Bool, true, false, cond, _&&_, and-false}
 use mathlib.Core.List.{List, [], _∷_, _++_, append-assoc}
 use Prim.Native.Nat.{ℕ, zero, suc, _-_, _<_, _≤_}
 use native.Mathlib.Nat.{le-of-suc-le-suc, not-suc-le-zero, sub-zero, suc-sub-suc}
 use native.Mathlib.Omega.{arith}
-use lib.Dec.{ltb, leb, T, ltb→lt, nltb→le}
-use lib.ListN.{length, length-append, length-replicate}
+use lib.Dec.{ltb, ltb→lt, nltb→le}
+use lib.ListN.{length, length-replicate}
 use borrow.Author.Tests.{lt-leb}
-use Rattle.bits.proofs.Truth.{and-right, cond-case}
+use Rattle.bits.proofs.Truth.{clash, cond-case}
 use Rattle.bits.proofs.Below.{below, below-at}
 use Rattle.recogniser.specs.declared.Request.{Request}
 use Rattle.recogniser.specs.declared.Request.the-variants.{Nothing}
@@ -18,13 +18,13 @@ use Rattle.recogniser.specs.declared.Phase.the-variants.{Hunt}
 use Rattle.recogniser.specs.Parts.{idle, startOf}
 use Rattle.recogniser.specs.Step.{stepOf}
 use Rattle.damage.specs.Commands.{Command, lv1, bcr, ecr, cal, sync, codeOf, widthOf, isFastCommand}
-use Rattle.damage.specs.CleanStreams.{Item, zeros, zerosBetween, itemBits, itemSize, streamBits, spaced, timed, inverted}
-use Rattle.damage.specs.Table.{ownBit, zeroAhead, damage, itself}
-use Rattle.damage.specs.Traces.{requestsOf, recogniserAfter, quiet, spread, cleanTrace, damagedItem, damagedTrace}
+use Rattle.damage.specs.CleanStreams.{Item, zeros, itemBits, itemSize, inverted}
+use Rattle.damage.specs.Table.{ownBit, zeroAhead, damage, itself, hitsFast, affected, replacementOf}
+use Rattle.damage.specs.Traces.{requestsOf, recogniserAfter, quiet, spread, itemTrace}
 use Rattle.damage.proofs.FiniteFacts.{each-at}
-use Rattle.damage.proofs.TracesJoined.{Shows, chain, onward}
-use Rattle.damage.proofs.Replacements.{zeroDamage, replacement-cases, damaged-cases}
-use Rattle.damage.proofs.Recovery.{shownBy, shouldShow, Resumes, Settles, empty-resumes, idling, trailing, late, clean-item, resumed-run}
+use Rattle.damage.proofs.TracesJoined.{Shows, chain}
+use Rattle.damage.proofs.Replacements.{zeroDamage, replacement-cases}
+use Rattle.damage.proofs.Recovery.{shownBy, shouldShow, Resumes, Settles, empty-resumes, idling, trailing, late}
 
 -- where the inverted bit lies
 pub inverted-left : (k : ℕ) (xs ys : List ℕ) → k < length xs → inverted k (xs ++ ys) ≡ inverted k xs ++ ys
@@ -47,26 +47,23 @@ quiet-split k zero h = absurd (not-suc-le-zero h)
 quiet-split zero (suc n) h = rw (suc-sub-suc, sub-zero n)
 quiet-split (suc k) (suc n) h = rw suc-sub-suc (ap (λ (l : List Request). Nothing ∷ l) (quiet-split k n (le-of-suc-le-suc h)))
 
--- The bits show the requests, and leave a recogniser that resumes after the command c.
-pub record Safely (c : Command) (r : Recogniser) (bits : List ℕ) (requests : List Request) : Type 0 where
+-- The bits show the requests, and leave a recogniser that resumes after the command c, with an empty window if c is not affected.
+pub record Safely (c : Command) (struck : Bool) (r : Recogniser) (bits : List ℕ) (requests : List Request) : Type 0 where
   pub end : Recogniser
   pub shows : Shows r bits requests end
   pub resumes : Resumes c end
-
-goes-on : {c : Command} {r : Recogniser} {bits : List ℕ} {requests : List Request} → Safely c r bits requests → (is : List Item) (t : ℕ) → T (spaced c is)
-    → requestsOf r (bits ++ streamBits is t) ≡ requests ++ cleanTrace is t
-goes-on {c} s is t h = onward (s .shows) (streamBits is t) (resumed-run c (s .end) (s .resumes) is t h)
+  pub empties : struck ≡ false → end ≡ idle
 
 -- a bit of a command: computed for each command and bit
 abbrev hit : Command → ℕ → List ℕ
 hit c k = inverted k (codeOf c)
 
-abbrev hitTrace : Command → ℕ → List Request
-hitTrace c k = spread (widthOf c) (damage c (ownBit (suc k)))
+abbrev ownTrace : Command → ℕ → List Request
+ownTrace c k = spread (widthOf c) (damage c (ownBit (suc k)))
 
-hit-shows : (c : Command) → below (widthOf c) (λ k. requestsOf idle (hit c k)) ≡ below (widthOf c) (hitTrace c)
+hit-shows : (c : Command) → below (widthOf c) (λ k. requestsOf idle (hit c k)) ≡ below (widthOf c) (ownTrace c)
 unfolding stepOf requestsOf recogniserAfter
-hit-shows = each-at (λ c. below (widthOf c) (λ k. requestsOf idle (hit c k))) (λ c. below (widthOf c) (hitTrace c)) refl
+hit-shows = each-at (λ c. below (widthOf c) (λ k. requestsOf idle (hit c k))) (λ c. below (widthOf c) (ownTrace c)) refl
 
 hit-resumes : (c : Command) → below (widthOf c) (λ k. shownBy c (recogniserAfter idle (hit c k))) ≡ below (widthOf c) (λ k. shouldShow c)
 unfolding stepOf requestsOf recogniserAfter
@@ -76,11 +73,12 @@ hit-resumes ecr = refl
 hit-resumes cal = refl
 hit-resumes sync = refl
 
-pub in-command : (a : ℕ) (c : Command) (k : ℕ) → k < widthOf c → Safely c idle (zeros a ++ hit c k) (quiet a ++ hitTrace c k)
+pub in-command : (a : ℕ) (c : Command) (k : ℕ) → k < widthOf c → Safely c true idle (zeros a ++ hit c k) (quiet a ++ ownTrace c k)
 in-command a c k h = record {
   end = recogniserAfter idle (hit c k);
-  shows = chain (idling a) (record { seen = below-at (widthOf c) (λ k. requestsOf idle (hit c k)) (hitTrace c) (hit-shows c) k h; left = refl });
+  shows = chain (idling a) (record { seen = below-at (widthOf c) (λ k. requestsOf idle (hit c k)) (ownTrace c) (hit-shows c) k h; left = refl });
   resumes = below-at (widthOf c) (λ k. shownBy c (recogniserAfter idle (hit c k))) (λ k. shouldShow c) (hit-resumes c) k h;
+  empties = λ e. clash refl e;
 }
 
 -- a zero ahead of a command: the window after a one, and then z zeros more, computed for fewer than five
@@ -101,6 +99,10 @@ near-resumes : (c : Command) → below 5 (λ z. shownBy c (recogniserAfter one (
 unfolding stepOf requestsOf recogniserAfter
 near-resumes = each-at (λ c. below 5 (λ z. shownBy c (recogniserAfter one (near c z)))) (λ c. below 5 (λ z. shouldShow c)) refl
 
+near-empties : (c : Command) → below 5 (λ z. cond (hitsFast c (suc z)) idle (recogniserAfter one (near c z))) ≡ below 5 (λ z. idle)
+unfolding stepOf recogniserAfter
+near-empties = each-at (λ c. below 5 (λ z. cond (hitsFast c (suc z)) idle (recogniserAfter one (near c z)))) (λ c. below 5 (λ z. idle)) refl
+
 -- zeros after that one: nothing is seen, and five of them empty the window
 one-settles : Settles one
 unfolding stepOf requestsOf recogniserAfter
@@ -113,15 +115,18 @@ far c z h =
     ap (λ b. cond (isFastCommand c && b) damaged (itself c)) (lt-leb (suc z) 2 (omega arith))
     ∙ ap (λ b. cond b damaged (itself c)) (and-false (isFastCommand c))
 
-pub behind-one : (c : Command) (z : ℕ) → Safely c one (near c z) (nearTrace c z)
+pub behind-one : (c : Command) (z : ℕ) → Safely c (hitsFast c (suc z)) one (near c z) (nearTrace c z)
 behind-one c z =
-    cond-case (λ (b : Bool). Safely c one (near c z) (nearTrace c z)) (ltb z 5) {x = ltb z 5} {y = ltb z 5}
+    cond-case (λ (b : Bool). Safely c (hitsFast c (suc z)) one (near c z) (nearTrace c z)) (ltb z 5) {x = ltb z 5} {y = ltb z 5}
     (λ h.
     let g = ltb→lt z 5 h in
     record {
       end = recogniserAfter one (near c z);
       shows = record { seen = below-at 5 (λ z. requestsOf one (near c z)) (nearTrace c) (near-shows c) z g; left = refl };
       resumes = below-at 5 (λ z. shownBy c (recogniserAfter one (near c z))) (λ z. shouldShow c) (near-resumes c) z g;
+      empties = λ e.
+          ap (λ b. cond b idle (recogniserAfter one (near c z))) (sym e)
+          ∙ below-at 5 (λ z. cond (hitsFast c (suc z)) idle (recogniserAfter one (near c z))) (λ z. idle) (near-empties c) z g;
     })
     (λ h.
     let g = nltb→le z 5 h in
@@ -129,6 +134,7 @@ behind-one c z =
       end = idle;
       shows = rw (far c z (omega arith)) (late one one-settles c z g);
       resumes = empty-resumes c;
+      empties = λ _. refl;
     })
 
 one-bit : Shows idle (1 ∷ []) (Nothing ∷ []) one
@@ -136,16 +142,17 @@ unfolding stepOf requestsOf recogniserAfter
 one-bit = record { seen = refl; left = refl }
 
 -- an inverted bit among the zeros of an item, and anywhere in it
-in-zeros : (a k : ℕ) (c : Command) → k < a → Safely c idle (inverted k (zeros a) ++ codeOf c) (quiet a ++ spread (widthOf c) (zeroDamage c (a - k)))
+in-zeros : (a k : ℕ) (c : Command) → k < a
+    → Safely c (hitsFast c (a - k)) idle (inverted k (zeros a) ++ codeOf c) (quiet a ++ spread (widthOf c) (zeroDamage c (a - k)))
 in-zeros a k c h =
     let e : a - k ≡ suc (a - suc k) = omega arith in
     let s = behind-one c (a - suc k) in
     rw (inverted-zeros k a, quiet-split k a, e, append-assoc (zeros k), append-assoc (quiet k))
-    (record { end = s .end; shows = chain (idling k) (chain one-bit (s .shows)); resumes = s .resumes })
+    (record { end = s .end; shows = chain (idling k) (chain one-bit (s .shows)); resumes = s .resumes; empties = s .empties })
 
-pub in-item : (i : Item) (k : ℕ) → k < itemSize i → Safely (i .command) idle (inverted k (itemBits i)) (damagedItem i k)
+pub in-item : (i : Item) (k : ℕ) → k < itemSize i → Safely (i .command) (affected i k) idle (inverted k (itemBits i)) (itemTrace i (replacementOf i k))
 in-item i k h =
-    replacement-cases (λ x. Safely (i .command) idle (inverted k (itemBits i)) (quiet (i .ahead) ++ spread (widthOf (i .command)) x)) i k
+    replacement-cases (λ struck x. Safely (i .command) struck idle (inverted k (itemBits i)) (itemTrace i x)) i k
     (λ l.
     let g : k < length (zeros (i .ahead)) = rw length-replicate l in
     rw (inverted-left k (zeros (i .ahead)) (codeOf (i .command)) g) (in-zeros (i .ahead) k (i .command) l))
@@ -154,28 +161,8 @@ in-item i k h =
     rw (inverted-right k (zeros (i .ahead)) (codeOf (i .command)) (omega arith), z) (in-command (i .ahead) (i .command) (k - i .ahead) (omega arith)))
 
 -- an inverted bit in the zeros at the end
-in-tail : (k t : ℕ) → requestsOf idle (inverted k (zeros t)) ≡ quiet t
+pub in-tail : (k t : ℕ) → requestsOf idle (inverted k (zeros t)) ≡ quiet t
 unfolding stepOf requestsOf
 in-tail k zero = refl
 in-tail zero (suc t) = ap (λ (l : List Request). Nothing ∷ l) (trailing one one-settles t)
 in-tail (suc k) (suc t) = ap (λ (l : List Request). Nothing ∷ l) (in-tail k t)
-
-item-length : (i : Item) → length (itemBits i) ≡ itemSize i
-item-length i = simp (length-append, length-replicate)
-
-pub spaced-timed : (c : Command) (is : List Item) → T (spaced c is) → T (timed is)
-spaced-timed c [] h = tt
-spaced-timed c (i ∷ is) h = and-right (leb (zerosBetween c (i .command)) (i .ahead)) _ h
-
--- anywhere in a clean stream
-pub damaged-run : (is : List Item) (t k : ℕ) → T (timed is) → requestsOf idle (inverted k (streamBits is t)) ≡ damagedTrace is t k
-damaged-run [] t k h = in-tail k t
-damaged-run (i ∷ is) t k h =
-    damaged-cases (λ l. requestsOf idle (inverted k (itemBits i ++ streamBits is t)) ≡ l) i is t k
-    (λ l.
-    let g : k < length (itemBits i) = rw (item-length i) l in
-    rw (inverted-left k (itemBits i) (streamBits is t) g) (goes-on (in-item i k l) is t h))
-    (λ l.
-    let g : length (itemBits i) ≤ k = rw (item-length i) l in
-    rw (inverted-right k (itemBits i) (streamBits is t) g, item-length i)
-    (onward (clean-item i) (inverted (k - itemSize i) (streamBits is t)) (damaged-run is t (k - itemSize i) (spaced-timed (i .command) is h))))

@@ -5,9 +5,9 @@ use mathlib.Core.Bool.{Bool}
 use mathlib.Core.List.{List, [], _∷_, _++_, append-assoc}
 use Prim.Native.Nat.{ℕ, zero, suc, _+_, _-_, _<_, _≤_}
 use native.Mathlib.Omega.{arith}
-use lib.Dec.{ltb, leb, T, ltb→lt, nltb→le, leb→le}
+use lib.Dec.{ltb, ltb→lt, nltb→le}
 use lib.ListN.{replicate, replicate-append-replicate}
-use Rattle.bits.proofs.Truth.{and-left, cond-case}
+use Rattle.bits.proofs.Truth.{cond-case}
 use Rattle.bits.proofs.Below.{below, below-at}
 use Rattle.recogniser.specs.declared.Request.{Request}
 use Rattle.recogniser.specs.declared.Request.the-variants.{Nothing}
@@ -15,7 +15,8 @@ use Rattle.recogniser.specs.declared.Recogniser.{Recogniser}
 use Rattle.recogniser.specs.Parts.{idle}
 use Rattle.recogniser.specs.Step.{stepOf}
 use Rattle.damage.specs.Commands.{Command, codeOf}
-use Rattle.damage.specs.CleanStreams.{Item, zeros, zerosBetween, itemBits, streamBits, spaced}
+use Rattle.damage.specs.CleanStreams.{Item, zeros, zerosBetween, itemBits, streamBits}
+use Rattle.damage.specs.Table.{itself}
 use Rattle.damage.specs.Traces.{requestsOf, recogniserAfter, quiet, commandTrace, itemTrace, cleanTrace}
 use Rattle.damage.proofs.FiniteFacts.{each, each-at}
 use Rattle.damage.proofs.TracesJoined.{Shows, chain, onward}
@@ -83,7 +84,7 @@ clean-command d = record {
 }
 
 -- a command behind any number of zeros, from an empty window
-pub clean-item : (i : Item) → Shows idle (itemBits i) (itemTrace i) idle
+pub clean-item : (i : Item) → Shows idle (itemBits i) (itemTrace i (itself (i .command))) idle
 clean-item i = chain (idling (i .ahead)) (clean-command (i .command))
 
 module _ (r : Recogniser) (settles : Settles r) where
@@ -132,11 +133,3 @@ module _ (c : Command) (r : Recogniser) (resumes : Resumes c r) (d : Command) wh
 pub clean-run : (is : List Item) (t : ℕ) → requestsOf idle (streamBits is t) ≡ cleanTrace is t
 clean-run [] t = idling t .seen
 clean-run (i ∷ is) t = onward (clean-item i) (streamBits is t) (clean-run is t)
-
--- and from a recogniser that resumes too, where what follows is spaced as the timing table asks
-pub resumed-run : (c : Command) (r : Recogniser) → Resumes c r → (is : List Item) (t : ℕ) → T (spaced c is)
-    → requestsOf r (streamBits is t) ≡ cleanTrace is t
-resumed-run c r resumes [] t h = trailing r (resumes-settles c r resumes) t
-resumed-run c r resumes (i ∷ is) t h =
-    let asked = leb→le (zerosBetween c (i .command)) (i .ahead) (and-left (leb (zerosBetween c (i .command)) (i .ahead)) _ h) in
-    onward (resumed c r resumes (i .command) (i .ahead) asked) (streamBits is t) (clean-run is t)

@@ -1,18 +1,15 @@
 -- What stands in a command's place, by where the inverted bit lies; and a test of it, computed for every command and bit.
 -- Assumes nothing.
-use mathlib.Core.Path.{_≡_, refl}
-use mathlib.Core.Bool.{Bool, true, false, cond}
-use mathlib.Core.List.{List, _∷_, _++_}
+use mathlib.Core.Path.{_≡_}
+use mathlib.Core.Bool.{Bool, true, false, cond, not}
 use Prim.Native.Nat.{ℕ, suc, _-_, _<_, _≤_}
 use native.Mathlib.Omega.{arith}
 use lib.Dec.{ltb, T, ltb→lt, leb→le, nltb→le}
 use Rattle.bits.proofs.Truth.{true-holds, and-right, cond-case}
 use Rattle.bits.proofs.Below.{below, below-at}
-use Rattle.recogniser.specs.declared.Request.{Request}
 use Rattle.damage.specs.Commands.{Command, widthOf, isFastCommand}
 use Rattle.damage.specs.CleanStreams.{Item, itemSize}
-use Rattle.damage.specs.Table.{ownBit, zeroAhead, Replacement, damage, hitsFast, itself, replacementOf}
-use Rattle.damage.specs.Traces.{itemTrace, cleanTrace, damagedItem, damagedTrace}
+use Rattle.damage.specs.Table.{ownBit, zeroAhead, Replacement, damage, hitsFast, itself, affected, replacementOf}
 use Rattle.damage.proofs.FiniteFacts.{each, each-at}
 
 -- what stands in a command's place for a zero so far ahead of it
@@ -20,27 +17,18 @@ abbrev pub zeroDamage : Command → ℕ → Replacement
 zeroDamage c distance = cond (hitsFast c distance) (damage c (zeroAhead distance)) (itself c)
 
 -- by where the inverted bit lies
-replacement-test : (i : Item) (k : ℕ) (b : Bool)
-    → cond (cond b (hitsFast (i .command) (i .ahead - k)) true)
-    (damage (i .command) (cond b (zeroAhead (i .ahead - k)) (ownBit (suc (k - i .ahead)))))
-    (itself (i .command))
-    ≡ cond b (zeroDamage (i .command) (i .ahead - k)) (damage (i .command) (ownBit (suc (k - i .ahead))))
-replacement-test i k true = refl
-replacement-test i k false = refl
+by-place : (P : Bool → Replacement → Type 0) (c : Command) (distance k : ℕ) (b : Bool) → (T b → P (hitsFast c distance) (zeroDamage c distance))
+    → (T (not b) → P true (damage c (ownBit k)))
+    → P (cond b (hitsFast c distance) true) (cond (cond b (hitsFast c distance) true) (damage c (cond b (zeroAhead distance) (ownBit k))) (itself c))
+by-place P c distance k true outside inside = outside tt
+by-place P c distance k false outside inside = inside tt
 
-pub replacement-cases : (P : Replacement → Type 0) (i : Item) (k : ℕ) → (k < i .ahead → P (zeroDamage (i .command) (i .ahead - k)))
-    → (i .ahead ≤ k → P (damage (i .command) (ownBit (suc (k - i .ahead))))) → P (replacementOf i k)
+pub replacement-cases : (P : Bool → Replacement → Type 0) (i : Item) (k : ℕ)
+    → (k < i .ahead → P (hitsFast (i .command) (i .ahead - k)) (zeroDamage (i .command) (i .ahead - k)))
+    → (i .ahead ≤ k → P true (damage (i .command) (ownBit (suc (k - i .ahead))))) → P (affected i k) (replacementOf i k)
 replacement-cases P i k outside inside =
-    rw (replacement-test i k (ltb k (i .ahead)))
-    (cond-case P (ltb k (i .ahead)) {x = zeroDamage (i .command) (i .ahead - k)} {y = damage (i .command) (ownBit (suc (k - i .ahead)))}
-    (λ b. outside (ltb→lt k (i .ahead) b)) (λ b. inside (nltb→le k (i .ahead) b)))
-
--- by whether it lies in the first item
-pub damaged-cases : (P : List Request → Type 0) (i : Item) (is : List Item) (t k : ℕ) → (k < itemSize i → P (damagedItem i k ++ cleanTrace is t))
-    → (itemSize i ≤ k → P (itemTrace i ++ damagedTrace is t (k - itemSize i))) → P (damagedTrace (i ∷ is) t k)
-damaged-cases P i is t k here later =
-    cond-case P (ltb k (itemSize i)) {x = damagedItem i k ++ cleanTrace is t} {y = itemTrace i ++ damagedTrace is t (k - itemSize i)}
-    (λ b. here (ltb→lt k (itemSize i) b)) (λ b. later (nltb→le k (itemSize i) b))
+    by-place P (i .command) (i .ahead - k) (suc (k - i .ahead)) (ltb k (i .ahead))
+    (λ b. outside (ltb→lt k (i .ahead) b)) (λ b. inside (nltb→le k (i .ahead) b))
 
 -- A zero so far ahead of a command does not hit it.
 abbrev tooFar : ℕ
@@ -77,6 +65,6 @@ module _ (test : Command → Replacement → Bool) (passes : Passes test) where
 
   pub replacement-passes : (i : Item) (k : ℕ) → k < itemSize i → T (test (i .command) (replacementOf i k))
   replacement-passes i k h =
-      replacement-cases (λ x. T (test (i .command) x)) i k
+      replacement-cases (λ _ x. T (test (i .command) x)) i k
       (λ _. ahead-passes (i .command) (i .ahead - k))
       (λ inside. hit-passes (i .command) (k - i .ahead) (omega arith))

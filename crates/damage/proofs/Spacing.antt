@@ -8,7 +8,7 @@ use Prim.Native.Nat.{ℕ, _+_, _-_, _<_, _≤_}
 use native.Mathlib.Omega.{arith}
 use lib.Dec.{eqb, ltb, leb, T, leb→le, eqb→eq}
 use borrow.Author.Tests.{le-ltb, lt-ltb, ltb-true}
-use Rattle.bits.proofs.Truth.{clash, cases, either, or-right, cond-most, and-left, and-right}
+use Rattle.bits.proofs.Truth.{clash, cases, either, or-left, or-right, cond-most, and-left, and-right}
 use Rattle.recogniser.specs.declared.Request.the-variants.{Nothing, Lv1, Fast, BadFast, Slow}
 use Rattle.controller.specs.declared.Record.{Record}
 use Rattle.controller.specs.Records.{kindLv1, kindFast, kindBadFast, flagSent}
@@ -19,11 +19,11 @@ use Rattle.timing.proofs.Distance.{without-subtraction}
 use Rattle.timing.proofs.TableWhole.{asked-most}
 use Rattle.damage.specs.Commands.{Command, lv1, bcr, ecr, cal, sync, widthOf, commandKind, requestOf}
 use Rattle.damage.specs.CleanStreams.{Item, itemSize, zerosBetween, spaced, timed}
-use Rattle.damage.specs.Table.{Replacement, nothing, at, replacementOf}
+use Rattle.damage.specs.Table.{Replacement, nothing, at}
 use Rattle.damage.specs.Records.{Ahead, requestRecords, aheadAfter, lastCycle, itemAhead, cleanRecords, replacementAhead}
 use Rattle.damage.specs.Comparison.{InTime, OnlyFirst}
 use Rattle.damage.proofs.FiniteFacts.{each-at}
-use Rattle.damage.proofs.Replacements.{replacement-passes}
+use Rattle.damage.proofs.Replacements.{Passes}
 
 -- A record's length is its command's.
 length-is : (c : Command) → cyclesBack (commandKind c) 0 + 1 ≡ widthOf c
@@ -46,7 +46,7 @@ in-time e n j far =
     (cases (isNone e))
 
 -- After a command's own record.
-own-earlier : (a : Ahead) (time : ℕ) (c : Command) → aheadAfter a time (requestOf c) .earlier ≡ record { time = time; kind = commandKind c }
+pub own-earlier : (a : Ahead) (time : ℕ) (c : Command) → aheadAfter a time (requestOf c) .earlier ≡ record { time = time; kind = commandKind c }
 own-earlier a time lv1 = refl
 own-earlier a time bcr = refl
 own-earlier a time ecr = refl
@@ -75,7 +75,7 @@ bad-fast-asks = each-at (λ c. zerosAsked kindBadFast (commandKind c)) (λ c. 0)
 
 -- What the table puts in a command's place comes at its last bit at the latest, and asks zeros only if it is the command itself. A command that it leaves
 -- out has more bits than any record asks zeros.
-abbrev givesWay : Command → Replacement → Bool
+abbrev pub givesWay : Command → Replacement → Bool
 givesWay c nothing = leb 4 (widthOf c)
 givesWay c (at p (Lv1 position)) = leb p (widthOf c)
 givesWay c (at p (BadFast body)) = leb p (widthOf c)
@@ -83,53 +83,65 @@ givesWay c (at p (Fast body)) = leb p (widthOf c) && eqb (kindFast body) (comman
 givesWay c (at p Nothing) = false
 givesWay c (at p (Slow slow)) = false
 
-gives-way : (i : Item) (k : ℕ) → k < itemSize i → T (givesWay (i .command) (replacementOf i k))
-gives-way = replacement-passes givesWay (record { own = refl; hit = refl; near = refl })
+pub gives-way : Passes givesWay
+gives-way = record { own = refl; hit = refl; near = refl }
 
-module _ (a : Ahead) (n t : ℕ) (c : Command) (below : earlierBelow (a .earlier) n ≡ true) (j : Item) (asked : zerosBetween c (j .command) ≤ j .ahead) where
-  replaced-in-time : (x : Replacement) → T (givesWay c x) → close (replacementAhead a (n + t) x .earlier) (n + (t + widthOf c)) j ≡ false
-  replaced-in-time nothing h =
+-- The record before the next command, which begins at cycle n or later: it lies before that cycle, and zeros enough after the command c are enough after it.
+pub record Yields (c : Command) (n : ℕ) (e : Earlier) : Type 0 where
+  pub below : earlierBelow e n ≡ true
+  pub asks : (j : Item) → zerosBetween c (j .command) ≤ j .ahead → isNone e ≡ false → e .time + zerosAsked (e .kind) (commandKind (j .command)) < n + j .ahead
+
+-- one at a time below n, of a kind that asks no more than c
+yields : (c : Command) (n time kind : ℕ) → time < n → ((d : Command) → zerosAsked kind (commandKind d) ≤ zerosBetween c d)
+    → Yields c n (record { time = time; kind = kind })
+yields c n time kind low few = record {
+  below = or-right (eqb kind 0) (ltb time n) (lt-ltb time n low);
+  asks = λ j asked _. let f = few (j .command) in omega arith;
+}
+
+module _ (a : Ahead) (n t : ℕ) (c : Command) (below : earlierBelow (a .earlier) n ≡ true) where
+  -- the cycle of a command's bit p
+  last-bit : (p : ℕ) → T (leb p (widthOf c)) → n + t + (p - 1) < n + (t + widthOf c)
+  last-bit p h = let last = leb→le p (widthOf c) h in let long = length-is c in omega arith
+
+  pub replaced-yields : (x : Replacement) → T (givesWay c x) → Yields c (n + (t + widthOf c)) (replacementAhead a (n + t) x .earlier)
+  replaced-yields nothing h =
       let four = leb→le 4 (widthOf c) h in
-      let most = asked-most (a .earlier .kind) (commandKind (j .command)) in
-      in-time (a .earlier) _ j
-      (λ some. ⊎-elim (λ none. clash none some) (λ b. let low = ltb-true (a .earlier .time) n b in omega arith)
-      (either (isNone (a .earlier)) (ltb (a .earlier .time) n) below))
-  replaced-in-time (at p (Lv1 position)) h =
-      let last = leb→le p (widthOf c) h in
-      let long = length-is c in
-      let none = lv1-asks (j .command) in
-      in-time (record { time = n + t + (p - 1); kind = kindLv1 }) _ j (λ _. omega arith)
-  replaced-in-time (at p (BadFast body)) h =
-      let last = leb→le p (widthOf c) h in
-      let long = length-is c in
-      let none = bad-fast-asks (j .command) in
-      in-time (record { time = n + t + (p - 1); kind = kindBadFast }) _ j (λ _. omega arith)
-  replaced-in-time (at p (Fast body)) h =
-      let last = leb→le p (widthOf c) (and-left (leb p (widthOf c)) _ h) in
+      let low : isNone (a .earlier) ≡ false → a .earlier .time < n =
+      λ some. ⊎-elim (λ none. clash none some) (λ b. ltb-true (a .earlier .time) n b) (either (isNone (a .earlier)) (ltb (a .earlier .time) n) below) in
+      record {
+        below = ⊎-elim (λ none. or-left (isNone (a .earlier)) _ none)
+            (λ some. let l = low some in or-right (isNone (a .earlier)) _ (lt-ltb (a .earlier .time) (n + (t + widthOf c)) (omega arith)))
+            (cases (isNone (a .earlier)));
+        asks = λ j asked some. let l = low some in let most = asked-most (a .earlier .kind) (commandKind (j .command)) in omega arith;
+      }
+  replaced-yields (at p (Lv1 position)) h = yields c _ (n + t + (p - 1)) kindLv1 (last-bit p h) (λ d. let none = lv1-asks d in omega arith)
+  replaced-yields (at p (BadFast body)) h = yields c _ (n + t + (p - 1)) kindBadFast (last-bit p h) (λ d. let none = bad-fast-asks d in omega arith)
+  replaced-yields (at p (Fast body)) h =
       let same = eqb→eq (kindFast body) (commandKind c) (and-right (leb p (widthOf c)) _ h) in
-      let long = length-is c in
-      in-time (record { time = n + t + (p - 1); kind = kindFast body }) _ j (λ _. rw same (omega arith))
-  replaced-in-time (at p Nothing) h = absurd h
-  replaced-in-time (at p (Slow slow)) h = absurd h
+      yields c _ (n + t + (p - 1)) (kindFast body) (last-bit p (and-left (leb p (widthOf c)) _ h)) (λ d. rw same (omega arith))
+  replaced-yields (at p Nothing) h = absurd h
+  replaced-yields (at p (Slow slow)) h = absurd h
 
 -- The next record is flagged after neither of two earlier ones, or after both.
 abbrev pub Alike : Earlier → Earlier → ℕ → List Item → Type 0
 Alike e f n [] = Unit {0}
 Alike e f n (j ∷ js) = close e n j ≡ close f n j
 
-pub alike-same : (e : Earlier) (n : ℕ) (is : List Item) → Alike e e n is
-alike-same e n [] = tt
-alike-same e n (j ∷ js) = refl
+pub alike-equal : (e f : Earlier) → e ≡ f → (n : ℕ) (is : List Item) → Alike e f n is
+alike-equal e f p n [] = tt
+alike-equal e f p n (j ∷ js) = ap (λ e. close e n j) p
 
 asked-ahead : (c : Command) (j : Item) (js : List Item) → T (spaced c (j ∷ js)) → zerosBetween c (j .command) ≤ j .ahead
 asked-ahead c j js h = leb→le (zerosBetween c (j .command)) (j .ahead) (and-left (leb (zerosBetween c (j .command)) (j .ahead)) _ h)
 
-pub alike-next : (a : Ahead) (n : ℕ) (i : Item) (k : ℕ) → k < itemSize i → earlierBelow (a .earlier) n ≡ true → (is : List Item) → T (spaced (i .command) is)
-    → Alike (itemAhead a n i .earlier) (replacementAhead a (n + i .ahead) (replacementOf i k) .earlier) (n + itemSize i) is
-alike-next a n i k inside below [] h = tt
-alike-next a n i k inside below (j ∷ js) h =
+-- In the clean run behind a command, and in another behind a record that yields.
+pub alike-next : (a : Ahead) (n : ℕ) (i : Item) (e : Earlier) → Yields (i .command) (n + itemSize i) e → (is : List Item) → T (spaced (i .command) is)
+    → Alike (itemAhead a n i .earlier) e (n + itemSize i) is
+alike-next a n i e y [] h = tt
+alike-next a n i e y (j ∷ js) h =
     let asked = asked-ahead (i .command) j js h in
-    own-in-time a n i j asked ∙ sym (replaced-in-time a n (i .ahead) (i .command) below j asked (replacementOf i k) (gives-way i k inside))
+    own-in-time a n i j asked ∙ sym (in-time e (n + itemSize i) j (y .asks j asked))
 
 -- Only the first record of a clean stream can be flagged.
 module _ (sent : Bool) where

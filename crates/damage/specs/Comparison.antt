@@ -1,17 +1,20 @@
--- The damaged records beside the clean ones in the paper's words: one replaced or left out, the others equal but for trigger and bunch numbers up to the
--- next reset (document 01, "The damage table", last paragraph).
+-- The damaged records beside the clean ones in the papers' words: each affected one replaced or left out, the others equal but for trigger and bunch
+-- numbers up to the next reset (document 01, "The damage table", last paragraph; document 02, F-13).
 -- Assumes nothing.
 use mathlib.Core.Path.{_≡_}
-use mathlib.Core.Bool.{Bool, cond, not, _&&_}
+use mathlib.Core.Bool.{Bool, cond, not, _&&_, _||_}
 use mathlib.Core.List.{List, [], _∷_, _++_}
 use Prim.Native.Nat.{ℕ, _+_, _-_, _/_, _%_}
 use lib.Dec.{eqb, ltb, T}
+use Rattle.registers.specs.declared.Counters.{Counters}
 use Rattle.controller.specs.Records.{kindLv1}
 use Rattle.controller.specs.declared.Record.{Record}
 use Rattle.timing.specs.Table.{kindBcr, kindEcr}
+use Rattle.damage.specs.Commands.{commandKind}
 use Rattle.damage.specs.CleanStreams.{Item, itemSize}
 use Rattle.damage.specs.Table.{affected, replacementOf}
-use Rattle.damage.specs.Records.{Ahead, itemRecords, itemAhead, cleanRecords, replacementRecords}
+use Rattle.damage.specs.Hits.{Hits, affectedBy, standsIn}
+use Rattle.damage.specs.Records.{Ahead, itemRecords, itemAhead, cleanRecords, replacementRecords, hitAfter}
 
 -- An LV1's value is its position × 65,536 + its trigger number × 256 + its bunch number. Positions differ "as part of the affected record only" (document
 -- 02, F-1), so that here they always agree; each number agrees unless it may still differ. All else is equal.
@@ -21,14 +24,18 @@ SameValue trigger bunch x y =
     ((x .value / 65536 ≡ y .value / 65536) × (T (not trigger) → x .value / 256 ≡ y .value / 256) × (T (not bunch) → x .value % 256 ≡ y .value % 256))
     (x .value ≡ y .value)
 
+-- An unaffected command in both runs. The flags are equal: "only the affected record's flag may differ" (document 02, F-5).
+abbrev pub SameRecord : Bool → Bool → Record → Record → Type 0
+SameRecord trigger bunch x y = (x .time ≡ y .time) × (x .kind ≡ y .kind) × (x .flags ≡ y .flags) × SameValue trigger bunch x y
+
 -- The records after the affected command. "L1ID (the trigger number) may differ only .. up to the first ECR after it, the bunch number up to the first
--- BCR". Their flags are equal: "only the affected record's flag may differ" (document 02, F-5).
+-- BCR".
 abbrev pub SameAfter : Bool → Bool → List Record → List Record → Type 0
 SameAfter trigger bunch [] [] = Unit {0}
 SameAfter trigger bunch [] (y ∷ ys) = ⊥
 SameAfter trigger bunch (x ∷ xs) [] = ⊥
 SameAfter trigger bunch (x ∷ xs) (y ∷ ys) =
-    (x .time ≡ y .time) × (x .kind ≡ y .kind) × (x .flags ≡ y .flags) × SameValue trigger bunch x y
+    SameRecord trigger bunch x y
     × SameAfter (trigger && not (eqb (x .kind) kindEcr)) (bunch && not (eqb (x .kind) kindBcr)) xs ys
 
 -- The damaged records are the clean ones ahead of the item that holds the inverted bit, what the table says of that item, and records like the clean
@@ -40,6 +47,29 @@ Replaced sent a n (i ∷ is) k damaged =
     ((rest : List Record) × (damaged ≡ replacementRecords sent a (n + i .ahead) (replacementOf i k) ++ rest)
     × SameAfter (affected i k) (affected i k) (cleanRecords sent (itemAhead a n i) (n + itemSize i) is) rest)
     ((rest : List Record) × (damaged ≡ itemRecords sent a n i ++ rest) × Replaced sent (itemAhead a n i) (n + itemSize i) is (k - itemSize i) rest)
+
+-- Any number of inverted bits. "each counter agrees until the first affected command and again from each unaffected reset until another command is
+-- affected": whether a counter may differ after an item, and after a stream, by the kind of its reset and by whether it may ahead of it.
+abbrev pub mayDiffer : Hits → ℕ → ℕ → Item → Bool → Bool
+mayDiffer hits reset n i before = affectedBy hits n i || (before && not (eqb (commandKind (i .command)) reset))
+
+abbrev pub differsAfter : Hits → ℕ → ℕ → List Item → Bool → Bool
+differsAfter hits reset n [] before = before
+differsAfter hits reset n (i ∷ is) before = differsAfter hits reset (n + itemSize i) is (mayDiffer hits reset n i before)
+
+-- Two runs' counters, each equal unless it may differ.
+abbrev pub SameCounters : Bool → Bool → Counters → Counters → Type 0
+SameCounters trigger bunch c d = (T (not trigger) → c .l1id ≡ d .l1id) × (T (not bunch) → c .base ≡ d .base)
+
+-- "Each affected command then follows the damage table separately, its trigger and bunch numbers by the damaged run's counters ahead of it instead of the
+-- clean ones; all others are recorded as in the clean run but for these numbers". a is what stands ahead in the damaged run.
+abbrev pub Beside : Bool → Hits → Bool → Bool → Ahead → ℕ → List Item → List Record → List Record → Type 0
+Beside sent hits trigger bunch a n [] clean damaged = (clean ≡ []) × (damaged ≡ [])
+Beside sent hits trigger bunch a n (i ∷ is) clean damaged =
+    (x : Record) × (xs : List Record) × (ys : List Record) × (clean ≡ x ∷ xs)
+    × cond (affectedBy hits n i) (damaged ≡ replacementRecords sent a (n + i .ahead) (standsIn hits n i) ++ ys)
+    ((y : Record) × (damaged ≡ y ∷ ys) × SameRecord trigger bunch x y)
+    × Beside sent hits (mayDiffer hits kindEcr n i trigger) (mayDiffer hits kindBcr n i bunch) (hitAfter hits a n i) (n + itemSize i) is xs ys
 
 -- A clean stream keeps the timing table, so that only its first command can be too close to a record before it: no later one has flag 20 (document 02, F-5).
 abbrev pub InTime : List Record → Type 0

@@ -1,5 +1,5 @@
 -- The records of clean and damaged streams in RunMode, by the counters and the record ahead of each (document 01, "A record" and "The damage table"; document
--- 02, F-5).
+-- 02, F-5 and F-13).
 -- Assumes nothing.
 use mathlib.Core.Bool.{Bool, true, false, cond}
 use mathlib.Core.List.{List, [], _∷_, _++_}
@@ -16,6 +16,7 @@ use Rattle.decoder.specs.declared.Decoder.{Decoder}
 use Rattle.damage.specs.Commands.{widthOf, requestOf}
 use Rattle.damage.specs.CleanStreams.{Item, itemSize}
 use Rattle.damage.specs.Table.{Replacement, nothing, at, replacementOf}
+use Rattle.damage.specs.Hits.{Hits, standsIn}
 
 -- What stands ahead of a command: the counters, L1ID and the base cycle, and the record before it.
 pub record Ahead : Type 0 where
@@ -72,6 +73,11 @@ abbrev pub cleanRecords : Bool → Ahead → ℕ → List Item → List Record
 cleanRecords sent a n [] = []
 cleanRecords sent a n (i ∷ is) = itemRecords sent a n i ++ cleanRecords sent (itemAhead a n i) (n + itemSize i) is
 
+-- What stands ahead of the next command after it.
+abbrev pub cleanAhead : Ahead → ℕ → List Item → Ahead
+cleanAhead a n [] = a
+cleanAhead a n (i ∷ is) = cleanAhead (itemAhead a n i) (n + itemSize i) is
+
 -- What the table puts in a command's place: "The new one's time is that bit's cycle, its kind, flags and value those of 'A record', by the clean counters
 -- ahead of that command." n is the cycle of the command's first bit. Its flag 20 goes by the record before it in its own run (document 02, F-5).
 abbrev pub replacementRecords : Bool → Ahead → ℕ → Replacement → List Record
@@ -90,3 +96,17 @@ damagedRecords sent a n (i ∷ is) k =
     (replacementRecords sent a (n + i .ahead) (replacementOf i k)
     ++ cleanRecords sent (replacementAhead a (n + i .ahead) (replacementOf i k)) (n + itemSize i) is)
     (itemRecords sent a n i ++ damagedRecords sent (itemAhead a n i) (n + itemSize i) is (k - itemSize i))
+
+-- Any number of inverted bits: each command as itself or, if it is affected, as the table has it, "its trigger and bunch numbers by the damaged run's
+-- counters ahead of it instead of the clean ones" (document 02, F-13).
+abbrev pub hitAfter : Hits → Ahead → ℕ → Item → Ahead
+hitAfter hits a n i = replacementAhead a (n + i .ahead) (standsIn hits n i)
+
+abbrev pub hitRecords : Bool → Hits → Ahead → ℕ → List Item → List Record
+hitRecords sent hits a n [] = []
+hitRecords sent hits a n (i ∷ is) =
+    replacementRecords sent a (n + i .ahead) (standsIn hits n i) ++ hitRecords sent hits (hitAfter hits a n i) (n + itemSize i) is
+
+abbrev pub hitAhead : Hits → Ahead → ℕ → List Item → Ahead
+hitAhead hits a n [] = a
+hitAhead hits a n (i ∷ is) = hitAhead hits (hitAfter hits a n i) (n + itemSize i) is

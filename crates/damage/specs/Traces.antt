@@ -1,9 +1,7 @@
 -- A trace: one request for each bit, so that its place is its time. What clean and damaged streams ask for, cycle by cycle.
 -- Assumes nothing.
-use mathlib.Core.Bool.{cond}
 use mathlib.Core.List.{List, [], _∷_, _++_}
-use Prim.Native.Nat.{ℕ, _-_}
-use lib.Dec.{ltb}
+use Prim.Native.Nat.{ℕ, _+_, _-_}
 use lib.ListN.{replicate}
 use Rattle.recogniser.specs.declared.Request.{Request}
 use Rattle.recogniser.specs.declared.Request.the-variants.{Nothing}
@@ -11,7 +9,8 @@ use Rattle.recogniser.specs.declared.Recogniser.{Recogniser}
 use Rattle.recogniser.specs.Step.{stepOf}
 use Rattle.damage.specs.Commands.{Command, widthOf}
 use Rattle.damage.specs.CleanStreams.{Item, itemSize}
-use Rattle.damage.specs.Table.{Replacement, nothing, at, itself, replacementOf}
+use Rattle.damage.specs.Table.{Replacement, nothing, at, itself}
+use Rattle.damage.specs.Hits.{Hits, standsIn}
 
 -- The requests of a recogniser over some bits, and where it stands after them. CNT is 0: no Slow command is about.
 unfoldable pub requestsOf : Recogniser → List ℕ → List Request
@@ -33,18 +32,15 @@ spread width (at p e) = quiet (p - 1) ++ (e ∷ quiet (width - p))
 abbrev pub commandTrace : Command → List Request
 commandTrace c = spread (widthOf c) (itself c)
 
-abbrev pub itemTrace : Item → List Request
-itemTrace i = quiet (i .ahead) ++ commandTrace (i .command)
+-- An item in whose command's place something stands.
+abbrev pub itemTrace : Item → Replacement → List Request
+itemTrace i x = quiet (i .ahead) ++ spread (widthOf (i .command)) x
 
 abbrev pub cleanTrace : List Item → ℕ → List Request
 cleanTrace [] trailing = quiet trailing
-cleanTrace (i ∷ is) trailing = itemTrace i ++ cleanTrace is trailing
+cleanTrace (i ∷ is) trailing = itemTrace i (itself (i .command)) ++ cleanTrace is trailing
 
--- An item whose bit k is inverted.
-abbrev pub damagedItem : Item → ℕ → List Request
-damagedItem i k = quiet (i .ahead) ++ spread (widthOf (i .command)) (replacementOf i k)
-
-abbrev pub damagedTrace : List Item → ℕ → ℕ → List Request
-damagedTrace [] trailing k = quiet trailing
-damagedTrace (i ∷ is) trailing k =
-    cond (ltb k (itemSize i)) (damagedItem i k ++ cleanTrace is trailing) (itemTrace i ++ damagedTrace is trailing (k - itemSize i))
+-- Any number of inverted bits; the first bit is that of cycle n.
+abbrev pub hitTrace : Hits → ℕ → List Item → ℕ → List Request
+hitTrace hits n [] trailing = quiet trailing
+hitTrace hits n (i ∷ is) trailing = itemTrace i (standsIn hits n i) ++ hitTrace hits (n + itemSize i) is trailing

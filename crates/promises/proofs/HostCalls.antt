@@ -15,13 +15,14 @@ use Rattle.calls.specs.declared.Ending.{Ending}
 use Rattle.calls.specs.declared.Ending.the-variants.{Unsound, WrongBuffers}
 use Rattle.calls.specs.Turn.{System, decoderOf}
 use Rattle.calls.specs.Take.{Call, CallResult, call, offered, refused, takeOf, endingNumber}
-use Rattle.calls.specs.Calls.{allBits, allWords, Part, callOf, carriedBits, carriedWords, carriedSystem, systemAfter, resultOf}
+use Rattle.calls.specs.Calls.{allBits, allWords, stateLeft, Part, callOf, carriedBits, carriedWords, carriedSystem, systemAfter, resultOf}
 use Rattle.calls.proofs.Refusals.{buffers, unsound, wrong-buffers}
-use Rattle.image.specs.Image.{imageOf, imageFits, Widths}
+use Rattle.image.specs.Image.{imageOf, stateOf, imageFits, Widths}
 use Rattle.image.proofs.RoundTrip.{image-fits, read-back}
 use Rattle.kernelstill.specs.Take.{TakeResult, resultLength, refusedCall, answered, takeResultOf}
 use Rattle.kernelstill.proofs.WidthsKept.{widths-kept}
-use Rattle.promises.specs.HostCalls.{HostCall, left, told, imageBits, imageWords}
+use Rattle.promises.specs.ManyHits.{made}
+use Rattle.promises.specs.HostCalls.{HostCall, left, told, imageBits, imageWords, imageLeft, hostMade}
 use Rattle.promises.specs.HostCalls.{Carried, HostPart, hostCall, carriedOn, next, hostBits, hostWords, hostLeft}
 use Rattle.promises.proofs.Refusals.{first-demand}
 use Rattle.promises.proofs.Hosts.{host-promise}
@@ -89,22 +90,30 @@ abbrev pub stateCalls : List HostCall → List Call
 stateCalls [] = []
 stateCalls (h ∷ hs) = stateCall h ∷ stateCalls hs
 
-pub same-bits : (hs : List HostCall) (d : Decoder) → Widths d → imageBits (imageOf d) hs ≡ allBits d (stateCalls hs)
-unfolding imageBits allBits
-same-bits [] d w = refl
-same-bits (h ∷ hs) d w =
-    let a = same d h w in
-    let after : Decoder = takeOf d (stateCall h) .taken .decoder in
-    ap₂ _++_ (ap (λ n. take n (offered (h .lent))) (a .bits))
-    (ap (λ i. imageBits i hs) (a .image) ∙ same-bits hs after (widths-kept d (stateCall h) w))
+record SameCalls (d : Decoder) (hs : List HostCall) : Type 0 where
+  bits : imageBits (imageOf d) hs ≡ allBits d (stateCalls hs)
+  words : imageWords (imageOf d) hs ≡ allWords d (stateCalls hs)
+  left-over : imageLeft (imageOf d) hs ≡ imageOf (stateLeft d (stateCalls hs))
+  widths : Widths (stateLeft d (stateCalls hs))
 
-pub same-words : (hs : List HostCall) (d : Decoder) → Widths d → imageWords (imageOf d) hs ≡ allWords d (stateCalls hs)
-unfolding imageWords allWords
-same-words [] d w = refl
-same-words (h ∷ hs) d w =
+same-calls : (hs : List HostCall) (d : Decoder) → Widths d → SameCalls d hs
+unfolding imageBits imageWords imageLeft allBits allWords stateLeft
+same-calls [] d w = record { bits = refl; words = refl; left-over = refl; widths = w }
+same-calls (h ∷ hs) d w =
     let a = same d h w in
-    let after : Decoder = takeOf d (stateCall h) .taken .decoder in
-    ap₂ _++_ (a .words) (ap (λ i. imageWords i hs) (a .image) ∙ same-words hs after (widths-kept d (stateCall h) w))
+    let rest = same-calls hs (takeOf d (stateCall h) .taken .decoder) (widths-kept d (stateCall h) w) in
+    record {
+      bits = ap₂ _++_ (ap (λ n. take n (offered (h .lent))) (a .bits)) (ap (λ i. imageBits i hs) (a .image) ∙ rest .bits);
+      words = ap₂ _++_ (a .words) (ap (λ i. imageWords i hs) (a .image) ∙ rest .words);
+      left-over = ap (λ i. imageLeft i hs) (a .image) ∙ rest .left-over;
+      widths = rest .widths;
+    }
+
+pub same-made : (hs : List HostCall) (d : Decoder) → Widths d → hostMade (imageOf d) hs ≡ made d (stateCalls hs)
+same-made hs d w =
+    let s = same-calls hs d w in
+    let left : stateOf (imageLeft (imageOf d) hs) ≡ stateLeft d (stateCalls hs) = ap stateOf (s .left-over) ∙ read-back (stateLeft d (stateCalls hs)) (s .widths) in
+    λ i. record { bits = s .bits i; words = s .words i; left = left i }
 
 -- Lists of calls, store and tray carried over.
 abbrev pub statePart : HostPart → Part
@@ -149,18 +158,18 @@ malformed : (image : List ℕ) (h : HostCall) → imageFits image ≡ false → 
 unfolding takeResultOf
 malformed image h e = rw e
 
-pub no-bits : (image : List ℕ) → imageFits image ≡ false → (hs : List HostCall) → imageBits image hs ≡ []
-unfolding imageBits
-no-bits image e [] = refl
-no-bits image e (h ∷ hs) =
-    ap (λ (r : TakeResult). take (told r 0) (offered (h .lent)) ++ imageBits (r .image) hs) (malformed image h e) ∙ no-bits image e hs
-
-pub no-words : (image : List ℕ) → imageFits image ≡ false → (hs : List HostCall) → imageWords image hs ≡ []
-unfolding imageWords
-no-words image e [] = refl
-no-words image e (h ∷ hs) =
-    ap (λ (r : TakeResult). take (listUnit * told r 1) (drop (h .lent .free) (r .list)) ++ imageWords (r .image) hs) (malformed image h e)
-    ∙ no-words image e hs
+pub nothing-made : (image : List ℕ) → imageFits image ≡ false → (hs : List HostCall) → hostMade image hs ≡ record { bits = []; words = []; left = stateOf image }
+unfolding imageBits imageWords imageLeft
+nothing-made image e [] = refl
+nothing-made image e (h ∷ hs) =
+    ap
+    (λ (r : TakeResult). record {
+      bits = take (told r 0) (offered (h .lent)) ++ imageBits (r .image) hs;
+      words = take (listUnit * told r 1) (drop (h .lent .free) (r .list)) ++ imageWords (r .image) hs;
+      left = stateOf (imageLeft (r .image) hs);
+    })
+    (malformed image h e)
+    ∙ nothing-made image e hs
 
 pub record Nothing (k : Carried) (ps : List HostPart) : Type 0 where
   pub bits : hostBits k ps ≡ []

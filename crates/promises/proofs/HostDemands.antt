@@ -3,38 +3,42 @@
 use mathlib.Core.Path.{_≡_, _∙_, refl, sym, ap, ap₂, subst}
 use mathlib.Core.Bool.{Bool, true, false, not}
 use mathlib.Core.List.{List, [], _∷_, _++_}
-use Prim.Native.Nat.{ℕ, _+_, _*_, _≤_}
+use Prim.Native.Nat.{ℕ, _+_, _*_}
 use native.Mathlib.Omega.{arith}
 use lib.Dec.{eqb}
 use lib.ListN.{length, length-append, replicate, take, drop}
 use borrow.Author.Tests.{eq-eqb}
 use Rattle.bits.proofs.Truth.{both, holds-true, true-holds}
-use Rattle.limits.specs.Limits.{clockLimit, listUnit}
+use Rattle.limits.specs.Limits.{listUnit}
 use Rattle.controller.specs.Widths.{WordsFit}
 use Rattle.decoder.specs.declared.Decoder.{Decoder}
 use Rattle.decoder.specs.Sound.{soundOf}
 use Rattle.calls.specs.Run.{stateAfter, wordsAfter}
 use Rattle.calls.specs.Turn.{System, systemOf, decoderOf, turnOf}
 use Rattle.calls.specs.Take.{Call, CallResult, takeOf, endingNumber}
-use Rattle.calls.specs.Calls.{allBits, allWords, carriedSystem}
+use Rattle.calls.specs.Calls.{allWords, carriedSystem}
 use Rattle.calls.proofs.Refusals.{unsound}
 use Rattle.calls.proofs.CallLists.{carried-words, carried-system}
 use Rattle.calls.proofs.SoundnessKept.{take-sound}
-use Rattle.image.specs.Image.{imageOf, stateOf, imageFits, Widths}
+use Rattle.image.specs.Image.{stateOf, imageFits, Widths}
 use Rattle.image.proofs.RoundTrip.{image-fits, read-back}
 use Rattle.image.proofs.WellFormed.{read-again, read-widths}
 use Rattle.kernelstill.specs.Take.{TakeResult, resultLength, answered, soundImage, takeResultOf}
 use Rattle.kernelstill.proofs.WidthsKept.{model-widths, widths-kept}
 use Rattle.damage.specs.CleanStreams.{Item, streamBits}
+use Rattle.damage.specs.Hits.{Hits, oneHit}
+use Rattle.damage.proofs.StreamBits.{item-some, stream-length}
+use Rattle.damage.proofs.OneHit.{one-apart}
 use Rattle.promises.specs.Refusals.{Row, row, firstOf, takingRows}
 use Rattle.promises.specs.Frames.{Receives, HandsBack}
-use Rattle.promises.specs.Damage.{Stream, Runs, Wrote}
-use Rattle.promises.specs.HostCalls.{HostCall, left, imageBits, imageWords, Carried, HostPart, hostBits, hostWords, hostLeft, standsFor}
-use Rattle.promises.specs.HostCalls.{HostExact, HostEnds, HostCuts, HostMet, HostDemands}
+use Rattle.promises.specs.ManyHits.{Made, made, HitRuns, HitsWrote}
+use Rattle.promises.specs.HostCalls.{HostCall, left, imageWords, hostMade, Carried, HostPart, hostBits, hostWords, hostLeft, standsFor}
+use Rattle.promises.specs.HostCalls.{HostExact, HostEnds, HostCuts, HostDamage, HostDamageMet, HostHits, HostHitsCanBeMet, HostDemands}
 use Rattle.promises.proofs.Refusals.{first-demand}
 use Rattle.promises.proofs.Records.{second-demand}
-use Rattle.promises.proofs.Damage.{third-demand, third-demand-met}
-use Rattle.promises.proofs.HostCalls.{stateCalls, stateParts, imaged, same-bits, same-words, same-carried, no-bits, no-words, nothing}
+use Rattle.promises.proofs.ManyHits.{fourth-promise, fourth-promise-met}
+use Rattle.promises.proofs.Damage.{one-runs, runs-one, one-wrote}
+use Rattle.promises.proofs.HostCalls.{stateCalls, stateParts, imaged, same-made, same-carried, nothing-made, nothing}
 
 -- What is carried over of a state stands for it; and words that are an image are that of the state that they stand for.
 stands : (s : System) → Widths (decoderOf s) → standsFor (imaged s) ≡ s
@@ -167,68 +171,69 @@ fits-by : (image : List ℕ) (hs : List HostCall) (fit : Bool) → imageFits ima
 fits-by image hs true e =
     let d = stateOf image in
     let w = read-widths image in
-    subst (λ i. WordsFit (imageWords i hs)) (read-again image e) (rw (same-words hs d w) (calls-fit d w (stateCalls hs) (soundOf d) refl))
-fits-by image hs false e = rw (no-words image e hs) tt
+    let same = ap (λ (m : Made). m .words) (same-made hs d w) in
+    subst (λ i. WordsFit (imageWords i hs)) (read-again image e) (rw same (calls-fit d w (stateCalls hs) (soundOf d) refl))
+fits-by image hs false e = let none = ap (λ (m : Made). m .words) (nothing-made image e hs) in rw none tt
 
--- The damage statement.
-state-damage : (d : Decoder) → Widths d → (clean damaged : List HostCall) (items : List Item) (trailing k : ℕ)
-    → Runs d (imageBits (imageOf d) clean) (imageBits (imageOf d) damaged) items trailing k
-    → Wrote d (imageWords (imageOf d) clean) (imageWords (imageOf d) damaged) items k
-state-damage d w clean damaged items trailing k r =
-    let wrote =
-    third-demand d (stateCalls clean) (stateCalls damaged) items trailing k
-    (record {
-      stream = r .stream;
-      took-clean = sym (same-bits clean d w) ∙ r .took-clean;
-      took-damaged = sym (same-bits damaged d w) ∙ r .took-damaged;
-    }) in
-    record {
-      clean-words = same-words clean d w ∙ wrote .clean-words;
-      only-first = wrote .only-first;
-      damaged-words = same-words damaged d w ∙ wrote .damaged-words;
-      replaced = wrote .replaced;
-    }
+-- The damage statement, for any number of inverted bits and for one.
+empty-stream : (items : List Item) (trailing : ℕ) → 0 ≡ length (streamBits items trailing) → items ≡ []
+empty-stream [] trailing e = refl
+empty-stream (i ∷ is) trailing e = let size = stream-length i is trailing in let some = item-some i in absurd (omega arith)
 
-module _ (image : List ℕ) (clean damaged : List HostCall) (items : List Item) (trailing k : ℕ) where
-  abbrev Damage : List ℕ → Type 0
-  Damage i =
-      Runs (stateOf image) (imageBits i clean) (imageBits i damaged) items trailing k
-      → Wrote (stateOf image) (imageWords i clean) (imageWords i damaged) items k
+module _ (image : List ℕ) (clean damaged : List HostCall) (hits : Hits) (items : List Item) (trailing : ℕ) where
+  abbrev Damage : Made → Made → Type 0
+  Damage c m = HitRuns (stateOf image) c m hits items trailing → HitsWrote (stateOf image) c m hits items
 
-  damage-by : (fit : Bool) → imageFits image ≡ fit → Damage image
-  damage-by true e = subst Damage (read-again image e) (state-damage (stateOf image) (read-widths image) clean damaged items trailing k)
-  damage-by false e = λ r.
-      let none : 0 ≡ length (streamBits items trailing) = ap length (sym (no-bits image e clean) ∙ r .took-clean) in
-      absurd (omega (arith, none, r .stream .inside))
+  abbrev unmade : Made
+  unmade = record { bits = []; words = []; left = stateOf image }
+
+  -- a list of calls that takes nothing
+  no-damage : Damage unmade unmade
+  no-damage r =
+      rw (empty-stream items trailing (ap length (r .took-clean)))
+      (record { clean-words = refl; only-first = tt; damaged-words = refl; beside = (refl, refl); counters = ((λ _. refl), (λ _. refl)) })
+
+  hits-by : (fit : Bool) → imageFits image ≡ fit → Damage (hostMade image clean) (hostMade image damaged)
+  hits-by true e =
+      let d = stateOf image in
+      let w = read-widths image in
+      subst (λ i. Damage (hostMade i clean) (hostMade i damaged)) (read-again image e)
+      (rw (same-made clean d w, same-made damaged d w) (fourth-promise d (stateCalls clean) (stateCalls damaged) hits items trailing))
+  hits-by false e = rw (nothing-made image e clean, nothing-made image e damaged) no-damage
+
+host-hits : HostHits
+host-hits image clean damaged hits items trailing = hits-by image clean damaged hits items trailing (imageFits image) refl
+
+host-damage : HostDamage
+host-damage image clean damaged items trailing k r =
+    let d = stateOf image in
+    let runs = one-runs d (hostMade image clean) (hostMade image damaged) items trailing k r in
+    one-wrote d (hostMade image clean) (hostMade image damaged) items trailing k r
+    (host-hits image clean damaged (oneHit (d .next + k)) items trailing runs)
 
 -- Each taking call as a call on an image.
 abbrev hostCalls : List Call → List HostCall
 hostCalls [] = []
 hostCalls (c ∷ cs) = record { result = replicate resultLength 0; lent = c } ∷ hostCalls cs
 
-same-calls : (cs : List Call) → stateCalls (hostCalls cs) ≡ cs
-same-calls [] = refl
-same-calls (c ∷ cs) = ap (λ cs. c ∷ cs) (same-calls cs)
+calls-back : (cs : List Call) → stateCalls (hostCalls cs) ≡ cs
+calls-back [] = refl
+calls-back (c ∷ cs) = ap (λ cs. c ∷ cs) (calls-back cs)
 
-module _ (image : List ℕ) (fits : imageFits image ≡ true) where
-  takes : (cs : List Call) → imageBits image (hostCalls cs) ≡ allBits (stateOf image) cs
-  takes cs =
-      ap (λ i. imageBits i (hostCalls cs)) (sym (read-again image fits)) ∙ same-bits (hostCalls cs) (stateOf image) (read-widths image)
-      ∙ ap (allBits (stateOf image)) (same-calls cs)
+hits-met : HostHitsCanBeMet
+hits-met image hits items trailing fits s apart room =
+    let d = stateOf image in
+    let m = fourth-promise-met d hits items trailing s apart room in
+    let as-made : (cs : List Call) → hostMade image (hostCalls cs) ≡ made d cs =
+    λ cs. ap (λ i. hostMade i (hostCalls cs)) (sym (read-again image fits)) ∙ same-made (hostCalls cs) d (read-widths image) ∙ ap (made d) (calls-back cs) in
+    record { clean = hostCalls (m .clean); damaged = hostCalls (m .damaged); runs = rw (as-made (m .clean), as-made (m .damaged)) (m .runs) }
 
-  met : (items : List Item) (trailing k : ℕ) → Stream (stateOf image) items trailing k
-      → stateOf image .next + length (streamBits items trailing) ≤ clockLimit → HostMet image items trailing k
-  met items trailing k s room =
-      let m = third-demand-met (stateOf image) items trailing k s room in
-      record {
-        clean = hostCalls (m .clean);
-        damaged = hostCalls (m .damaged);
-        runs = record {
-          stream = s;
-          took-clean = takes (m .clean) ∙ m .runs .took-clean;
-          took-damaged = takes (m .damaged) ∙ m .runs .took-damaged;
-        };
-      }
+met : HostDamageMet
+met image items trailing k fits s inside room =
+    let d = stateOf image in
+    let m = hits-met image (oneHit (d .next + k)) items trailing fits s (one-apart (d .next + k) (d .next) items trailing) room in
+    let runs = runs-one d (hostMade image (m .clean)) (hostMade image (m .damaged)) items trailing k inside (m .runs) in
+    record { clean = m .clean; damaged = m .damaged; runs = runs }
 
 -- the ending, by the tests of the call on an image
 ends-by : (image : List ℕ) (h : HostCall) (s t : Bool) → soundImage image ≡ s → eqb (length (h .result)) resultLength ≡ t
@@ -253,6 +258,8 @@ host-demands = record {
       let sound = sound-by image h (soundImage image) (eqb (length (h .result)) resultLength) refl refl zero in
       accepted (left image h .image) after sound (eqb (length (after .result)) resultLength) refl;
   fits = λ image hs. fits-by image hs (imageFits image) refl;
-  damage = λ image clean damaged items trailing k. damage-by image clean damaged items trailing k (imageFits image) refl;
-  met = λ image items trailing k fits. met image fits items trailing k;
+  damage = host-damage;
+  met = met;
+  hits = host-hits;
+  hits-met = hits-met;
 }

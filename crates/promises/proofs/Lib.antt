@@ -4,6 +4,7 @@ pub mod ListParts
 pub mod RunGoesOn
 pub mod RecordLines
 pub mod Records
+pub mod ManyHits
 pub mod Damage
 pub mod Hosts
 pub mod HostCalls

@@ -18,18 +18,18 @@ use Rattle.damage.specs.CleanStreams.{Item, streamBits, timed, inverted}
 use Rattle.damage.specs.Records.{aheadOf, sends, cleanRecords, damagedRecords}
 use Rattle.damage.specs.Comparison.{OnlyFirst, Replaced}
 
--- Any sound state in RunMode, hunting, window 00000; a clean stream; and a bit of it.
-pub record Stream (d : Decoder) (items : List Item) (trailing k : ℕ) : Type 0 where
+-- Any sound state in RunMode, hunting, window 00000; and a clean stream.
+pub record Stream (d : Decoder) (items : List Item) : Type 0 where
   pub sound : T (soundOf d)
   pub running : d .model .running ≡ true
   pub hunting : d .recogniser .phase ≡ Hunt
   pub window : d .recogniser .shift ≡ 0
   pub timing : T (timed items)
-  pub inside : k < length (streamBits items trailing)
 
--- The bits of two lists of calls, of which one has taken the stream and the other the same bits with that one inverted.
+-- The bits of two lists of calls, of which one has taken the stream and the other the same bits with one inverted.
 pub record Runs (d : Decoder) (clean damaged : List ℕ) (items : List Item) (trailing k : ℕ) : Type 0 where
-  pub stream : Stream d items trailing k
+  pub stream : Stream d items
+  pub inside : k < length (streamBits items trailing)
   pub took-clean : clean ≡ streamBits items trailing
   pub took-damaged : damaged ≡ inverted k (streamBits items trailing)
 
@@ -59,4 +59,4 @@ pub record Met (d : Decoder) (items : List Item) (trailing k : ℕ) : Type 0 whe
 abbrev pub ThirdDemandMet : Type 0
 ThirdDemandMet =
     (d : Decoder) (items : List Item) (trailing k : ℕ)
-    → Stream d items trailing k → d .next + length (streamBits items trailing) ≤ clockLimit → Met d items trailing k
+    → Stream d items → k < length (streamBits items trailing) → d .next + length (streamBits items trailing) ≤ clockLimit → Met d items trailing k

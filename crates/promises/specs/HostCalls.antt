@@ -1,9 +1,9 @@
--- The second and the third demand for lists of the library's own calls: a host hands each call the image as the call before left it.
+-- The second and the third demand and the fourth promise for lists of the library's own calls: a host hands each call the image as the call before left it.
 -- Assumes nothing.
 use mathlib.Core.Path.{_≡_}
 use mathlib.Core.Bool.{true, cond}
 use mathlib.Core.List.{List, [], _∷_, _++_}
-use Prim.Native.Nat.{ℕ, _+_, _*_, _≤_}
+use Prim.Native.Nat.{ℕ, _+_, _*_, _<_, _≤_}
 use lib.Dec.{eqb}
 use lib.ListN.{length, getD, take, drop}
 use Rattle.limits.specs.Limits.{clockLimit, listUnit}
@@ -15,9 +15,11 @@ use Rattle.calls.specs.Calls.{Part}
 use Rattle.image.specs.Image.{stateOf, imageFits}
 use Rattle.kernelstill.specs.Take.{TakeResult, resultWords, takeResultOf}
 use Rattle.damage.specs.CleanStreams.{Item, streamBits}
+use Rattle.damage.specs.Hits.{Hits, Apart}
 use Rattle.promises.specs.Records.{Ends}
 use Rattle.promises.specs.Frames.{Receives, HandsBack}
 use Rattle.promises.specs.Damage.{Stream, Runs, Wrote}
+use Rattle.promises.specs.ManyHits.{Made, HitRuns, HitsWrote}
 
 -- What a call is lent beside the image: the buffer of its result, and what any taking call is lent.
 pub record HostCall : Type 0 where
@@ -46,6 +48,13 @@ imageBits image (h ∷ hs) = bitsTold image h ++ imageBits (left image h .image)
 unfoldable pub imageWords : List ℕ → List HostCall → List ℕ
 imageWords image [] = []
 imageWords image (h ∷ hs) = wordsTold image h ++ imageWords (left image h .image) hs
+
+unfoldable pub imageLeft : List ℕ → List HostCall → List ℕ
+imageLeft image [] = image
+imageLeft image (h ∷ hs) = imageLeft (left image h .image) hs
+
+abbrev pub hostMade : List ℕ → List HostCall → Made
+hostMade image hs = record { bits = imageBits image hs; words = imageWords image hs; left = stateOf (imageLeft image hs) }
 
 -- "Across cuts, state, store and tray are carried over unchanged": what a host carries over, and what it lends each call of its own.
 pub record Carried : Type 0 where
@@ -125,8 +134,26 @@ pub record HostMet (image : List ℕ) (items : List Item) (trailing k : ℕ) : T
 
 abbrev pub HostDamageMet : Type 0
 HostDamageMet =
-    (image : List ℕ) (items : List Item) (trailing k : ℕ) → imageFits image ≡ true → Stream (stateOf image) items trailing k
-    → stateOf image .next + length (streamBits items trailing) ≤ clockLimit → HostMet image items trailing k
+    (image : List ℕ) (items : List Item) (trailing k : ℕ) → imageFits image ≡ true → Stream (stateOf image) items
+    → k < length (streamBits items trailing) → stateOf image .next + length (streamBits items trailing) ≤ clockLimit → HostMet image items trailing k
+
+-- The fourth promise, likewise.
+abbrev pub HostHits : Type 0
+HostHits =
+    (image : List ℕ) (clean damaged : List HostCall) (hits : Hits) (items : List Item) (trailing : ℕ)
+    → HitRuns (stateOf image) (hostMade image clean) (hostMade image damaged) hits items trailing
+    → HitsWrote (stateOf image) (hostMade image clean) (hostMade image damaged) hits items
+
+pub record HostHitsMet (image : List ℕ) (hits : Hits) (items : List Item) (trailing : ℕ) : Type 0 where
+  pub clean : List HostCall
+  pub damaged : List HostCall
+  pub runs : HitRuns (stateOf image) (hostMade image clean) (hostMade image damaged) hits items trailing
+
+abbrev pub HostHitsCanBeMet : Type 0
+HostHitsCanBeMet =
+    (image : List ℕ) (hits : Hits) (items : List Item) (trailing : ℕ) → imageFits image ≡ true → Stream (stateOf image) items
+    → Apart hits (stateOf image .next) items trailing → stateOf image .next + length (streamBits items trailing) ≤ clockLimit
+    → HostHitsMet image hits items trailing
 
 pub record HostDemands : Type 0 where
   pub exact : (k : Carried) (ps : List HostPart) → HostExact k ps
@@ -138,3 +165,5 @@ pub record HostDemands : Type 0 where
   pub fits : (image : List ℕ) (hs : List HostCall) → WordsFit (imageWords image hs)
   pub damage : HostDamage
   pub met : HostDamageMet
+  pub hits : HostHits
+  pub hits-met : HostHitsCanBeMet

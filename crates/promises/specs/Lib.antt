@@ -2,6 +2,7 @@ pub mod Refusals
 pub mod Frames
 pub mod Records
 pub mod Damage
+pub mod ManyHits
 pub mod Hosts
 pub mod HostCalls
 pub mod Programs
