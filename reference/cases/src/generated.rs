@@ -1,6 +1,7 @@
 //! Generated streams, the same ones each time.
 
 use crate::generate::{self, Noise};
+use crate::spaced::spaced_hits;
 use crate::{Case, Random, Stream};
 
 /// How a stream is made.
@@ -95,6 +96,27 @@ fn crowded_case(number: u64) -> Case {
     let input = random_lines(&stream.bytes(), &mut random);
     // The golden and fixed cases are in a folder of that name.
     Case::new(format!("crowded-streams/{number:03}"), input)
+}
+
+/// The first `count` streams with several hits, spaced as document 02, F-13
+/// asks: one item in so many in turn has one. Every ninth is out of RunMode.
+/// Each depends on its number only.
+pub fn hits(count: u64) -> Vec<Case> {
+    (0..count).map(hits_case).collect()
+}
+
+const ONE_HIT_IN: [u64; 4] = [1, 2, 5, 20];
+
+fn hits_case(number: u64) -> Case {
+    let mut random = Random::new(0xF13_5EED_0000 + number);
+    let one_in = ONE_HIT_IN[(number % ONE_HIT_IN.len() as u64) as usize];
+    let hit = spaced_hits(&mut random, 300, one_in).damaged();
+    let begun = match number % 9 {
+        8 => Stream::new(),
+        _ => Stream::new().en_data_take(),
+    };
+    let input = random_lines(&begun.raw(&hit.bits).bytes(), &mut random);
+    Case::new(format!("hit-streams/{number:03}"), input)
 }
 
 /// Lines of random lengths, empty ones too; now and then no last line feed.

@@ -11,10 +11,11 @@ mod fixed;
 pub mod generate;
 mod generated;
 pub mod random;
+pub mod spaced;
 pub mod stream;
 
 pub use fixed::{fixed, RECEIVED};
-pub use generated::{crowded, generated, noisy};
+pub use generated::{crowded, generated, hits, noisy};
 pub use random::Random;
 pub use stream::Stream;
 

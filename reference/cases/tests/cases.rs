@@ -1,13 +1,15 @@
 //! The cases: names, repeatability, and what they cover.
 
 use cases::generate::{late_groups, noisy_groups, without_frames, Noise};
-use cases::{crowded, fixed, generated, noisy, Case, Random, Stream};
+use cases::spaced::{spaced_hits, Inverted, Sent, Spaced, BCR, CAL, SYNC};
+use cases::{crowded, fixed, generated, hits, noisy, Case, Random, Stream};
 use std::collections::HashSet;
 
 #[test]
 fn names_serve_as_file_names() {
     let mut names = HashSet::new();
-    for case in [fixed(), generated(40), noisy(40), crowded(40)].concat() {
+    let listed = [fixed(), generated(40), noisy(40), crowded(40), hits(40)];
+    for case in listed.concat() {
         let mut parts = case.name.split('/');
         assert!(parts.all(|part| {
             let fit = |c: u8| c.is_ascii_alphanumeric() || c == b'-';
@@ -25,6 +27,8 @@ fn generated_cases_repeat() {
     let inputs = |count| noisy(count).into_iter().map(|case| case.input);
     assert!(inputs(20).eq(inputs(40).take(20)));
     let inputs = |count| crowded(count).into_iter().map(|case| case.input);
+    assert!(inputs(20).eq(inputs(40).take(20)));
+    let inputs = |count| hits(count).into_iter().map(|case| case.input);
     assert!(inputs(20).eq(inputs(40).take(20)));
 }
 
@@ -81,6 +85,43 @@ fn groups_are_a_frame_with_its_cycles() {
     }
 }
 
+/// Bits counted from the item's command, and which commands are affected.
+#[test]
+fn hits_lie_where_they_are_said_to() {
+    let spaced = Spaced::new()
+        .item(3, Sent::Lv1, Inverted::Ahead(1))
+        .item(2, BCR, Inverted::Ahead(2))
+        .item(2, CAL, Inverted::Nowhere)
+        .item(0, SYNC, Inverted::Bit(9))
+        .item(4, Sent::Lv1, Inverted::Nowhere)
+        .end(4, Some(3));
+    let clean = "000 11101 00 101100001 00 101100100 101101000 0000 11101 0000";
+    let damaged = "001 11101 10 101100001 00 101100100 101101001 0000 11101 0001";
+    assert_eq!(spaced.clean, Stream::new().pattern(clean));
+    assert_eq!(spaced.damaged(), Stream::new().pattern(damaged));
+    assert_eq!(spaced.inverted, [2, 8, 38, 51]);
+    assert_eq!(spaced.unaffected, [7, 29, 47]);
+    assert!(spaced.may_invert());
+    assert_eq!(spaced.zeros_asked(BCR), 0);
+}
+
+#[test]
+#[should_panic(expected = "may_invert")]
+fn a_hit_next_to_an_affected_command_is_not_spaced() {
+    let spaced = Spaced::new().item(0, BCR, Inverted::Bit(1));
+    spaced.item(1, Sent::Lv1, Inverted::Ahead(1));
+}
+
+#[test]
+fn hits_are_as_many_as_asked_for() {
+    let mut random = Random::new(3);
+    let mut count = |one_in| spaced_hits(&mut random, 3_000, one_in).inverted.len();
+    // Not where a command is affected just ahead.
+    assert!((1_500..2_000).contains(&count(1)));
+    assert!((800..1_300).contains(&count(2)));
+    assert!((100..200).contains(&count(20)));
+}
+
 #[test]
 fn a_stream_without_frames_has_its_count_of_bits() {
     for count in [0, 1, 79, 80, 81, 1_000, 99_999] {
@@ -115,6 +156,8 @@ fn cases_cover_what_they_should() {
     }
     // After each of 23 commands, with seven CNT, and four others; and one.
     assert_eq!(count("crowded/"), 2 * (23 + 7 + 4) + 1);
+    // A day, and every bit in and out of RunMode, clean and hit; and one.
+    assert_eq!(count("hits/"), 2 * (1 + 2) + 1);
     let lines = |case: &Case| case.input.iter().filter(|&&byte| byte == b'\n').count();
     let long = generated(450)
         .iter()

@@ -1,7 +1,7 @@
 //! The images of states, and the cases of the interface, without a driver.
 
 use cases::generate::{bits, commands_at, flip_some};
-use cases::Random;
+use cases::{Random, Stream};
 use compare::interface::call::{Call, Open, Take};
 use compare::interface::difference::{difference, reply_bytes};
 use compare::interface::expected::{expected, Expected};
@@ -9,7 +9,7 @@ use compare::interface::image::{image, is_inside_wr_receiver, state, uses, Image
 use compare::interface::layout::{self, at, largest, IMAGE_WORDS, LAYOUT, RECOGNISER};
 use compare::interface::states::{random_cycle, random_state, EARLIER_KINDS, PLANS};
 use compare::interface::streams::addresses;
-use compare::interface::{checker, crowding, fit, large, prefilled, votes};
+use compare::interface::{checker, crowding, fit, hits, large, prefilled, votes};
 use compare::tally::Tally;
 use reader::limits::{input_fits, CLOCK_LIMIT, RECORD_WORDS, STORE_WORDS, TRAY_BYTES};
 use reader::listing::push_record;
@@ -454,6 +454,72 @@ fn random_states_hold_every_group() {
         assert!(seen.contains(&(field3, cycles, 0)));
         assert!(cycles > 4 || seen.contains(&(field3, cycles, largest as u8)));
     }
+}
+
+/// Document 02, F-13: RunMode, an empty window, and most often two hits or
+/// more, with an LV1 that is sent and one that is not.
+#[test]
+fn the_streams_with_several_hits_begin_in_run_mode() {
+    let mut several = 0;
+    let mut sends = BTreeSet::new();
+    for number in 0..hits::STREAMS {
+        let (made, spaced) = hits::start(&mut Random::new(number), number);
+        assert!(sound(&made) && made.run_mode);
+        assert_eq!(made.recogniser, Recogniser::Hunting { window: 0 });
+        several += u64::from(spaced.inverted.len() > 1);
+        sends.insert((made.plan.mask, made.csr() & 0x0040));
+    }
+    assert!(several > hits::STREAMS * 3 / 4, "{several}");
+    assert_eq!(sends.len(), 2 * PLANS.len());
+}
+
+/// The records of as much of a stream as the clock has cycles for.
+fn records_from(state: &State, stream: &Stream) -> Vec<[u64; 2]> {
+    let count = stream.bits.len() as u64;
+    let count = count.min(CLOCK_LIMIT - state.next_cycle);
+    let (mut store, mut tray) = (vec![0; STORE_WORDS], vec![0; TRAY_BYTES]);
+    let mut list = vec![0; 2 * stream.bits.len()];
+    let answer = take(
+        state.clone(),
+        &stream.bytes(),
+        0,
+        count,
+        &mut store,
+        &mut tray,
+        &mut list,
+        0,
+    );
+    assert_eq!(answer.bits_taken, count);
+    let words = list.chunks_exact(RECORD_WORDS);
+    let written = words.take(answer.records_written as usize);
+    written.map(|words| [words[0], words[1]]).collect()
+}
+
+/// What is not hit is recorded alike, and a record off is seen.
+#[test]
+fn what_several_hits_leave_is_compared() {
+    let mut seen = 0;
+    for number in 0..hits::STREAMS {
+        let (made, spaced) = hits::start(&mut Random::new(number), number);
+        let clean = records_from(&made, &spaced.clean);
+        let damaged = records_from(&made, &spaced.damaged());
+        let fault = |damaged: &[[u64; 2]]| hits::fault(&spaced, made.next_cycle, &clean, damaged);
+        assert_eq!(fault(&damaged), None, "{number}");
+        let Some(&last) = spaced.unaffected.last() else {
+            continue;
+        };
+        let is_last = |words: &&mut [u64; 2]| words[0] >> 16 == made.next_cycle + last as u64;
+        // A trigger or bunch number may differ, and nothing else.
+        for (word, bits, may) in [(0, 0x20, false), (1, 1 << 16, false), (1, 1 << 8, true)] {
+            let mut other = damaged.clone();
+            if let Some(words) = other.iter_mut().find(is_last) {
+                words[word] ^= bits;
+                assert_eq!(fault(&other).is_none(), may, "{number}");
+                seen += 1;
+            }
+        }
+    }
+    assert!(seen > 3 * hits::STREAMS / 2, "{seen}");
 }
 
 #[test]

@@ -1,6 +1,6 @@
 //! What the separate reader's programs print for the cases.
 
-use cases::{crowded, fixed, generated, golden, noisy};
+use cases::{crowded, fixed, generated, golden, hits, noisy};
 use compare::printed::printed;
 use reader::{model, reading, station, Program};
 use std::collections::HashSet;
@@ -9,7 +9,8 @@ use std::collections::HashSet;
 fn the_three_outputs_agree() {
     let text = |bytes: Vec<u8>| String::from_utf8(bytes).unwrap();
     let mut refused = HashSet::new();
-    for case in [fixed(), generated(40), noisy(40), crowded(40)].concat() {
+    let listed = [fixed(), generated(40), noisy(40), crowded(40), hits(40)];
+    for case in listed.concat() {
         let (mut one, mut two, mut three) = (Vec::new(), Vec::new(), Vec::new());
         station(&case.input[..], &mut one).unwrap();
         reading(&case.input[..], &mut two).unwrap();

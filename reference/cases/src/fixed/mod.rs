@@ -6,6 +6,7 @@ mod controller;
 mod crowded;
 mod flips;
 mod frames;
+mod hits;
 mod lines;
 mod paper;
 mod votes;
@@ -25,6 +26,7 @@ pub fn fixed() -> Vec<Case> {
     cases.extend(capture::cases());
     cases.extend(votes::cases());
     cases.extend(crowded::cases());
+    cases.extend(hits::cases());
     cases
 }
 

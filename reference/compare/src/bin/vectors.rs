@@ -8,7 +8,7 @@
 
 #![forbid(unsafe_code)]
 
-use cases::{crowded, fixed, generated, golden, noisy, Case};
+use cases::{crowded, fixed, generated, golden, hits, noisy, Case};
 use compare::golden::{files, stored, strays, write};
 use std::fs;
 use std::io;
@@ -24,8 +24,8 @@ fn main() -> ExitCode {
         [folder, "--stored"] => stored::write_all(Path::new(folder)).map(|()| 3),
         [folder, "--generated", count] => match count.parse() {
             Ok(count) => {
-                let cases = [fixed(), generated(count), noisy(count), crowded(count)].concat();
-                write_all(Path::new(folder), cases)
+                let listed = [generated(count), noisy(count), crowded(count), hits(count)];
+                write_all(Path::new(folder), [fixed(), listed.concat()].concat())
             }
             Err(_) => return usage(),
         },

@@ -22,7 +22,7 @@ pub struct Carried {
 /// What came of a stream, whatever its cuts.
 #[derive(Debug, PartialEq, Eq)]
 pub struct Outcome {
-    records: Vec<[u64; 2]>,
+    pub records: Vec<[u64; 2]>,
     /// With 0 for the words that mean nothing.
     image: Option<Image>,
     store: Vec<u32>,

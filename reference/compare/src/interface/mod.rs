@@ -14,6 +14,7 @@ pub mod expected;
 pub mod fit;
 pub mod flips;
 pub mod frames;
+pub mod hits;
 pub mod image;
 pub mod large;
 pub mod layout;
@@ -46,6 +47,7 @@ pub fn compare(driver: &Path, tally: &mut Tally) -> io::Result<()> {
         flips::check(checker)?;
         votes::check(checker)?;
         crowding::check(checker)?;
+        hits::check(checker)?;
         streams::check(checker)?;
         large::check(checker)
     })

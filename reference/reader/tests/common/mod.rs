@@ -1,6 +1,9 @@
 //! What the tests share: a decoder with its buffers, and shorthands.
 #![allow(dead_code)]
 
+pub mod damage;
+pub mod hits;
+
 use cases::Stream;
 use reader::limits::{STORE_WORDS, TRAY_BYTES};
 use reader::{frame_part, open, take, Earlier, Ending, Plan, Record, State};
