@@ -72,12 +72,7 @@ pub cond-left : {A : Type 0} (b : Bool) (x y : A) → T (not b) → cond b x y �
 cond-left true x y t = absurd t
 cond-left false x y t = refl
 
--- Two choices by one test; and a statement chosen by the test that chose its value.
-pub cond-pair : {A B : Type 0} (P : A → B → Type 0) (b : Bool) (x y : A) (u v : B) → (T b → P x u) → (T (not b) → P y v)
-    → P (cond b x y) (cond b u v)
-cond-pair P true x y u v f g = f tt
-cond-pair P false x y u v f g = g tt
-
+-- A statement chosen by the test that chose its value.
 pub cond-statement : {A : Type 0} (P Q : A → Type 0) (b : Bool) (x y : A) → (T b → P x) → (T (not b) → Q y)
     → cond b (P (cond b x y)) (Q (cond b x y))
 cond-statement P Q true x y f g = f tt

@@ -27,15 +27,15 @@ use Rattle.calls.proofs.CallLists.{call-kept}
 use Rattle.damage.specs.Commands.{Command, widthOf}
 use Rattle.damage.specs.CleanStreams.{Item, itemSize, streamBits, timed}
 use Rattle.damage.specs.Table.{Replacement, itself}
-use Rattle.damage.specs.Hits.{Hits, invertedAt, standsIn, apartByItems}
+use Rattle.damage.specs.Hits.{HitCycles, invertedAt, standsIn, apartByItems}
 use Rattle.damage.specs.Traces.{requestsOf, recogniserAfter, quiet, spread, itemTrace, cleanTrace, hitTrace}
-use Rattle.damage.specs.Records.{Recording, aheadOf, sends, requestRecords, cleanRecords, cleanAhead, hitRecords, hitAhead}
+use Rattle.damage.specs.Records.{Recording, aheadOf, sends, followedBy, performed, requestRecords, cleanRecords, cleanAhead, hitRecords, hitAhead}
 use Rattle.damage.proofs.TracesJoined.{requests-append, after-append, length-requests}
 use Rattle.damage.proofs.Recovery.{clean-run}
 use Rattle.damage.proofs.Replacements.{Passes, own-passes}
 use Rattle.damage.proofs.HitItems.{stands-passes}
 use Rattle.damage.proofs.HitRuns.{hit-run}
-use Rattle.damage.proofs.TraceRecords.{behind, performed, performed-append, performed-clean, performed-hit}
+use Rattle.damage.proofs.TraceRecords.{performed-append, performed-clean, performed-hit}
 use Rattle.damage.proofs.RunModeEffects.{outsideSlow, noSlow, step-any-cnt, step-stays-outside, from-empty, does}
 
 -- no request of a trace leads into a Slow command
@@ -89,7 +89,7 @@ follows-append {d} {v} {u} {xs} {ys} {ws} {zs} a b =
     let later : List Request = requestsOf (recogniserAfter (d .recogniser) xs) ys in
     let q : Recording = performed (sends d) (p .after) (d .next + length xs) later in
     let on : performs v ys ≡ q = λ i. performed (a .sent i) (a .ahead i) (a .next i) (requestsOf (a .stands i) ys) in
-    let joined : performs d (xs ++ ys) ≡ behind (p .records) q =
+    let joined : performs d (xs ++ ys) ≡ followedBy (p .records) q =
     rw (requests-append (d .recogniser) xs ys, performed-append (sends d) (aheadOf d) (d .next) (trace d xs) later, length-requests (d .recogniser) xs) in
     record {
       written = ap₂ _++_ (a .written) (b .written ∙ ap (λ (r : Recording). recordWords (r .records)) on)
@@ -178,7 +178,7 @@ noSlow-clean (i ∷ is) t =
     let own = noSlow-item i (itself (i .command)) (own-passes noSlowAt noSlow-passes (i .command)) in
     noSlowIn-append (itemTrace i (itself (i .command))) (cleanTrace is t) own (noSlow-clean is t)
 
-noSlow-hit : (hits : Hits) (n : ℕ) (is : List Item) (t : ℕ) → T (noSlowIn (hitTrace hits n is t))
+noSlow-hit : (hits : HitCycles) (n : ℕ) (is : List Item) (t : ℕ) → T (noSlowIn (hitTrace hits n is t))
 noSlow-hit hits n [] t = noSlowIn-quiet t
 noSlow-hit hits n (i ∷ is) t =
     let stands = noSlow-item i (standsIn hits n i) (stands-passes noSlowAt noSlow-passes hits n i) in
@@ -210,7 +210,7 @@ module _ (d : Decoder) (running : d .model .running ≡ true) (hunting : d .reco
   clean-recorded cs is t e =
       records cs (cleanTrace is t) _ (ap (requestsOf idle) e ∙ clean-run is t) (noSlow-clean is t) (performed-clean (sends d) (aheadOf d) (d .next) is t)
 
-  pub hit-recorded : (cs : List Call) (hits : Hits) (is : List Item) (t : ℕ) → T (timed is) → T (apartByItems hits false (d .next) is t)
+  pub hit-recorded : (cs : List Call) (hits : HitCycles) (is : List Item) (t : ℕ) → T (timed is) → T (apartByItems hits false (d .next) is t)
       → allBits d cs ≡ invertedAt hits (d .next) (streamBits is t)
       → Recorded d cs (record { records = hitRecords (sends d) hits (aheadOf d) (d .next) is; after = hitAhead hits (aheadOf d) (d .next) is })
   hit-recorded cs hits is t h apart e =

@@ -14,10 +14,10 @@ use Rattle.timing.specs.TooClose.{earlierBelow, tooClose, flagTooClose}
 use Rattle.damage.specs.Commands.{Command, lv1, bcr, ecr, cal, sync, commandKind, requestOf}
 use Rattle.damage.specs.CleanStreams.{Item, itemSize, spaced, timed}
 use Rattle.damage.specs.Table.{Replacement, itself, damage, affected, hitOf, replacementOf}
-use Rattle.damage.specs.Hits.{Hits, affectedBy, standsIn}
+use Rattle.damage.specs.Hits.{HitCycles, affectedBy, standsIn}
 use Rattle.damage.specs.Records.{Ahead, requestRecords, aheadAfter, lastCycle, itemRecords, itemAhead, cleanRecords, cleanAhead}
 use Rattle.damage.specs.Records.{replacementRecords, replacementAhead, damagedRecords, hitAfter, hitRecords, hitAhead}
-use Rattle.damage.specs.Comparison.{SameRecord, SameAfter, Replaced, SameCounters, mayDiffer, differsAfter, Beside}
+use Rattle.damage.specs.Comparison.{SameRecord, SameAfter, Replaced, SameCounters, mayDiffer, mayDifferAfter, Beside}
 use Rattle.damage.proofs.StreamBits.{spaced-timed}
 use Rattle.damage.proofs.Replacements.{replacement-passes}
 use Rattle.damage.proofs.HitItems.{stands-passes}
@@ -107,7 +107,7 @@ pub record Standing (trigger bunch : Bool) (a b : Ahead) (n : ℕ) (is : List It
   pub alike : Alike (a .earlier) (b .earlier) n is
   pub below : earlierBelow (b .earlier) n ≡ true
 
-module _ (sent : Bool) (hits : Hits) where
+module _ (sent : Bool) (hits : HitCycles) where
   -- after an item, affected or not
   counted-on : (n : ℕ) (i : Item) (a b : Ahead) (t u : Bool) → SameCounters t u (a .counters) (b .counters)
       → SameCounters (mayDiffer hits kindEcr n i t) (mayDiffer hits kindBcr n i u) (itemAhead a n i .counters) (hitAfter hits b n i .counters)
@@ -130,12 +130,13 @@ module _ (sent : Bool) (hits : Hits) where
     recorded = ⊎-elim (λ e. rw e) (λ e. rw e (p .y, ap (λ l. l ++ rest) (p .second), p .alike)) (cases (affectedBy hits n i))
 
   pub beside : (t u : Bool) (a b : Ahead) (n : ℕ) (is : List Item) → Standing t u a b n is → T (timed is)
-      → Beside sent hits t u b n is (cleanRecords sent a n is) (hitRecords sent hits b n is)
-  beside t u a b n [] s h = (refl, refl)
+      → Beside sent hits t u a b n is (cleanRecords sent a n is) (hitRecords sent hits b n is)
+  beside t u a b n [] s h = (s .same, refl, refl)
   beside t u a b n (i ∷ is) s h =
       let p = twice sent (lastCycle n i) a b t u (s .same) (i .command) (s .alike) in
       let xs = cleanRecords sent (itemAhead a n i) (n + itemSize i) is in
       let ys = hitRecords sent hits (hitAfter hits b n i) (n + itemSize i) is in (
+        s .same,
         p .x,
         xs,
         ys,
@@ -145,6 +146,6 @@ module _ (sent : Bool) (hits : Hits) where
       )
 
   pub counters : (t u : Bool) (a b : Ahead) (n : ℕ) (is : List Item) → SameCounters t u (a .counters) (b .counters)
-      → SameCounters (differsAfter hits kindEcr n is t) (differsAfter hits kindBcr n is u) (cleanAhead a n is .counters) (hitAhead hits b n is .counters)
+      → SameCounters (mayDifferAfter hits kindEcr n is t) (mayDifferAfter hits kindBcr n is u) (cleanAhead a n is .counters) (hitAhead hits b n is .counters)
   counters t u a b n [] same = same
   counters t u a b n (i ∷ is) same = counters _ _ (itemAhead a n i) (hitAfter hits b n i) (n + itemSize i) is (counted-on n i a b t u same)

@@ -12,7 +12,7 @@ use Rattle.bits.proofs.Truth.{clash, cases, both}
 use Rattle.damage.specs.Commands.{Command}
 use Rattle.damage.specs.CleanStreams.{Item, itemSize}
 use Rattle.damage.specs.Table.{Replacement, itself, affected, replacementOf}
-use Rattle.damage.specs.Hits.{Hits, firstBelow, affecting, affectedBy, standsIn}
+use Rattle.damage.specs.Hits.{HitCycles, firstBelow, affecting, affectedBy, standsIn}
 use Rattle.damage.proofs.Replacements.{Passes, own-passes, replacement-passes}
 use Rattle.damage.proofs.HitPlaces.{Missed, Once, only-itself, only-one}
 
@@ -33,7 +33,7 @@ first-found (suc m) test (suc k) h e =
     (cases (test 0))
 
 -- An affected command, and the inverted bit that affects it.
-module _ (hits : Hits) (n : ℕ) (i : Item) where
+module _ (hits : HitCycles) (n : ℕ) (i : Item) where
   abbrev affects : ℕ → Bool
   affects k = hits (n + k) && affected i k
 
@@ -79,7 +79,7 @@ module _ (hits : Hits) (n : ℕ) (i : Item) where
         (cases (affectedBy hits n i))
 
 -- A test that passes for what the table puts in a command's place, and for the command itself, passes for what stands there.
-pub stands-passes : (test : Command → Replacement → Bool) → Passes test → (hits : Hits) (n : ℕ) (i : Item) → T (test (i .command) (standsIn hits n i))
+pub stands-passes : (test : Command → Replacement → Bool) → Passes test → (hits : HitCycles) (n : ℕ) (i : Item) → T (test (i .command) (standsIn hits n i))
 stands-passes test passes hits n i =
     ⊎-elim
     (λ e.

@@ -10,13 +10,13 @@ use native.Mathlib.Omega.{arith}
 use lib.ListN.{length}
 use Rattle.bits.proofs.Truth.{clash, cases}
 use Rattle.damage.specs.CleanStreams.{inverted}
-use Rattle.damage.specs.Hits.{Hits, invertedAt, hitsIn}
+use Rattle.damage.specs.Hits.{HitCycles, invertedAt, hitsIn}
 
 -- Of m bits from cycle n on those are inverted that pass a test.
-abbrev pub Among : Hits → ℕ → ℕ → (ℕ → Bool) → Type 0
+abbrev pub Among : HitCycles → ℕ → ℕ → (ℕ → Bool) → Type 0
 Among hits n m test = (k : ℕ) → k < m → hits (n + k) ≡ test k
 
-module _ (hits : Hits) (n m : ℕ) (test : ℕ → Bool) where
+module _ (hits : HitCycles) (n m : ℕ) (test : ℕ → Bool) where
   pub among-at : Among hits n m test → (q : ℕ) → n ≤ q → q < n + m → hits q ≡ test (q - n)
   among-at among q from inside = let z : n + (q - n) ≡ q = omega arith in rw z at (among (q - n) (omega arith))
 
@@ -40,10 +40,10 @@ only zero (suc j) = false
 only (suc k) zero = false
 only (suc k) (suc j) = only k j
 
-abbrev pub Missed : Hits → ℕ → ℕ → Type 0
+abbrev pub Missed : HitCycles → ℕ → ℕ → Type 0
 Missed hits n m = Among hits n m none
 
-abbrev pub Once : Hits → ℕ → ℕ → ℕ → Type 0
+abbrev pub Once : HitCycles → ℕ → ℕ → ℕ → Type 0
 Once hits n m k = Among hits n m (only k)
 
 pub only-itself : (k : ℕ) → only k k ≡ true
@@ -57,7 +57,7 @@ only-one (suc k) zero e = clash e refl
 only-one (suc k) (suc j) e = ap suc (only-one k j e)
 
 -- The bits, of which none or one is inverted, and two parts of them.
-module _ (hits : Hits) where
+module _ (hits : HitCycles) where
   pub inverted-append : (n : ℕ) (xs ys : List ℕ) → invertedAt hits n (xs ++ ys) ≡ invertedAt hits n xs ++ invertedAt hits (n + length xs) ys
   inverted-append n [] ys = ap (λ m. invertedAt hits m ys) (omega arith)
   inverted-append n (x ∷ xs) ys =
@@ -79,7 +79,7 @@ module _ (hits : Hits) where
       inverted-both n x xs (only (suc k)) h (inverted-once (suc n) xs k (among-rest hits n (length xs) (only (suc k)) h))
 
 -- Counted.
-module _ (hits : Hits) where
+module _ (hits : HitCycles) where
   pub counted : (n m : ℕ) (b : Bool) → hits n ≡ b → hitsIn hits n (suc m) ≡ cond b 1 0 + hitsIn hits (suc n) m
   counted n m b e = ap (λ b. cond b 1 0 + hitsIn hits (suc n) m) e
 

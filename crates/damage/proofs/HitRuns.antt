@@ -13,7 +13,7 @@ use Rattle.recogniser.specs.Parts.{idle}
 use Rattle.damage.specs.Commands.{Command}
 use Rattle.damage.specs.CleanStreams.{Item, zeros, zerosBetween, itemBits, itemSize, streamBits, spaced, timed}
 use Rattle.damage.specs.Table.{itself, affected}
-use Rattle.damage.specs.Hits.{Hits, invertedAt, affectedBy, hitsIn, apartByItems}
+use Rattle.damage.specs.Hits.{HitCycles, invertedAt, affectedBy, hitsIn, apartByItems}
 use Rattle.damage.specs.Traces.{requestsOf, itemTrace, hitTrace}
 use Rattle.damage.proofs.StreamBits.{spaced-timed, item-length}
 use Rattle.damage.proofs.TracesJoined.{Shows, onward}
@@ -22,7 +22,7 @@ use Rattle.damage.proofs.HitPlaces.{Missed, Once, inverted-append, inve
 use Rattle.damage.proofs.HitItems.{missed-spared, once-affected, once-stands}
 use Rattle.damage.proofs.InvertedBit.{in-item, in-tail}
 
-module _ (hits : Hits) (t : ℕ) where
+module _ (hits : HitCycles) (t : ℕ) where
   abbrev bitsFrom : ℕ → List Item → List ℕ
   bitsFrom n is = invertedAt hits n (streamBits is t)
 
@@ -101,6 +101,6 @@ module _ (hits : Hits) (t : ℕ) where
   shows-all n (i ∷ is) = one-item n i is (shows-all (n + itemSize i) is)
 
 -- anywhere in a clean stream
-pub hit-run : (hits : Hits) (n : ℕ) (is : List Item) (t : ℕ) → T (timed is) → T (apartByItems hits false n is t)
+pub hit-run : (hits : HitCycles) (n : ℕ) (is : List Item) (t : ℕ) → T (timed is) → T (apartByItems hits false n is t)
     → requestsOf idle (invertedAt hits n (streamBits is t)) ≡ hitTrace hits n is t
 hit-run hits n is t = shows-all hits t n is .empty

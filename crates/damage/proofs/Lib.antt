@@ -13,5 +13,6 @@ pub mod TraceRecords
 pub mod Spacing
 pub mod Comparison
 pub mod OneHit
+pub mod HitExamples
 pub mod RunModeEffects
 pub mod CallLists

@@ -12,10 +12,14 @@ use borrow.Author.Tests.{eqb-true, eq-eqb, ne-eqb}
 use Rattle.bits.proofs.Truth.{cases, clash, holds-true, cond-case}
 use Rattle.damage.specs.CleanStreams.{Item, itemSize, inverted}
 use Rattle.damage.specs.Table.{Replacement, itself, replacementOf}
-use Rattle.damage.specs.Hits.{Hits, oneHit, invertedAt, standsIn, Apart}
+use Rattle.damage.specs.Hits.{HitCycles, invertedAt, standsIn, Apart}
 use Rattle.damage.specs.Records.{Ahead, itemRecords, itemAhead, cleanRecords, replacementRecords, replacementAhead, damagedRecords, hitRecords}
 use Rattle.damage.proofs.HitPlaces.{Missed, Once, only, only-itself, only-one, inverted-once}
 use Rattle.damage.proofs.HitItems.{missed-stands, once-stands}
+
+-- The bit of one cycle.
+abbrev pub oneHit : ℕ → HitCycles
+oneHit cycle m = eqb m cycle
 
 -- Of any bits, bit k alone.
 one-once : (n m k : ℕ) → Once (oneHit (n + k)) n m k
@@ -39,7 +43,7 @@ one-apart cycle n is t p q from before inside at-p at-q =
 
 module _ (sent : Bool) where
   -- an item in whose command's place x stands
-  hit-first : (hits : Hits) (a : Ahead) (n : ℕ) (i : Item) (is : List Item) (x : Replacement) → standsIn hits n i ≡ x
+  hit-first : (hits : HitCycles) (a : Ahead) (n : ℕ) (i : Item) (is : List Item) (x : Replacement) → standsIn hits n i ≡ x
       → hitRecords sent hits a n (i ∷ is)
       ≡ replacementRecords sent a (n + i .ahead) x ++ hitRecords sent hits (replacementAhead a (n + i .ahead) x) (n + itemSize i) is
   hit-first hits a n i is x e =

@@ -12,7 +12,7 @@ use borrow.Author.Tests.{ltb-true, ltb-false}
 use Rattle.bits.proofs.Truth.{clash, cases, and-both, and-left, and-right, holds-true, true-holds, cond-case}
 use Rattle.damage.specs.CleanStreams.{Item, zeros, itemSize, streamBits}
 use Rattle.damage.specs.Table.{affected, hitsFast}
-use Rattle.damage.specs.Hits.{Hits, affecting, affectedBy, Spared, SomeSpared, Apart, hitsIn, apartByItems}
+use Rattle.damage.specs.Hits.{HitCycles, affecting, affectedBy, Spared, SomeSpared, Apart, hitsIn, apartByItems}
 use Rattle.damage.proofs.StreamBits.{stream-length}
 use Rattle.damage.proofs.HitPlaces.{among-at, only, only-one, counted, count-none, count-one}
 use Rattle.damage.proofs.HitItems.{affected-by, affected-found}
@@ -23,7 +23,7 @@ in-zeros i k =
     cond-case (λ b. T (not b) → k < i .ahead) (ltb k (i .ahead)) {x = hitsFast (i .command) (i .ahead - k)} {y = true} (λ b _. ltb→lt k (i .ahead) b)
     (λ _ safe. absurd safe)
 
-module _ (hits : Hits) where
+module _ (hits : HitCycles) where
   -- m bits from cycle n on have no inverted one, or no two
   abbrev NoHit : ℕ → ℕ → Type 0
   NoHit n m = (q : ℕ) → n ≤ q → q < n + m → T (hits q) → ⊥
@@ -93,7 +93,7 @@ module _ (hits : Hits) where
       let z : n + (p - n) ≡ p = omega arith in
       let safe : T (not (affected i (p - n))) = none (p - n) (omega arith) (rw z at-p) in
       let zero = in-zeros i (p - n) safe in
-      record { behind = omega arith; before = beyond; unaffected = none }
+      record { behind = omega arith; before = omega arith; unaffected = λ k l hit. none k (omega arith) hit }
 
   -- A command between two cycles lies before the second.
   before-second : (p q n : ℕ) (is : List Item) → SomeSpared hits p q n is → n ≤ q
@@ -184,10 +184,11 @@ module _ (hits : Hits) where
             let none = no-hit n (itemSize i) (none-allowed near n (itemSize i) h now) in
             ⊎-elim (λ b. absurd (none q from (ltb-true q (n + itemSize i) b) at-q))
             (λ b.
+            let beyond = ltb-false q (n + itemSize i) b in
             inl
             (record {
               behind = omega arith;
-              before = ltb-false q (n + itemSize i) b;
+              before = omega arith;
               unaffected = λ k l hit. absurd (none (n + k) (omega arith) (omega arith) hit);
             }))
             (cases (ltb q (n + itemSize i)));
@@ -200,8 +201,8 @@ module _ (hits : Hits) where
         (and-left (leb (hitsIn hits n (itemSize i)) (cond near 0 1)) _ h)
 
 -- The paper's premise, and the same item by item.
-pub by-items : (hits : Hits) (n : ℕ) (is : List Item) (t : ℕ) → Apart hits n is t → T (apartByItems hits false n is t)
+pub by-items : (hits : HitCycles) (n : ℕ) (is : List Item) (t : ℕ) → Apart hits n is t → T (apartByItems hits false n is t)
 by-items hits n is t apart = to-items hits t false n is apart (λ near. absurd near)
 
-pub by-pairs : (hits : Hits) (n : ℕ) (is : List Item) (t : ℕ) → T (apartByItems hits false n is t) → Apart hits n is t
+pub by-pairs : (hits : HitCycles) (n : ℕ) (is : List Item) (t : ℕ) → T (apartByItems hits false n is t) → Apart hits n is t
 by-pairs hits n is t h = from-items hits t false n is h .apart

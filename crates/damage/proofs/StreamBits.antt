@@ -12,7 +12,7 @@ use Rattle.bits.proofs.Truth.{and-both, and-left, and-right, cond-case}
 use Rattle.bits.proofs.BitRanges.{binary, binary-append}
 use Rattle.damage.specs.Commands.{Command, lv1, bcr, ecr, cal, sync, codeOf, widthOf}
 use Rattle.damage.specs.CleanStreams.{Item, zeros, zerosBetween, itemBits, itemSize, streamBits, spaced, timed}
-use Rattle.damage.specs.Hits.{Hits, invertedAt}
+use Rattle.damage.specs.Hits.{HitCycles, invertedAt}
 use Rattle.damage.proofs.FiniteFacts.{each-at}
 
 zeros-binary : (n : ℕ) → T (binary (zeros n))
@@ -32,14 +32,14 @@ stream-binary (i ∷ is) t =
     binary-append (itemBits i) (streamBits is t)
     (binary-append (zeros (i .ahead)) (codeOf (i .command)) (zeros-binary (i .ahead)) (code-binary (i .command))) (stream-binary is t)
 
-pub inverted-binary : (hits : Hits) (n : ℕ) (bits : List ℕ) → T (binary bits) → T (binary (invertedAt hits n bits))
+pub inverted-binary : (hits : HitCycles) (n : ℕ) (bits : List ℕ) → T (binary bits) → T (binary (invertedAt hits n bits))
 inverted-binary hits n [] b = tt
 inverted-binary hits n (x ∷ xs) b =
     let low = ltb→lt x 2 (and-left (ltb x 2) _ b) in
     let bit = cond-case (λ v. v < 2) (hits n) {x = 1 - x} {y = x} (λ _. omega arith) (λ _. low) in
     and-both (ltb (cond (hits n) (1 - x) x) 2) _ (lt→ltb (cond (hits n) (1 - x) x) 2 bit) (inverted-binary hits (suc n) xs (and-right (ltb x 2) _ b))
 
-pub length-inverted : (hits : Hits) (n : ℕ) (bits : List ℕ) → length (invertedAt hits n bits) ≡ length bits
+pub length-inverted : (hits : HitCycles) (n : ℕ) (bits : List ℕ) → length (invertedAt hits n bits) ≡ length bits
 length-inverted hits n [] = refl
 length-inverted hits n (x ∷ xs) = ap suc (length-inverted hits (suc n) xs)
 

@@ -13,38 +13,30 @@ use Rattle.controller.specs.declared.Record.{Record}
 use Rattle.damage.specs.Commands.{Command, widthOf}
 use Rattle.damage.specs.CleanStreams.{Item, itemSize}
 use Rattle.damage.specs.Table.{Replacement, nothing, at, itself}
-use Rattle.damage.specs.Hits.{Hits, standsIn}
+use Rattle.damage.specs.Hits.{HitCycles, standsIn}
 use Rattle.damage.specs.Traces.{quiet, spread, cleanTrace, hitTrace}
-use Rattle.damage.specs.Records.{Ahead, Recording, silence, requestRecords, aheadAfter, itemRecords, itemAhead, cleanRecords, cleanAhead}
+use Rattle.damage.specs.Records.{Ahead, Recording, silence, followedBy, performed, requestRecords, aheadAfter, itemRecords, itemAhead, cleanRecords, cleanAhead}
 use Rattle.damage.specs.Records.{replacementRecords, replacementAhead, hitAfter, hitRecords, hitAhead}
 use Rattle.damage.proofs.Replacements.{Passes, own-passes}
 use Rattle.damage.proofs.HitItems.{stands-passes}
 
--- What a trace that begins at cycle n records, and what stands ahead of the next command after it.
-abbrev pub behind : List Record → Recording → Recording
-behind records r = record { records = records ++ r .records; after = r .after }
-
-unfoldable pub performed : Bool → Ahead → ℕ → List Request → Recording
-performed sent a n [] = silence a
-performed sent a n (e ∷ es) = behind (requestRecords sent a n e) (performed sent (aheadAfter a n e) (suc n) es)
-
 suc-shift : (n m : ℕ) → suc n + m ≡ n + suc m
 suc-shift n m = omega arith
 
-behind-twice : (xs ys : List Record) (r : Recording) → behind xs (behind ys r) ≡ behind (xs ++ ys) r
-behind-twice xs ys r = ap (λ l. record { records = l; after = r .after }) (sym (append-assoc xs ys (r .records)))
+followed-twice : (xs ys : List Record) (r : Recording) → followedBy xs (followedBy ys r) ≡ followedBy (xs ++ ys) r
+followed-twice xs ys r = ap (λ l. record { records = l; after = r .after }) (sym (append-assoc xs ys (r .records)))
 
 pub performed-append : (sent : Bool) (a : Ahead) (n : ℕ) (es fs : List Request)
-    → performed sent a n (es ++ fs) ≡ behind (performed sent a n es .records) (performed sent (performed sent a n es .after) (n + length es) fs)
+    → performed sent a n (es ++ fs) ≡ followedBy (performed sent a n es .records) (performed sent (performed sent a n es .after) (n + length es) fs)
 unfolding performed
 performed-append sent a n [] fs = ap (λ m. performed sent a m fs) (omega arith)
 performed-append sent a n (e ∷ es) fs =
     let a₁ : Ahead = aheadAfter a n e in
     let p : Recording = performed sent a₁ (suc n) es in
     let records : List Record = requestRecords sent a n e in
-    ap (behind records) (performed-append sent a₁ (suc n) es fs)
-    ∙ ap (λ m. behind records (behind (p .records) (performed sent (p .after) m fs))) (suc-shift n (length es))
-    ∙ behind-twice records (p .records) _
+    ap (followedBy records) (performed-append sent a₁ (suc n) es fs)
+    ∙ ap (λ m. followedBy records (followedBy (p .records) (performed sent (p .after) m fs))) (suc-shift n (length es))
+    ∙ followed-twice records (p .records) _
 
 performed-quiet : (sent : Bool) (a : Ahead) (n t : ℕ) (es : List Request) → performed sent a n (quiet t ++ es) ≡ performed sent a (n + t) es
 unfolding performed
@@ -63,7 +55,7 @@ within width (at p e) = leb 1 p && leb p width
 
 module _ (sent : Bool) (a : Ahead) where
   performed-spread : (n width : ℕ) (x : Replacement) (es : List Request) → T (within width x)
-      → performed sent a n (spread width x ++ es) ≡ behind (replacementRecords sent a n x) (performed sent (replacementAhead a n x) (n + width) es)
+      → performed sent a n (spread width x ++ es) ≡ followedBy (replacementRecords sent a n x) (performed sent (replacementAhead a n x) (n + width) es)
   unfolding performed
   performed-spread n width nothing es h = performed-quiet sent a n width es
   performed-spread n width (at p e) es h =
@@ -73,18 +65,18 @@ module _ (sent : Bool) (a : Ahead) where
       let a₁ : Ahead = aheadAfter a (n + (p - 1)) e in
       rw (append-assoc (quiet (p - 1)) (e ∷ quiet (width - p)) es)
       (performed-quiet sent a n (p - 1) (e ∷ (quiet (width - p) ++ es))
-      ∙ ap (behind (requestRecords sent a (n + (p - 1)) e))
+      ∙ ap (followedBy (requestRecords sent a (n + (p - 1)) e))
       (performed-quiet sent a₁ (suc (n + (p - 1))) (width - p) es ∙ ap (λ m. performed sent a₁ m es) z))
 
   -- an item in whose command's place x stands
   performed-item : (n t width : ℕ) (x : Replacement) (es : List Request) → T (within width x)
       → performed sent a n ((quiet t ++ spread width x) ++ es)
-      ≡ behind (replacementRecords sent a (n + t) x) (performed sent (replacementAhead a (n + t) x) (n + (t + width)) es)
+      ≡ followedBy (replacementRecords sent a (n + t) x) (performed sent (replacementAhead a (n + t) x) (n + (t + width)) es)
   performed-item n t width x es h =
       let z : n + t + width ≡ n + (t + width) = omega arith in
       rw (append-assoc (quiet t) (spread width x) es)
       (performed-quiet sent a n t (spread width x ++ es) ∙ performed-spread (n + t) width x es h
-      ∙ ap (λ m. behind (replacementRecords sent a (n + t) x) (performed sent (replacementAhead a (n + t) x) m es)) z)
+      ∙ ap (λ m. followedBy (replacementRecords sent a (n + t) x) (performed sent (replacementAhead a (n + t) x) m es)) z)
 
 -- computed for what stands in a command's place
 abbrev withinAt : Command → Replacement → Bool
@@ -96,7 +88,7 @@ within-passes = record { own = refl; hit = refl; near = refl }
 itself-within : (d : Command) → T (within (widthOf d) (itself d))
 itself-within = own-passes withinAt within-passes
 
-stands-within : (hits : Hits) (n : ℕ) (i : Item) → T (within (widthOf (i .command)) (standsIn hits n i))
+stands-within : (hits : HitCycles) (n : ℕ) (i : Item) → T (within (widthOf (i .command)) (standsIn hits n i))
 stands-within = stands-passes withinAt within-passes
 
 pub performed-clean : (sent : Bool) (a : Ahead) (n : ℕ) (is : List Item) (t : ℕ)
@@ -104,12 +96,12 @@ pub performed-clean : (sent : Bool) (a : Ahead) (n : ℕ) (is : List Item) (t : 
 performed-clean sent a n [] t = performed-silence sent a n t
 performed-clean sent a n (i ∷ is) t =
     performed-item sent a n (i .ahead) (widthOf (i .command)) (itself (i .command)) (cleanTrace is t) (itself-within (i .command))
-    ∙ ap (behind (itemRecords sent a n i)) (performed-clean sent (itemAhead a n i) (n + itemSize i) is t)
+    ∙ ap (followedBy (itemRecords sent a n i)) (performed-clean sent (itemAhead a n i) (n + itemSize i) is t)
 
-pub performed-hit : (sent : Bool) (hits : Hits) (a : Ahead) (n : ℕ) (is : List Item) (t : ℕ)
+pub performed-hit : (sent : Bool) (hits : HitCycles) (a : Ahead) (n : ℕ) (is : List Item) (t : ℕ)
     → performed sent a n (hitTrace hits n is t) ≡ record { records = hitRecords sent hits a n is; after = hitAhead hits a n is }
 performed-hit sent hits a n [] t = performed-silence sent a n t
 performed-hit sent hits a n (i ∷ is) t =
     let x : Replacement = standsIn hits n i in
     performed-item sent a n (i .ahead) (widthOf (i .command)) x (hitTrace hits (n + itemSize i) is t) (stands-within hits n i)
-    ∙ ap (behind (replacementRecords sent a (n + i .ahead) x)) (performed-hit sent hits (hitAfter hits a n i) (n + itemSize i) is t)
+    ∙ ap (followedBy (replacementRecords sent a (n + i .ahead) x)) (performed-hit sent hits (hitAfter hits a n i) (n + itemSize i) is t)

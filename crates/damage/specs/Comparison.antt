@@ -13,7 +13,7 @@ use Rattle.timing.specs.Table.{kindBcr, kindEcr}
 use Rattle.damage.specs.Commands.{commandKind}
 use Rattle.damage.specs.CleanStreams.{Item, itemSize}
 use Rattle.damage.specs.Table.{affected, replacementOf}
-use Rattle.damage.specs.Hits.{Hits, affectedBy, standsIn}
+use Rattle.damage.specs.Hits.{HitCycles, affectedBy, standsIn}
 use Rattle.damage.specs.Records.{Ahead, itemRecords, itemAhead, cleanRecords, replacementRecords, hitAfter}
 
 -- An LV1's value is its position × 65,536 + its trigger number × 256 + its bunch number. Positions differ "as part of the affected record only" (document
@@ -49,27 +49,31 @@ Replaced sent a n (i ∷ is) k damaged =
     ((rest : List Record) × (damaged ≡ itemRecords sent a n i ++ rest) × Replaced sent (itemAhead a n i) (n + itemSize i) is (k - itemSize i) rest)
 
 -- Any number of inverted bits. "each counter agrees until the first affected command and again from each unaffected reset until another command is
--- affected": whether a counter may differ after an item, and after a stream, by the kind of its reset and by whether it may ahead of it.
-abbrev pub mayDiffer : Hits → ℕ → ℕ → Item → Bool → Bool
+-- affected": whether a counter may differ after an item, and after a stream. `reset` is the kind of the command that resets it, `before` tells whether it may
+-- differ ahead.
+abbrev pub mayDiffer : HitCycles → ℕ → ℕ → Item → Bool → Bool
 mayDiffer hits reset n i before = affectedBy hits n i || (before && not (eqb (commandKind (i .command)) reset))
 
-abbrev pub differsAfter : Hits → ℕ → ℕ → List Item → Bool → Bool
-differsAfter hits reset n [] before = before
-differsAfter hits reset n (i ∷ is) before = differsAfter hits reset (n + itemSize i) is (mayDiffer hits reset n i before)
+abbrev pub mayDifferAfter : HitCycles → ℕ → ℕ → List Item → Bool → Bool
+mayDifferAfter hits reset n [] before = before
+mayDifferAfter hits reset n (i ∷ is) before = mayDifferAfter hits reset (n + itemSize i) is (mayDiffer hits reset n i before)
 
--- Two runs' counters, each equal unless it may differ.
+-- The counters of two runs, each equal unless it may differ.
 abbrev pub SameCounters : Bool → Bool → Counters → Counters → Type 0
 SameCounters trigger bunch c d = (T (not trigger) → c .l1id ≡ d .l1id) × (T (not bunch) → c .base ≡ d .base)
 
 -- "Each affected command then follows the damage table separately, its trigger and bunch numbers by the damaged run's counters ahead of it instead of the
--- clean ones; all others are recorded as in the clean run but for these numbers". a is what stands ahead in the damaged run.
-abbrev pub Beside : Bool → Hits → Bool → Bool → Ahead → ℕ → List Item → List Record → List Record → Type 0
-Beside sent hits trigger bunch a n [] clean damaged = (clean ≡ []) × (damaged ≡ [])
-Beside sent hits trigger bunch a n (i ∷ is) clean damaged =
-    (x : Record) × (xs : List Record) × (ys : List Record) × (clean ≡ x ∷ xs)
-    × cond (affectedBy hits n i) (damaged ≡ replacementRecords sent a (n + i .ahead) (standsIn hits n i) ++ ys)
+-- clean ones; all others are recorded as in the clean run but for these numbers". a and b are what stands ahead in the clean run and in the damaged one;
+-- `trigger` and `bunch` tell whether these numbers may differ there.
+abbrev pub Beside : Bool → HitCycles → Bool → Bool → Ahead → Ahead → ℕ → List Item → List Record → List Record → Type 0
+Beside sent hits trigger bunch a b n [] clean damaged = SameCounters trigger bunch (a .counters) (b .counters) × (clean ≡ []) × (damaged ≡ [])
+Beside sent hits trigger bunch a b n (i ∷ is) clean damaged =
+    SameCounters trigger bunch (a .counters) (b .counters)
+    × (x : Record) × (xs : List Record) × (ys : List Record) × (clean ≡ x ∷ xs)
+    × cond (affectedBy hits n i) (damaged ≡ replacementRecords sent b (n + i .ahead) (standsIn hits n i) ++ ys)
     ((y : Record) × (damaged ≡ y ∷ ys) × SameRecord trigger bunch x y)
-    × Beside sent hits (mayDiffer hits kindEcr n i trigger) (mayDiffer hits kindBcr n i bunch) (hitAfter hits a n i) (n + itemSize i) is xs ys
+    × Beside sent hits (mayDiffer hits kindEcr n i trigger) (mayDiffer hits kindBcr n i bunch)
+    (itemAhead a n i) (hitAfter hits b n i) (n + itemSize i) is xs ys
 
 -- A clean stream keeps the timing table, so that only its first command can be too close to a record before it: no later one has flag 20 (document 02, F-5).
 abbrev pub InTime : List Record → Type 0

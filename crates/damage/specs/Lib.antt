@@ -5,3 +5,4 @@ pub mod Hits
 pub mod Traces
 pub mod Records
 pub mod Comparison
+pub mod HitTable

@@ -3,7 +3,7 @@
 -- Assumes nothing.
 use mathlib.Core.Bool.{Bool, true, false, cond}
 use mathlib.Core.List.{List, [], _∷_, _++_}
-use Prim.Native.Nat.{ℕ, _+_, _-_}
+use Prim.Native.Nat.{ℕ, suc, _+_, _-_}
 use lib.Dec.{ltb}
 use Rattle.recogniser.specs.declared.Request.{Request}
 use Rattle.recogniser.specs.declared.Request.the-variants.{Nothing, Lv1, Fast, BadFast, Slow}
@@ -16,7 +16,7 @@ use Rattle.decoder.specs.declared.Decoder.{Decoder}
 use Rattle.damage.specs.Commands.{widthOf, requestOf}
 use Rattle.damage.specs.CleanStreams.{Item, itemSize}
 use Rattle.damage.specs.Table.{Replacement, nothing, at, replacementOf}
-use Rattle.damage.specs.Hits.{Hits, standsIn}
+use Rattle.damage.specs.Hits.{HitCycles, standsIn}
 
 -- What stands ahead of a command: the counters, L1ID and the base cycle, and the record before it.
 pub record Ahead : Type 0 where
@@ -58,6 +58,15 @@ requestRecords sent a time q = recordingOf sent a time q .records
 abbrev pub aheadAfter : Ahead → ℕ → Request → Ahead
 aheadAfter a time q = recordingOf false a time q .after
 
+-- Records, and then a recording.
+abbrev pub followedBy : List Record → Recording → Recording
+followedBy records r = record { records = records ++ r .records; after = r .after }
+
+-- What a trace that begins at cycle n records, and what stands ahead of the next command after it.
+unfoldable pub performed : Bool → Ahead → ℕ → List Request → Recording
+performed sent a n [] = silence a
+performed sent a n (e ∷ es) = followedBy (requestRecords sent a n e) (performed sent (aheadAfter a n e) (suc n) es)
+
 -- The cycle of a command's last bit, in a stream whose first bit is cycle n.
 abbrev pub lastCycle : ℕ → Item → ℕ
 lastCycle n i = n + i .ahead + (widthOf (i .command) - 1)
@@ -73,13 +82,14 @@ abbrev pub cleanRecords : Bool → Ahead → ℕ → List Item → List Record
 cleanRecords sent a n [] = []
 cleanRecords sent a n (i ∷ is) = itemRecords sent a n i ++ cleanRecords sent (itemAhead a n i) (n + itemSize i) is
 
--- What stands ahead of the next command after it.
+-- What stands ahead of the next command after a clean stream.
 abbrev pub cleanAhead : Ahead → ℕ → List Item → Ahead
 cleanAhead a n [] = a
 cleanAhead a n (i ∷ is) = cleanAhead (itemAhead a n i) (n + itemSize i) is
 
 -- What the table puts in a command's place: "The new one's time is that bit's cycle, its kind, flags and value those of 'A record', by the clean counters
--- ahead of that command." n is the cycle of the command's first bit. Its flag 20 goes by the record before it in its own run (document 02, F-5).
+-- ahead of that command", or by the damaged run's (document 02, F-13): by those of a. n is the cycle of the command's first bit. Its flag 20 goes by the
+-- record before it in its own run (F-5).
 abbrev pub replacementRecords : Bool → Ahead → ℕ → Replacement → List Record
 replacementRecords sent a n nothing = []
 replacementRecords sent a n (at p e) = requestRecords sent a (n + (p - 1)) e
@@ -97,16 +107,18 @@ damagedRecords sent a n (i ∷ is) k =
     ++ cleanRecords sent (replacementAhead a (n + i .ahead) (replacementOf i k)) (n + itemSize i) is)
     (itemRecords sent a n i ++ damagedRecords sent (itemAhead a n i) (n + itemSize i) is (k - itemSize i))
 
--- Any number of inverted bits: each command as itself or, if it is affected, as the table has it, "its trigger and bunch numbers by the damaged run's
--- counters ahead of it instead of the clean ones" (document 02, F-13).
-abbrev pub hitAfter : Hits → Ahead → ℕ → Item → Ahead
+-- Any number of inverted bits: what stands ahead of the next command after an item, in the damaged run.
+abbrev pub hitAfter : HitCycles → Ahead → ℕ → Item → Ahead
 hitAfter hits a n i = replacementAhead a (n + i .ahead) (standsIn hits n i)
 
-abbrev pub hitRecords : Bool → Hits → Ahead → ℕ → List Item → List Record
+-- Each command as itself or, if it is affected, as the table has it, "its trigger and bunch numbers by the damaged run's counters ahead of it instead of
+-- the clean ones" (document 02, F-13).
+abbrev pub hitRecords : Bool → HitCycles → Ahead → ℕ → List Item → List Record
 hitRecords sent hits a n [] = []
 hitRecords sent hits a n (i ∷ is) =
     replacementRecords sent a (n + i .ahead) (standsIn hits n i) ++ hitRecords sent hits (hitAfter hits a n i) (n + itemSize i) is
 
-abbrev pub hitAhead : Hits → Ahead → ℕ → List Item → Ahead
+-- What stands ahead of the next command after the whole stream.
+abbrev pub hitAhead : HitCycles → Ahead → ℕ → List Item → Ahead
 hitAhead hits a n [] = a
 hitAhead hits a n (i ∷ is) = hitAhead hits (hitAfter hits a n i) (n + itemSize i) is

@@ -10,7 +10,7 @@ use Rattle.recogniser.specs.Step.{stepOf}
 use Rattle.damage.specs.Commands.{Command, widthOf}
 use Rattle.damage.specs.CleanStreams.{Item, itemSize}
 use Rattle.damage.specs.Table.{Replacement, nothing, at, itself}
-use Rattle.damage.specs.Hits.{Hits, standsIn}
+use Rattle.damage.specs.Hits.{HitCycles, standsIn}
 
 -- The requests of a recogniser over some bits, and where it stands after them. CNT is 0: no Slow command is about.
 unfoldable pub requestsOf : Recogniser → List ℕ → List Request
@@ -41,6 +41,6 @@ cleanTrace [] trailing = quiet trailing
 cleanTrace (i ∷ is) trailing = itemTrace i (itself (i .command)) ++ cleanTrace is trailing
 
 -- Any number of inverted bits; the first bit is that of cycle n.
-abbrev pub hitTrace : Hits → ℕ → List Item → ℕ → List Request
+abbrev pub hitTrace : HitCycles → ℕ → List Item → ℕ → List Request
 hitTrace hits n [] trailing = quiet trailing
 hitTrace hits n (i ∷ is) trailing = itemTrace i (standsIn hits n i) ++ hitTrace hits (n + itemSize i) is trailing

@@ -1,1 +1,1 @@
-// One inverted bit in a clean stream: definitions and theorems. Nothing here runs, and nothing that runs depends on it.
+// Inverted bits in a clean stream, one or many: definitions and theorems. Nothing here runs, and nothing that runs depends on it.

@@ -8,10 +8,9 @@ use Rattle.decoder.specs.declared.Decoder.{Decoder}
 use Rattle.decoder.proofs.Soundness.{sound-parts}
 use Rattle.controller.specs.Records.{recordWords}
 use Rattle.damage.specs.CleanStreams.{Item, streamBits}
-use Rattle.damage.specs.Hits.{oneHit}
 use Rattle.damage.specs.Records.{aheadOf, sends}
 use Rattle.damage.proofs.Comparison.{replaced}
-use Rattle.damage.proofs.OneHit.{one-inverted, one-apart, one-records}
+use Rattle.damage.proofs.OneHit.{oneHit, one-inverted, one-apart, one-records}
 use Rattle.promises.specs.Damage.{Runs, Wrote, ThirdDemand, ThirdDemandMet}
 use Rattle.promises.specs.ManyHits.{Made, made, HitRuns, HitsWrote}
 use Rattle.promises.proofs.ManyHits.{fourth-promise, fourth-promise-met}

@@ -112,8 +112,8 @@ same-calls (h ∷ hs) d w =
 pub same-made : (hs : List HostCall) (d : Decoder) → Widths d → hostMade (imageOf d) hs ≡ made d (stateCalls hs)
 same-made hs d w =
     let s = same-calls hs d w in
-    let left : stateOf (imageLeft (imageOf d) hs) ≡ stateLeft d (stateCalls hs) = ap stateOf (s .left-over) ∙ read-back (stateLeft d (stateCalls hs)) (s .widths) in
-    λ i. record { bits = s .bits i; words = s .words i; left = left i }
+    let state : stateOf (imageLeft (imageOf d) hs) ≡ stateLeft d (stateCalls hs) = ap stateOf (s .left-over) ∙ read-back (stateLeft d (stateCalls hs)) (s .widths) in
+    λ i. record { bits = s .bits i; words = s .words i; state = state i }
 
 -- Lists of calls, store and tray carried over.
 abbrev pub statePart : HostPart → Part
@@ -158,7 +158,7 @@ malformed : (image : List ℕ) (h : HostCall) → imageFits image ≡ false → 
 unfolding takeResultOf
 malformed image h e = rw e
 
-pub nothing-made : (image : List ℕ) → imageFits image ≡ false → (hs : List HostCall) → hostMade image hs ≡ record { bits = []; words = []; left = stateOf image }
+pub nothing-made : (image : List ℕ) → imageFits image ≡ false → (hs : List HostCall) → hostMade image hs ≡ record { bits = []; words = []; state = stateOf image }
 unfolding imageBits imageWords imageLeft
 nothing-made image e [] = refl
 nothing-made image e (h ∷ hs) =
@@ -166,7 +166,7 @@ nothing-made image e (h ∷ hs) =
     (λ (r : TakeResult). record {
       bits = take (told r 0) (offered (h .lent)) ++ imageBits (r .image) hs;
       words = take (listUnit * told r 1) (drop (h .lent .free) (r .list)) ++ imageWords (r .image) hs;
-      left = stateOf (imageLeft (r .image) hs);
+      state = stateOf (imageLeft (r .image) hs);
     })
     (malformed image h e)
     ∙ nothing-made image e hs

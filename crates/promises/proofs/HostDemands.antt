@@ -26,14 +26,14 @@ use Rattle.image.proofs.WellFormed.{read-again, read-widths}
 use Rattle.kernelstill.specs.Take.{TakeResult, resultLength, answered, soundImage, takeResultOf}
 use Rattle.kernelstill.proofs.WidthsKept.{model-widths, widths-kept}
 use Rattle.damage.specs.CleanStreams.{Item, streamBits}
-use Rattle.damage.specs.Hits.{Hits, oneHit}
+use Rattle.damage.specs.Hits.{HitCycles}
 use Rattle.damage.proofs.StreamBits.{item-some, stream-length}
-use Rattle.damage.proofs.OneHit.{one-apart}
+use Rattle.damage.proofs.OneHit.{oneHit, one-apart}
 use Rattle.promises.specs.Refusals.{Row, row, firstOf, takingRows}
 use Rattle.promises.specs.Frames.{Receives, HandsBack}
 use Rattle.promises.specs.ManyHits.{Made, made, HitRuns, HitsWrote}
 use Rattle.promises.specs.HostCalls.{HostCall, left, imageWords, hostMade, Carried, HostPart, hostBits, hostWords, hostLeft, standsFor}
-use Rattle.promises.specs.HostCalls.{HostExact, HostEnds, HostCuts, HostDamage, HostDamageMet, HostHits, HostHitsCanBeMet, HostDemands}
+use Rattle.promises.specs.HostCalls.{HostExact, HostEnds, HostCuts, HostDamage, HostDamageMet, HostHits, HostHitsMet, HostDemands}
 use Rattle.promises.proofs.Refusals.{first-demand}
 use Rattle.promises.proofs.Records.{second-demand}
 use Rattle.promises.proofs.ManyHits.{fourth-promise, fourth-promise-met}
@@ -180,18 +180,26 @@ empty-stream : (items : List Item) (trailing : ℕ) → 0 ≡ length (streamBits
 empty-stream [] trailing e = refl
 empty-stream (i ∷ is) trailing e = let size = stream-length i is trailing in let some = item-some i in absurd (omega arith)
 
-module _ (image : List ℕ) (clean damaged : List HostCall) (hits : Hits) (items : List Item) (trailing : ℕ) where
+module _ (image : List ℕ) (clean damaged : List HostCall) (hits : HitCycles) (items : List Item) (trailing : ℕ) where
   abbrev Damage : Made → Made → Type 0
   Damage c m = HitRuns (stateOf image) c m hits items trailing → HitsWrote (stateOf image) c m hits items
 
   abbrev unmade : Made
-  unmade = record { bits = []; words = []; left = stateOf image }
+  unmade = record { bits = []; words = []; state = stateOf image }
 
   -- a list of calls that takes nothing
   no-damage : Damage unmade unmade
   no-damage r =
       rw (empty-stream items trailing (ap length (r .took-clean)))
-      (record { clean-words = refl; only-first = tt; damaged-words = refl; beside = (refl, refl); counters = ((λ _. refl), (λ _. refl)) })
+      (record {
+        clean-words = refl;
+        clean-left = refl;
+        only-first = tt;
+        damaged-words = refl;
+        damaged-left = refl;
+        beside = (((λ _. refl), (λ _. refl)), refl, refl);
+        counters = ((λ _. refl), (λ _. refl));
+      })
 
   hits-by : (fit : Bool) → imageFits image ≡ fit → Damage (hostMade image clean) (hostMade image damaged)
   hits-by true e =
@@ -220,7 +228,7 @@ calls-back : (cs : List Call) → stateCalls (hostCalls cs) ≡ cs
 calls-back [] = refl
 calls-back (c ∷ cs) = ap (λ cs. c ∷ cs) (calls-back cs)
 
-hits-met : HostHitsCanBeMet
+hits-met : HostHitsMet
 hits-met image hits items trailing fits s apart room =
     let d = stateOf image in
     let m = fourth-promise-met d hits items trailing s apart room in

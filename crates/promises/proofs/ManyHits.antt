@@ -1,6 +1,6 @@
 -- The fourth promise, proved.
 -- Assumes nothing.
-use mathlib.Core.Path.{refl, ap}
+use mathlib.Core.Path.{_∙_, refl, sym, ap}
 use mathlib.Core.Bool.{false}
 use Rattle.decoder.proofs.Soundness.{sound-parts}
 use Rattle.calls.proofs.BitCalls.{callsFor, calls-take}
@@ -26,13 +26,18 @@ fourth-promise d clean damaged hits items trailing r =
       alike = alike-equal (a .earlier) (a .earlier) refl (d .next) items;
       below = sound-parts d (s .sound) .earlier;
     } in
+    let same = counters (sends d) hits false false a a (d .next) items ((λ _. refl), (λ _. refl)) in
     record {
       clean-words = c .words;
+      clean-left = c .after;
       only-first = only-first (sends d) a (d .next) items (s .timing);
       damaged-words = h .words;
+      damaged-left = h .after;
       beside = beside (sends d) hits false false a a (d .next) items standing (s .timing);
-      counters = rw (ap (λ (b : Ahead). b .counters) (c .after), ap (λ (b : Ahead). b .counters) (h .after))
-          (counters (sends d) hits false false a a (d .next) items ((λ _. refl), (λ _. refl)));
+      counters = (
+        (λ t. ap (λ (b : Ahead). b .counters .l1id) (c .after) ∙ same .0 t ∙ sym (ap (λ (b : Ahead). b .counters .l1id) (h .after))),
+        (λ u. ap (λ (b : Ahead). b .counters .base) (c .after) ∙ same .1 u ∙ sym (ap (λ (b : Ahead). b .counters .base) (h .after))),
+      );
     }
 
 pub premise-by-items : PremiseByItems

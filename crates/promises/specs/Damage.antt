@@ -26,7 +26,7 @@ pub record Stream (d : Decoder) (items : List Item) : Type 0 where
   pub window : d .recogniser .shift ≡ 0
   pub timing : T (timed items)
 
--- The bits of two lists of calls, of which one has taken the stream and the other the same bits with one inverted.
+-- The bits of two lists of calls, of which one has taken the stream and the other the same bits with bit k inverted, counted from 0.
 pub record Runs (d : Decoder) (clean damaged : List ℕ) (items : List Item) (trailing k : ℕ) : Type 0 where
   pub stream : Stream d items
   pub inside : k < length (streamBits items trailing)

@@ -15,7 +15,7 @@ use Rattle.calls.specs.Calls.{Part}
 use Rattle.image.specs.Image.{stateOf, imageFits}
 use Rattle.kernelstill.specs.Take.{TakeResult, resultWords, takeResultOf}
 use Rattle.damage.specs.CleanStreams.{Item, streamBits}
-use Rattle.damage.specs.Hits.{Hits, Apart}
+use Rattle.damage.specs.Hits.{HitCycles, Apart}
 use Rattle.promises.specs.Records.{Ends}
 use Rattle.promises.specs.Frames.{Receives, HandsBack}
 use Rattle.promises.specs.Damage.{Stream, Runs, Wrote}
@@ -49,12 +49,14 @@ unfoldable pub imageWords : List ℕ → List HostCall → List ℕ
 imageWords image [] = []
 imageWords image (h ∷ hs) = wordsTold image h ++ imageWords (left image h .image) hs
 
+-- The image that the last of them leaves.
 unfoldable pub imageLeft : List ℕ → List HostCall → List ℕ
 imageLeft image [] = image
 imageLeft image (h ∷ hs) = imageLeft (left image h .image) hs
 
+-- What a list of them has taken and written, and the state that it leaves.
 abbrev pub hostMade : List ℕ → List HostCall → Made
-hostMade image hs = record { bits = imageBits image hs; words = imageWords image hs; left = stateOf (imageLeft image hs) }
+hostMade image hs = record { bits = imageBits image hs; words = imageWords image hs; state = stateOf (imageLeft image hs) }
 
 -- "Across cuts, state, store and tray are carried over unchanged": what a host carries over, and what it lends each call of its own.
 pub record Carried : Type 0 where
@@ -140,20 +142,20 @@ HostDamageMet =
 -- The fourth promise, likewise.
 abbrev pub HostHits : Type 0
 HostHits =
-    (image : List ℕ) (clean damaged : List HostCall) (hits : Hits) (items : List Item) (trailing : ℕ)
+    (image : List ℕ) (clean damaged : List HostCall) (hits : HitCycles) (items : List Item) (trailing : ℕ)
     → HitRuns (stateOf image) (hostMade image clean) (hostMade image damaged) hits items trailing
     → HitsWrote (stateOf image) (hostMade image clean) (hostMade image damaged) hits items
 
-pub record HostHitsMet (image : List ℕ) (hits : Hits) (items : List Item) (trailing : ℕ) : Type 0 where
+pub record HostHitMet (image : List ℕ) (hits : HitCycles) (items : List Item) (trailing : ℕ) : Type 0 where
   pub clean : List HostCall
   pub damaged : List HostCall
   pub runs : HitRuns (stateOf image) (hostMade image clean) (hostMade image damaged) hits items trailing
 
-abbrev pub HostHitsCanBeMet : Type 0
-HostHitsCanBeMet =
-    (image : List ℕ) (hits : Hits) (items : List Item) (trailing : ℕ) → imageFits image ≡ true → Stream (stateOf image) items
+abbrev pub HostHitsMet : Type 0
+HostHitsMet =
+    (image : List ℕ) (hits : HitCycles) (items : List Item) (trailing : ℕ) → imageFits image ≡ true → Stream (stateOf image) items
     → Apart hits (stateOf image .next) items trailing → stateOf image .next + length (streamBits items trailing) ≤ clockLimit
-    → HostHitsMet image hits items trailing
+    → HostHitMet image hits items trailing
 
 pub record HostDemands : Type 0 where
   pub exact : (k : Carried) (ps : List HostPart) → HostExact k ps
@@ -166,4 +168,4 @@ pub record HostDemands : Type 0 where
   pub damage : HostDamage
   pub met : HostDamageMet
   pub hits : HostHits
-  pub hits-met : HostHitsCanBeMet
+  pub hits-met : HostHitsMet
