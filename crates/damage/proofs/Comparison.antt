@@ -56,14 +56,14 @@ module _ (sent : Bool) (m : ℕ) (a b : Ahead) (trigger bunch : Bool) (same : Sa
   twice sync e = record { x = _; y = _; first = refl; second = refl; kind = refl; alike = (refl, refl, same-flags _ e, refl) }
 
   -- the counters after it: an ECR and a BCR reset one each
-  counted : (c : Command)
+  counters-after : (c : Command)
       → SameCounters (trigger && not (eqb (commandKind c) kindEcr)) (bunch && not (eqb (commandKind c) kindBcr))
       (aheadAfter a m (requestOf c) .counters) (aheadAfter b m (requestOf c) .counters)
-  counted lv1 = ((λ h. ap (λ l. (l + 1) % 256) (same .0 (still trigger h))), (λ h. same .1 (still bunch h)))
-  counted bcr = ((λ h. same .0 (still trigger h)), (λ h. refl))
-  counted ecr = ((λ h. refl), (λ h. same .1 (still bunch h)))
-  counted cal = ((λ h. same .0 (still trigger h)), (λ h. same .1 (still bunch h)))
-  counted sync = ((λ h. same .0 (still trigger h)), (λ h. same .1 (still bunch h)))
+  counters-after lv1 = ((λ h. ap (λ l. (l + 1) % 256) (same .0 (still trigger h))), (λ h. same .1 (still bunch h)))
+  counters-after bcr = ((λ h. same .0 (still trigger h)), (λ h. refl))
+  counters-after ecr = ((λ h. refl), (λ h. same .1 (still bunch h)))
+  counters-after cal = ((λ h. same .0 (still trigger h)), (λ h. same .1 (still bunch h)))
+  counters-after sync = ((λ h. same .0 (still trigger h)), (λ h. same .1 (still bunch h)))
 
 -- The clean records of two runs, flagged alike.
 same-after : (sent : Bool) (n : ℕ) (is : List Item) (a b : Ahead) (t u : Bool) → SameCounters t u (a .counters) (b .counters)
@@ -73,7 +73,7 @@ same-after sent n (i ∷ is) a b t u same e =
     let m = lastCycle n i in
     let p = twice sent m a b t u same (i .command) e in
     let earlier : itemAhead a n i .earlier ≡ itemAhead b n i .earlier = own-earlier a m (i .command) ∙ sym (own-earlier b m (i .command)) in
-    let rest = same-after sent (n + itemSize i) is _ _ _ _ (counted sent m a b t u same (i .command)) (alike-equal _ _ earlier (n + itemSize i) is) in
+    let rest = same-after sent (n + itemSize i) is _ _ _ _ (counters-after sent m a b t u same (i .command)) (alike-equal _ _ earlier (n + itemSize i) is) in
     rw (p .first, p .second) (p .alike, rw (p .kind) rest)
 
 -- an unaffected command is itself
@@ -109,16 +109,16 @@ pub record Standing (trigger bunch : Bool) (a b : Ahead) (n : ℕ) (is : List It
 
 module _ (sent : Bool) (hits : HitCycles) where
   -- after an item, affected or not
-  counted-on : (n : ℕ) (i : Item) (a b : Ahead) (t u : Bool) → SameCounters t u (a .counters) (b .counters)
+  counters-on : (n : ℕ) (i : Item) (a b : Ahead) (t u : Bool) → SameCounters t u (a .counters) (b .counters)
       → SameCounters (mayDiffer hits kindEcr n i t) (mayDiffer hits kindBcr n i u) (itemAhead a n i .counters) (hitAfter hits b n i .counters)
-  counted-on n i a b t u same =
-      ⊎-elim (λ e. rw e ((λ h. absurd h), (λ h. absurd h))) (λ e. rw e (counted sent (lastCycle n i) a b t u same (i .command))) (cases (affectedBy hits n i))
+  counters-on n i a b t u same =
+      ⊎-elim (λ e. rw e ((λ h. absurd h), (λ h. absurd h))) (λ e. rw e (counters-after sent (lastCycle n i) a b t u same (i .command))) (cases (affectedBy hits n i))
 
   goes-on : {t u : Bool} {a b : Ahead} {n : ℕ} {i : Item} {is : List Item} → Standing t u a b n (i ∷ is) → T (spaced (i .command) is)
       → Standing (mayDiffer hits kindEcr n i t) (mayDiffer hits kindBcr n i u) (itemAhead a n i) (hitAfter hits b n i) (n + itemSize i) is
   goes-on {t} {u} {a} {b} {n} {i} {is} s h =
       let y = replaced-yields b n (i .ahead) (i .command) (s .below) (standsIn hits n i) (stands-passes givesWay gives-way hits n i) in
-      record { same = counted-on n i a b t u (s .same); alike = alike-next a n i _ y is h; below = y .below }
+      record { same = counters-on n i a b t u (s .same); alike = alike-next a n i _ y is h; below = y .below }
 
   -- what the damaged run records of it
   module _ (n : ℕ) (i : Item) (a b : Ahead) (t u : Bool) (same : SameCounters t u (a .counters) (b .counters))
@@ -148,4 +148,4 @@ module _ (sent : Bool) (hits : HitCycles) where
   pub counters : (t u : Bool) (a b : Ahead) (n : ℕ) (is : List Item) → SameCounters t u (a .counters) (b .counters)
       → SameCounters (mayDifferAfter hits kindEcr n is t) (mayDifferAfter hits kindBcr n is u) (cleanAhead a n is .counters) (hitAhead hits b n is .counters)
   counters t u a b n [] same = same
-  counters t u a b n (i ∷ is) same = counters _ _ (itemAhead a n i) (hitAfter hits b n i) (n + itemSize i) is (counted-on n i a b t u same)
+  counters t u a b n (i ∷ is) same = counters _ _ (itemAhead a n i) (hitAfter hits b n i) (n + itemSize i) is (counters-on n i a b t u same)

@@ -15,7 +15,8 @@ use Rattle.damage.specs.CleanStreams.{Item, itemSize}
 use Rattle.damage.specs.Table.{Replacement, nothing, at, itself}
 use Rattle.damage.specs.Hits.{HitCycles, standsIn}
 use Rattle.damage.specs.Traces.{quiet, spread, cleanTrace, hitTrace}
-use Rattle.damage.specs.Records.{Ahead, Recording, silence, followedBy, performed, requestRecords, aheadAfter, itemRecords, itemAhead, cleanRecords, cleanAhead}
+use Rattle.damage.specs.Records.{Ahead, Recording, silence, followedBy, performed, requestRecords, aheadAfter}
+use Rattle.damage.specs.Records.{itemRecords, itemAhead, cleanRecords, cleanAhead}
 use Rattle.damage.specs.Records.{replacementRecords, replacementAhead, hitAfter, hitRecords, hitAhead}
 use Rattle.damage.proofs.Replacements.{Passes, own-passes}
 use Rattle.damage.proofs.HitItems.{stands-passes}

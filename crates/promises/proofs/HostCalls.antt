@@ -112,7 +112,8 @@ same-calls (h ∷ hs) d w =
 pub same-made : (hs : List HostCall) (d : Decoder) → Widths d → hostMade (imageOf d) hs ≡ made d (stateCalls hs)
 same-made hs d w =
     let s = same-calls hs d w in
-    let state : stateOf (imageLeft (imageOf d) hs) ≡ stateLeft d (stateCalls hs) = ap stateOf (s .left-over) ∙ read-back (stateLeft d (stateCalls hs)) (s .widths) in
+    let left : Decoder = stateLeft d (stateCalls hs) in
+    let state : stateOf (imageLeft (imageOf d) hs) ≡ left = ap stateOf (s .left-over) ∙ read-back left (s .widths) in
     λ i. record { bits = s .bits i; words = s .words i; state = state i }
 
 -- Lists of calls, store and tray carried over.
@@ -158,7 +159,8 @@ malformed : (image : List ℕ) (h : HostCall) → imageFits image ≡ false → 
 unfolding takeResultOf
 malformed image h e = rw e
 
-pub nothing-made : (image : List ℕ) → imageFits image ≡ false → (hs : List HostCall) → hostMade image hs ≡ record { bits = []; words = []; state = stateOf image }
+pub nothing-made : (image : List ℕ) → imageFits image ≡ false → (hs : List HostCall)
+    → hostMade image hs ≡ record { bits = []; words = []; state = stateOf image }
 unfolding imageBits imageWords imageLeft
 nothing-made image e [] = refl
 nothing-made image e (h ∷ hs) =
