@@ -1,4 +1,4 @@
--- What inverted bits make of an item: of none or one, what stands in its command's place is what the damage table says of that bit.
+-- What inverted bits make of an item: with none its command stands for itself, with one what stands in its place is what the damage table says of that bit.
 -- Assumes nothing.
 use mathlib.Core.Path.{_≡_, _∙_, sym, ap}
 use mathlib.Core.Bool.{Bool, true, false, _&&_}

@@ -1,4 +1,4 @@
--- One inverted bit in a clean stream: the recogniser shows what the damage table says.
+-- One inverted bit in an item, or in the zeros at the end: the recogniser shows what the damage table says.
 -- Assumes nothing.
 use mathlib.Core.Path.{_≡_, _∙_, refl, sym, ap}
 use mathlib.Core.Bool.{Bool, true, false, cond, _&&_, and-false}

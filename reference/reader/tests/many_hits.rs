@@ -514,6 +514,8 @@ fn random_choices_of_longer_streams() {
         assert!(not_met > 5_000 && met > 15_000, "{choices:?}");
         assert_eq!(met, tally.choices[count]);
     }
+    let met = [0, 0, 28_669, 23_610, 20_412, 18_887, 17_954];
+    assert_eq!(tally.choices, met);
     assert!(tally.harmless > 20_000, "{tally:?}");
     tally.has_at_least(10_000);
 }
