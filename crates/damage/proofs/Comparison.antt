@@ -112,7 +112,8 @@ module _ (sent : Bool) (hits : HitCycles) where
   counters-on : (n : ℕ) (i : Item) (a b : Ahead) (t u : Bool) → SameCounters t u (a .counters) (b .counters)
       → SameCounters (mayDiffer hits kindEcr n i t) (mayDiffer hits kindBcr n i u) (itemAhead a n i .counters) (hitAfter hits b n i .counters)
   counters-on n i a b t u same =
-      ⊎-elim (λ e. rw e ((λ h. absurd h), (λ h. absurd h))) (λ e. rw e (counters-after sent (lastCycle n i) a b t u same (i .command))) (cases (affectedBy hits n i))
+      ⊎-elim (λ e. rw e ((λ h. absurd h), (λ h. absurd h)))
+      (λ e. rw e (counters-after sent (lastCycle n i) a b t u same (i .command))) (cases (affectedBy hits n i))
 
   goes-on : {t u : Bool} {a b : Ahead} {n : ℕ} {i : Item} {is : List Item} → Standing t u a b n (i ∷ is) → T (spaced (i .command) is)
       → Standing (mayDiffer hits kindEcr n i t) (mayDiffer hits kindBcr n i u) (itemAhead a n i) (hitAfter hits b n i) (n + itemSize i) is

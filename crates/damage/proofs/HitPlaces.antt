@@ -62,7 +62,8 @@ module _ (hits : HitCycles) where
   inverted-append n [] ys = ap (λ m. invertedAt hits m ys) (omega arith)
   inverted-append n (x ∷ xs) ys =
       let z : suc n + length xs ≡ n + suc (length xs) = omega arith in
-      ap (λ (l : List ℕ). cond (hits n) (1 - x) x ∷ l) (inverted-append (suc n) xs ys ∙ ap (λ m. invertedAt hits (suc n) xs ++ invertedAt hits m ys) z)
+      ap (λ (l : List ℕ). invertedAt hits n (x ∷ []) ++ l)
+      (inverted-append (suc n) xs ys ∙ ap (λ m. invertedAt hits (suc n) xs ++ invertedAt hits m ys) z)
 
   inverted-both : (n x : ℕ) (xs : List ℕ) (test : ℕ → Bool) {ys : List ℕ} → Among hits n (suc (length xs)) test → invertedAt hits (suc n) xs ≡ ys
       → invertedAt hits n (x ∷ xs) ≡ cond (test 0) (1 - x) x ∷ ys
