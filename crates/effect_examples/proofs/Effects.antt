@@ -12,7 +12,7 @@ use Rattle.decoder.specs.Fit.{fitOf}
 use Rattle.decoder.specs.Sound.{soundOf}
 use Rattle.calls.specs.Turn.{turnOf}
 use Rattle.calls.specs.Take.{takenOf, takeOf}
-use Rattle.image.specs.Image.{imageOf, stateOf}
+use Rattle.image_fields.specs.Image.{imageOf, stateOf}
 use Rattle.effect_examples.specs.EffectExamples.{EffectExamples}
 
 pub effect-examples : EffectExamples

@@ -15,7 +15,7 @@ use Rattle.calls.specs.Take.{takenOf, takeOf}
 use Rattle.hexlines.specs.Line.{lineMeaning, readOf, readInto}
 use Rattle.layout.specs.Digits.{charactersOf}
 use Rattle.layout.specs.ListingLines.{numbersLine}
-use Rattle.image.specs.Image.{imageOf, stateOf, imageFits}
+use Rattle.image_fields.specs.Image.{imageOf, stateOf, imageFits}
 use Rattle.kernelstill.specs.Open.{openResultOf}
 use Rattle.kernelstill.specs.Take.{takeResultOf}
 use Rattle.kernelstill.specs.Lines.{recordResultOf}

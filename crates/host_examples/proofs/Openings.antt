@@ -3,7 +3,7 @@
 use mathlib.Core.Path.{refl}
 use Rattle.registers.specs.Plan.{planFits}
 use Rattle.decoder.specs.Opening.{openOf}
-use Rattle.image.specs.Image.{imageOf}
+use Rattle.image_fields.specs.Image.{imageOf}
 use Rattle.kernelstill.specs.Open.{openResultOf}
 use Rattle.host_examples.specs.HostExamples.{OpeningExamples}
 

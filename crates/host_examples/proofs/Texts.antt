@@ -4,7 +4,7 @@ use mathlib.Core.Path.{refl}
 use Rattle.hexlines.specs.Line.{lineMeaning}
 use Rattle.layout.specs.Digits.{charactersOf}
 use Rattle.layout.specs.ListingLines.{numbersLine, byteDigits}
-use Rattle.image.specs.Image.{stateOf}
+use Rattle.image_fields.specs.Image.{stateOf}
 use Rattle.listing.specs.Records.{recordText, recordsText}
 use Rattle.listing.specs.State.{textsFrom, stateText}
 use Rattle.host_examples.specs.HostExamples.{TextExamples}

@@ -9,8 +9,8 @@ use Rattle.recogniser.specs.declared.Phase.{Phase}
 use Rattle.recogniser.specs.declared.Phase.the-variants.{Hunt, Body, Field3, Field4, Field5}
 use Rattle.decoder.specs.declared.Decoder.{Decoder}
 use Rattle.calls.specs.Take.{call}
-use Rattle.image.specs.Fields.{phaseNumber}
-use Rattle.image.specs.Image.{imageOf, stateOf}
+use Rattle.image_fields.specs.Fields.{phaseNumber}
+use Rattle.image_fields.specs.Image.{imageOf, stateOf}
 use Rattle.output.specs.Ascii.{ascii}
 use Rattle.kernelstill.specs.Open.{openResult, openResultOf}
 use Rattle.kernelstill.specs.Take.{takeResultOf}

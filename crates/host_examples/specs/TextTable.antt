@@ -10,7 +10,7 @@ use Rattle.output.specs.Ascii.{ascii}
 use Rattle.hexlines.specs.Line.{lineMeaning}
 use Rattle.layout.specs.ListingLines.{refusedLine}
 use Rattle.layout.specs.StateLines.{runmodeLine, wordLine}
-use Rattle.image.specs.Image.{stateOf}
+use Rattle.image_fields.specs.Image.{stateOf}
 use Rattle.listing.specs.Records.{recordsText}
 use Rattle.listing.specs.State.{stateText}
 use Rattle.worked_examples.specs.Cells.{mask, runMode, l1id, base, wlv1, wslw, register, writePointer, readPointer, word}

@@ -9,7 +9,7 @@ use native.Mathlib.Omega.{arith}
 use lib.ListN.{length, getD, drop, drop-of-length-le}
 use lib.Seq.{drop-cons}
 use borrow.Author.Tests.{eq-eqb, ne-eqb}
-use Rattle.image.specs.Image.{sameWords}
+use Rattle.image_fields.specs.Image.{sameWords}
 
 pub record Invariant (a b : List ℕ) (k : ℕ) : Type 0 where
   pub low : k ≤ length a

@@ -4,9 +4,9 @@ use mathlib.Core.List.{List}
 use mathlib.Core.Path.{_≡_, refl, sym, _∙_}
 use Prim.Native.Nat.{ℕ, _+_, _≤_, _<_}
 use lib.ListN.{getD, set, replicate, length-replicate}
-use Rattle.image.specs.Fields.{Limit}
-use Rattle.image.specs.Image.{low, lowWords}
-use Rattle.image.proofs.LowWords.{length-even, even-at}
+use Rattle.image_fields.specs.Fields.{Limit}
+use Rattle.image_fields.specs.Image.{low, lowWords}
+use Rattle.image_fields.proofs.LowWords.{length-even, even-at}
 use Rattle.image.proofs.WriteLoop as writes
 
 pub record Invariant (l : Limit) (size at : ℕ) (image out : List ℕ) (n : ℕ) : Type 0 where

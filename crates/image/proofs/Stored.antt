@@ -7,9 +7,9 @@ use native.Mathlib.Omega.{arith}
 use lib.ListN.{length, drop, replicate, length-append, length-drop, length-replicate, drop-of-length-le}
 use lib.Seq.{sets, sets-eq, take-at, drop-append-add}
 use Rattle.decoder.specs.declared.Decoder.{Decoder}
-use Rattle.image.specs.Fields.{Field, scalars, arrays, size, limitOf, numbersIn}
-use Rattle.image.specs.Image.{imageLength, fieldWords, wordLimitsOf, imageOf, wordPlace, scalarsOf, Widths}
-use Rattle.image.proofs.Widths.{WithinAll, arrays-within}
+use Rattle.image_fields.specs.Fields.{Field, scalars, arrays, size, limitOf, numbersIn}
+use Rattle.image_fields.specs.Image.{imageLength, fieldWords, wordLimitsOf, imageOf, wordPlace, scalarsOf, Widths}
+use Rattle.image_fields.proofs.Widths.{WithinAll, arrays-within}
 
 -- A part behind those that are stored.
 placed : (done rest part : List ℕ) (at : ℕ) → length done ≡ at → length part ≤ length rest

@@ -7,7 +7,7 @@ use lib.ListN.{length}
 use borrow.Author.Tests.{eq-eqb, ne-eqb}
 use Rattle.decoder.specs.declared.Opened.{Opened}
 use Rattle.decoder.specs.Opening.{openingNumber}
-use Rattle.image.specs.Image.{imageLength, imageOf}
+use Rattle.image_fields.specs.Image.{imageLength, imageOf}
 use Rattle.kernelstill.specs.Open.{openResult, openedInto}
 
 module _ (o : Opened) (image : List ℕ) (number : ℕ) (e : number ≡ openingNumber (o .opening)) where

@@ -12,8 +12,8 @@ use Rattle.decoder.specs.declared.Decoder.{Decoder}
 use Rattle.decoder.specs.Sound.{soundOf}
 use Rattle.calls.specs.Take.{Call, CallResult, takeOf, endingNumber}
 use Rattle.calls.proofs.SoundnessKept.{take-sound}
-use Rattle.image.specs.Image.{imageLength, imageOf, stateOf, imageFits}
-use Rattle.image.proofs.RoundTrip.{fits-length, written-fits}
+use Rattle.image_fields.specs.Image.{imageLength, imageOf, stateOf, imageFits}
+use Rattle.image_fields.proofs.RoundTrip.{fits-length, written-fits}
 use Rattle.kernelstill.specs.Take.{TakeResult, takeResult, resultLength, resultWords, refusedCall, answered, soundImage, takeResultOf, Holds}
 
 -- An image that was written holds the state, if that is sound.

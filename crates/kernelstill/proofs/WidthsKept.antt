@@ -43,8 +43,8 @@ use Rattle.calls.specs.Calls.{bitsTaken}
 use Rattle.calls.proofs.CallLists.{call-kept}
 use Rattle.calls.proofs.SoundnessKept.{stamp}
 use Rattle.timing.proofs.Flagged.{byte-kind-next}
-use Rattle.image.specs.Fields as field
-use Rattle.image.specs.Image.{Widths, ArrayKeeps}
+use Rattle.image_fields.specs.Fields as field
+use Rattle.image_fields.specs.Image.{Widths, ArrayKeeps}
 
 -- The recogniser's numbers.
 record Narrow (r : Recogniser) : Type 0 where

@@ -8,7 +8,7 @@ use lib.ListN.{length}
 use Rattle.registers.specs.declared.Plan.{Plan}
 use Rattle.decoder.specs.declared.Opened.{Opened}
 use Rattle.decoder.specs.Opening.{openOf, openingNumber}
-use Rattle.image.specs.Image.{imageLength, imageOf}
+use Rattle.image_fields.specs.Image.{imageLength, imageOf}
 
 -- The plan without a register; it does not open.
 abbrev pub emptyPlan : Plan

@@ -12,7 +12,7 @@ use Rattle.calls.specs.declared.Ending.{Ending}
 use Rattle.calls.specs.declared.Ending.the-variants.{Done, Frame, ListFull, Unsound, WrongBuffers, WrongRange, ClockOver}
 use Rattle.calls.specs.declared.Report.{Report}
 use Rattle.calls.specs.Take.{Call, CallResult, takeOf, endingNumber}
-use Rattle.image.specs.Image.{imageOf, stateOf, imageFits}
+use Rattle.image_fields.specs.Image.{imageOf, stateOf, imageFits}
 
 -- A refusal number, 0 for none, and each buffer's later contents.
 pub record TakeResult : Type 0 where

@@ -7,7 +7,7 @@ ghost use Rattle.frames.specs.Tray.{partOf};
 ghost use Rattle.controller.specs.Records.{kindOf, isFrameHead, frameBitsOf};
 ghost use Rattle.decoder.specs.Opening.{openOf};
 ghost use Rattle.calls.specs.Take.{call, takeOf};
-ghost use Rattle.image.specs.Image.{imageLength, stateOf};
+ghost use Rattle.image_fields.specs.Image.{imageLength, stateOf};
 ghost use Rattle.kernelstill.specs.Open.{emptyPlan, planOf, openResult, openResultOf};
 ghost use Rattle.kernelstill.specs.Take.{endingCode, resultLength, resultWords, soundImage, takeResult, takeResultOf, Holds};
 ghost use Rattle.kernelstill.specs.Lines.{lineResult, hexResultOf, recordResultOf};

@@ -17,8 +17,8 @@ use Rattle.calls.specs.Turn.{System, decoderOf}
 use Rattle.calls.specs.Take.{Call, CallResult, call, offered, refused, takeOf, endingNumber}
 use Rattle.calls.specs.Calls.{allBits, allWords, stateLeft, Part, callOf, carriedBits, carriedWords, carriedSystem, systemAfter, resultOf}
 use Rattle.calls.proofs.Refusals.{buffers, unsound, wrong-buffers}
-use Rattle.image.specs.Image.{imageOf, stateOf, imageFits, Widths}
-use Rattle.image.proofs.RoundTrip.{image-fits, read-back}
+use Rattle.image_fields.specs.Image.{imageOf, stateOf, imageFits, Widths}
+use Rattle.image_fields.proofs.RoundTrip.{image-fits, read-back}
 use Rattle.kernelstill.specs.Take.{TakeResult, resultLength, refusedCall, answered, takeResultOf}
 use Rattle.kernelstill.proofs.WidthsKept.{widths-kept}
 use Rattle.promises.specs.ManyHits.{made}

@@ -20,9 +20,9 @@ use Rattle.calls.specs.Calls.{allWords, carriedSystem}
 use Rattle.calls.proofs.Refusals.{unsound}
 use Rattle.calls.proofs.CallLists.{carried-words, carried-system}
 use Rattle.calls.proofs.SoundnessKept.{take-sound}
-use Rattle.image.specs.Image.{stateOf, imageFits, Widths}
-use Rattle.image.proofs.RoundTrip.{image-fits, read-back}
-use Rattle.image.proofs.WellFormed.{read-again, read-widths}
+use Rattle.image_fields.specs.Image.{stateOf, imageFits, Widths}
+use Rattle.image_fields.proofs.RoundTrip.{image-fits, read-back}
+use Rattle.image_fields.proofs.WellFormed.{read-again, read-widths}
 use Rattle.kernelstill.specs.Take.{TakeResult, resultLength, answered, soundImage, takeResultOf}
 use Rattle.kernelstill.proofs.WidthsKept.{model-widths, widths-kept}
 use Rattle.damage.specs.CleanStreams.{Item, streamBits}

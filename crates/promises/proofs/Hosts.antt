@@ -13,9 +13,10 @@ use Rattle.decoder.specs.Sound.{soundOf}
 use Rattle.calls.specs.declared.Ending.{Ending}
 use Rattle.calls.specs.Take.{Call, CallResult, refused, takeOf, endingNumber}
 use Rattle.calls.proofs.Refusals.{unsound}
-use Rattle.image.specs.Image.{imageLength, imageOf, stateOf, Widths}
-use Rattle.image.proofs.RoundTrip.{image-fits, read-back}
-use Rattle.image.proofs.WellFormed.{formed, formed-fits}
+use Rattle.image_fields.specs.Image.{imageLength, imageOf, stateOf, Widths}
+use Rattle.image_fields.proofs.InNumbers.{in-numbers}
+use Rattle.image_fields.proofs.RoundTrip.{image-fits, read-back}
+use Rattle.image_fields.proofs.WellFormed.{formed, formed-fits}
 use Rattle.kernelstill.specs.Open.{emptyPlan, openResultOf}
 use Rattle.kernelstill.specs.Take.{TakeResult, resultLength, refusedCall, answered, soundImage, takeResultBy, takeResultOf}
 use Rattle.promises.specs.Hosts.{RoundTrip, SameOpening, Unchanged, HostAsBefore, HostPromise}
@@ -73,7 +74,7 @@ empty-refused = refl
 
 pub host-promise : HostPromise
 host-promise = record {
-  in-numbers = record { length-is = refl; layout-is = refl; limits-are = refl };
+  in-numbers = in-numbers;
   round-trip = round-trip;
   by-widths = λ image. record { only = formed image; all = formed-fits image };
   same-opening = same-opening;

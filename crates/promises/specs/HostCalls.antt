@@ -12,7 +12,7 @@ use Rattle.calls.specs.Run.{stateAfter, wordsAfter}
 use Rattle.calls.specs.Turn.{System, systemOf, turnOf}
 use Rattle.calls.specs.Take.{Call, call, offered, takenOf}
 use Rattle.calls.specs.Calls.{Part}
-use Rattle.image.specs.Image.{stateOf, imageFits}
+use Rattle.image_fields.specs.Image.{stateOf, imageFits}
 use Rattle.kernelstill.specs.Take.{TakeResult, resultWords, takeResultOf}
 use Rattle.damage.specs.CleanStreams.{Item, streamBits}
 use Rattle.damage.specs.Hits.{HitCycles, Apart}

@@ -2,15 +2,15 @@
 -- Assumes nothing.
 use mathlib.Core.Path.{_≡_}
 use mathlib.Core.Bool.{true, false}
-use mathlib.Core.List.{List, _∷_, _++_}
+use mathlib.Core.List.{List}
 use Prim.Native.Nat.{ℕ, _≤_}
-use lib.ListN.{length, replicate}
+use lib.ListN.{length}
 use Rattle.registers.specs.Plan.{planFits}
 use Rattle.decoder.specs.declared.Decoder.{Decoder}
 use Rattle.decoder.specs.Opening.{openOf, openingNumber}
 use Rattle.calls.specs.Take.{Call, takeWithin, takeOf}
-use Rattle.image.specs.Fields.{whole, bits, upTo}
-use Rattle.image.specs.Image.{layout, wordLimits, imageLength, imageOf, stateOf, imageFits, Widths, Formed}
+use Rattle.image_fields.specs.Image.{imageLength, imageOf, stateOf, imageFits, Widths, Formed}
+use Rattle.image_fields.specs.InNumbers.{LayoutInNumbers}
 use Rattle.kernelstill.specs.Open.{emptyPlan, planOf, openResultOf}
 use Rattle.kernelstill.specs.Take.{resultLength, refusedCall, answered, takeResultBy, takeResultOf}
 
@@ -44,15 +44,6 @@ HostAsBefore image result c = length (c .input) ≤ 65536 → takeResultOf image
 pub record ByWidths (image : List ℕ) : Type 0 where
   pub only : imageFits image ≡ true → Formed image
   pub all : Formed image → imageFits image ≡ true
-
--- The image in numbers, as the header has it: 70 words, layout 3, and what each word behind the layout's number may be.
-pub record LayoutInNumbers : Type 0 where
-  pub length-is : imageLength ≡ 70
-  pub layout-is : layout ≡ 3
-  pub limits-are : wordLimits
-      ≡ bits 16 ∷ bits 8 ∷ bits 8 ∷ bits 8 ∷ whole ∷ upTo 4 ∷ bits 8 ∷ bits 8 ∷ bits 8 ∷ bits 32 ∷ bits 32 ∷ bits 8 ∷ upTo 1
-      ∷ upTo 1 ∷ bits 8 ∷ whole ∷ upTo 1 ∷ upTo 1 ∷ upTo 1 ∷ whole ∷ bits 8
-      ∷ (replicate 16 (bits 16) ++ (replicate 16 (bits 8) ++ replicate 16 (bits 8)))
 
 pub record HostPromise : Type 0 where
   pub in-numbers : LayoutInNumbers

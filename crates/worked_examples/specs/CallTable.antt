@@ -4,7 +4,7 @@ use mathlib.Core.List.{List, [], _∷_}
 use Prim.Native.Nat.{ℕ}
 use lib.ListN.{replicate}
 use Rattle.calls.specs.Take.{Call, call, takeOf}
-use Rattle.image.specs.Image.{stateOf}
+use Rattle.image_fields.specs.Image.{stateOf}
 use Rattle.worked_examples.specs.Cells.{Cell, next, runMode, shift}
 use Rattle.worked_examples.specs.Example.{opening, putAll, answerOf, done, frame, full, refused}
 

@@ -3,7 +3,7 @@
 use mathlib.Core.Path.{refl}
 use Prim.Native.Nat.{_-_}
 use borrow.Author.Needs.{needs}
-use Rattle.image.specs.Image.{wordPlace}
+use Rattle.image_fields.specs.Image.{wordPlace}
 use Rattle.image.proofs.WriteLoop.{Invariant, initially, again-first, over}
 use Rattle.image.proofs.put_scalars.Statement.{statement}
 use Rattle.image.proofs.put_scalars.Tie as tie

@@ -1,7 +1,7 @@
 -- `read` makes the state of its parts, each as its own function reads it.
 -- Assumes nothing.
 use borrow.Author.Needs.{needs}
-use Rattle.image.specs.Image.{stateOf}
+use Rattle.image_fields.specs.Image.{stateOf}
 use Rattle.image.proofs.read.Statement.{statement}
 use Rattle.image.proofs.read.Tie as tie
 

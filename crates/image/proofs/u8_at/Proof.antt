@@ -2,7 +2,7 @@
 -- Assumes nothing.
 use Prim.Native.Nat.{_-_}
 use borrow.Author.Needs.{needs}
-use Rattle.image.specs.Fields.{bits}
+use Rattle.image_fields.specs.Fields.{bits}
 use Rattle.image.proofs.ReadLoop.{Invariant, initially, again, over}
 use Rattle.image.proofs.u8_at.Statement.{statement}
 use Rattle.image.proofs.u8_at.Tie as tie

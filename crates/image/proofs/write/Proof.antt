@@ -8,11 +8,11 @@ use native.Mathlib.Omega.{arith}
 use lib.ListN.{set}
 use lib.Seq.{sets}
 use mir.Syntax.{w8, w16}
-use Rattle.image.specs.Fields.{fields}
-use Rattle.image.specs.Image.{wordPlace, scalarsOf, stateOf, NumbersKeep, ArraysKeep, Widths}
-use Rattle.image.proofs.RoundTrip.{read-back}
+use Rattle.image_fields.specs.Fields.{fields}
+use Rattle.image_fields.specs.Image.{wordPlace, scalarsOf, stateOf, NumbersKeep, ArraysKeep, Widths}
+use Rattle.image_fields.proofs.RoundTrip.{read-back}
 use Rattle.image.proofs.Stored.{written}
-use Rattle.image.proofs.Widths.{array-keeps}
+use Rattle.image_fields.proofs.Widths.{array-keeps}
 use Rattle.image.proofs.write.Statement.{statement}
 use Rattle.image.proofs.write.Tie as tie
 

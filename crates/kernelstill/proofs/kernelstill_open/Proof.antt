@@ -9,7 +9,7 @@ use Rattle.registers.specs.declared.Plan.{Plan}
 use Rattle.decoder.specs.declared.Opened.{Opened}
 use Rattle.decoder.specs.Opening.{openOf}
 use Rattle.calls.proofs.SoundnessKept.{start-sound}
-use Rattle.image.specs.Image.{imageLength, imageOf, stateOf}
+use Rattle.image_fields.specs.Image.{imageLength, imageOf, stateOf}
 use Rattle.kernelstill.specs.Open.{planOf, openedInto, openResultOf}
 use Rattle.kernelstill.specs.Take.{Holds}
 use Rattle.kernelstill.proofs.OpenCases.{filled, no-room, no-room-refused}

@@ -3,7 +3,7 @@
 use mathlib.Core.Path.{sym, ap, _∙_}
 use borrow.Author.Tests.{not-true, not-false}
 use Rattle.decoder.specs.Sound.{soundOf}
-use Rattle.image.proofs.RoundTrip.{fits-length}
+use Rattle.image_fields.proofs.RoundTrip.{fits-length}
 use borrow.Author.Needs.{needs}
 use Rattle.kernelstill.proofs.sound_image.Statement.{statement}
 use Rattle.kernelstill.proofs.sound_image.Tie as tie

@@ -8,8 +8,8 @@ use native.Mathlib.Omega.{arith}
 use lib.ListN.{length, getD, replicate, length-replicate, getD-replicate}
 use lib.Pow.{pow-pos}
 use lib.Seq.{ext-getD}
-use Rattle.image.specs.Fields.{Limit, whole, bits, upTo}
-use Rattle.image.specs.Image.{low, lowWords, Keeps}
+use Rattle.image_fields.specs.Fields.{Limit, whole, bits, upTo}
+use Rattle.image_fields.specs.Image.{low, lowWords, Keeps}
 
 pub low-keeps : (l : Limit) (w : ℕ) → Keeps l (low l w)
 low-keeps whole w = tt

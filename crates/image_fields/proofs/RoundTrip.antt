@@ -16,10 +16,10 @@ use Rattle.bits.proofs.Truth.{both}
 use Rattle.recogniser.specs.declared.Phase.{Phase}
 use Rattle.recogniser.specs.declared.Phase.the-variants.{Hunt, Body, Field3, Field4, Field5}
 use Rattle.decoder.specs.declared.Decoder.{Decoder}
-use Rattle.image.specs.Fields.{whole, Field, fields, phaseNumber, phaseOf, nameOf, size, limitOf, numbersIn, Numbers, stateFrom}
-use Rattle.image.specs.Image.{imageLength, layout, fieldWords, imageOf, lowWords, numbersFrom, stateOf, sameWords, imageFits, Widths}
-use Rattle.image.proofs.LowWords.{low-words-same}
-use Rattle.image.proofs.Widths.{Within, WithinAll, within, image-length}
+use Rattle.image_fields.specs.Fields.{whole, Field, fields, phaseNumber, phaseOf, nameOf, size, limitOf, numbersIn, Numbers, stateFrom}
+use Rattle.image_fields.specs.Image.{imageLength, layout, fieldWords, imageOf, lowWords, numbersFrom, stateOf, sameWords, imageFits, Widths}
+use Rattle.image_fields.proofs.LowWords.{low-words-same}
+use Rattle.image_fields.proofs.Widths.{Within, WithinAll, within, image-length}
 
 -- A field that stands behind others reads as the state's numbers.
 field-back : (d : Decoder) (f : Field) → Within d f → (front rest : List ℕ) (at : ℕ) → length front ≡ at

@@ -10,8 +10,8 @@ use lib.Dec.{eqb}
 use lib.ListN.{length, getD, replicate}
 use lib.Text.{eqt}
 use Rattle.decoder.specs.declared.Decoder.{Decoder}
-use Rattle.image.specs.Fields.{Limit, whole, bits, upTo, Field, number, flag, phase, array, scalars, fields}
-use Rattle.image.specs.Fields.{nameOf, size, limitOf, numbersIn, Numbers, stateFrom}
+use Rattle.image_fields.specs.Fields.{Limit, whole, bits, upTo, Field, number, flag, phase, array, scalars, fields}
+use Rattle.image_fields.specs.Fields.{nameOf, size, limitOf, numbersIn, Numbers, stateFrom}
 
 -- The layout's number stands first, so that an image of another layout is not misread.
 abbrev pub layout : ℕ

@@ -14,8 +14,8 @@ use mir.Facts.{fits-lt-pow}
 use Rattle.recogniser.specs.declared.Phase.{Phase}
 use Rattle.recogniser.specs.declared.Phase.the-variants.{Hunt, Body, Field3, Field4, Field5}
 use Rattle.decoder.specs.declared.Decoder.{Decoder}
-use Rattle.image.specs.Fields.{Limit, bits, upTo, Field, number, flag, phase, array, arrays, fields, phaseNumber, size, limitOf, numbersIn}
-use Rattle.image.specs.Image.{imageLength, fieldWords, wordLimitsOf, imageOf, Keeps, NumbersKeep, ArrayKeeps, ArraysKeep, Widths}
+use Rattle.image_fields.specs.Fields.{Limit, bits, upTo, Field, number, flag, phase, array, arrays, fields, phaseNumber, size, limitOf, numbersIn}
+use Rattle.image_fields.specs.Image.{imageLength, fieldWords, wordLimitsOf, imageOf, Keeps, NumbersKeep, ArrayKeeps, ArraysKeep, Widths}
 
 -- A field of a state has its size and is within its limit.
 pub record Within (d : Decoder) (f : Field) : Type 0 where

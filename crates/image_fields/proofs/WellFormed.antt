@@ -12,11 +12,11 @@ use lib.Seq.{drop-cons, getD-drop}
 use mir.Val.{boolByte}
 use borrow.Author.Tests.{eqb-true}
 use Rattle.bits.proofs.Truth.{both}
-use Rattle.image.specs.Fields.{Limit, whole, bits, phaseNumber, phaseOf}
-use Rattle.image.specs.Image.{imageLength, layout, wordLimits, imageOf, lowWords, stateOf, sameWords, imageFits, Keeps, Formed}
-use Rattle.image.specs.Image.{ArrayKeeps, Widths}
-use Rattle.image.proofs.LowWords.{low-keeps, low-at, low-words-same, length-even, even-at}
-use Rattle.image.proofs.RoundTrip.{fits-length, written-fits}
+use Rattle.image_fields.specs.Fields.{Limit, whole, bits, phaseNumber, phaseOf}
+use Rattle.image_fields.specs.Image.{imageLength, layout, wordLimits, imageOf, lowWords, stateOf, sameWords, imageFits, Keeps, Formed}
+use Rattle.image_fields.specs.Image.{ArrayKeeps, Widths}
+use Rattle.image_fields.proofs.LowWords.{low-keeps, low-at, low-words-same, length-even, even-at}
+use Rattle.image_fields.proofs.RoundTrip.{fits-length, written-fits}
 
 -- Words that are the same are equal.
 same-equal : (xs ys : List ℕ) → sameWords xs ys ≡ true → xs ≡ ys

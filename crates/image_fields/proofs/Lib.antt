@@ -1,0 +1,5 @@
+pub mod InNumbers
+pub mod LowWords
+pub mod RoundTrip
+pub mod WellFormed
+pub mod Widths
