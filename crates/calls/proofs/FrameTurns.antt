@@ -12,7 +12,8 @@ use Rattle.recogniser.specs.declared.FrameBit.{FrameBit}
 use Rattle.recogniser.specs.declared.FrameBit.the-variants.{At}
 use Rattle.recogniser.specs.declared.Recogniser.{Recogniser}
 use Rattle.recogniser.specs.Parts.{idle}
-use Rattle.recogniser.specs.Fields.{isFrame, lengthOf, endsOf}
+use Rattle.slow_fields.specs.Slow.{isFrame, lengthOf}
+use Rattle.recogniser.specs.Fields.{endsOf}
 use Rattle.recogniser.specs.Groups.{groupOf, unsteadyOf, frameBitOf}
 use Rattle.recogniser.specs.Step.{stepOf}
 use Rattle.frames.specs.Tray.{trayOf}

@@ -17,7 +17,7 @@ use Rattle.groups.proofs.LeftBits.{bits-left, left-last}
 use Rattle.groups.proofs.GroupLists.{votes-first, unsteady-first}
 use Rattle.recogniser.specs.declared.FrameBit.the-variants.{None, At}
 use Rattle.recogniser.specs.declared.Recogniser.{Recogniser}
-use Rattle.recogniser.specs.Fields.{isFrame, lengthOf}
+use Rattle.slow_fields.specs.Slow.{isFrame, lengthOf}
 use Rattle.recogniser.specs.Groups.{isEighth, groupOf, unsteadyOf, frameBitOf}
 use Rattle.recogniser.proofs.GroupCycles.{no-bit, gathered, as-before, voted, finished, joined}
 use Rattle.frames.specs.Tray.{trayOf}

@@ -18,10 +18,12 @@ use Rattle.recogniser.specs.declared.Phase.{Phase}
 use Rattle.recogniser.specs.declared.Phase.the-variants.{Hunt, Body, Field3, Field4, Field5}
 use Rattle.recogniser.specs.declared.Recogniser.{Recogniser}
 use Rattle.recogniser.specs.declared.Transition.{Transition}
-use Rattle.recogniser.specs.Hunting.{isLv1, meaningOf, huntBy, isFast}
-use Rattle.recogniser.specs.Fields.{isSlow, isFrame, lengthOf, endsOf}
+use Rattle.windows.specs.Windows.{isLv1, meaningOf, isFast}
+use Rattle.recogniser.specs.Hunting.{huntBy}
+use Rattle.slow_fields.specs.Slow.{isSlow, isFrame, lengthOf}
+use Rattle.recogniser.specs.Fields.{endsOf}
 use Rattle.recogniser.specs.Step.{stepBy, stepOf}
-use Rattle.recogniser.proofs.Positions.{position-low}
+use Rattle.windows.proofs.Positions.{position-low}
 use Rattle.decoder.specs.declared.Decoder.{Decoder}
 use Rattle.decoder.specs.Fit.{hasField5, nibbleFits, fitBy, fitOf}
 use Rattle.decoder.specs.Sound.{soundOf}

@@ -8,8 +8,8 @@ use Rattle.bits.specs.Bits.{shifted}
 use Rattle.bits.proofs.Truth.{cond-case}
 use Rattle.recogniser.specs.declared.Phase.{Phase}
 use Rattle.recogniser.specs.declared.Phase.the-variants.{Hunt, Body, Field3, Field4, Field5}
-use Rattle.recogniser.specs.declared.Meaning.{Meaning}
-use Rattle.recogniser.specs.declared.Meaning.the-variants.{Quiet, Trigger, Header}
+use Rattle.windows.specs.declared.Meaning.{Meaning}
+use Rattle.windows.specs.declared.Meaning.the-variants.{Quiet, Trigger, Header}
 use Rattle.recogniser.specs.declared.FrameBit.{FrameBit}
 use Rattle.recogniser.specs.declared.Request.{Request}
 use Rattle.recogniser.specs.declared.Request.the-variants.{Nothing, Slow}
@@ -17,8 +17,10 @@ use Rattle.recogniser.specs.declared.SlowRequest.the-variants.{LeaveRunMode}
 use Rattle.recogniser.specs.declared.Recogniser.{Recogniser}
 use Rattle.recogniser.specs.declared.Transition.{Transition}
 use Rattle.recogniser.specs.Parts.{idle, transition}
-use Rattle.recogniser.specs.Hunting.{isFast, meaningOf, huntBy}
-use Rattle.recogniser.specs.Fields.{isFrame, lengthOf, endsOf}
+use Rattle.windows.specs.Windows.{isFast, meaningOf}
+use Rattle.recogniser.specs.Hunting.{huntBy}
+use Rattle.slow_fields.specs.Slow.{isFrame, lengthOf}
+use Rattle.recogniser.specs.Fields.{endsOf}
 use Rattle.recogniser.specs.Step.{stepBy, stepOf}
 use Rattle.controller.specs.Requests.{changesRegisters, changesRunning}
 use Rattle.decoder.specs.Sound.{insideSlow}

@@ -10,13 +10,15 @@ use Rattle.bits.specs.Bits.{shifted}
 use Rattle.bits.proofs.Truth.{both, choice}
 use Rattle.recogniser.specs.declared.Phase.{Phase}
 use Rattle.recogniser.specs.declared.Phase.the-variants.{Hunt, Body, Field3, Field4, Field5}
-use Rattle.recogniser.specs.declared.Meaning.{Meaning}
-use Rattle.recogniser.specs.declared.Meaning.the-variants.{Quiet, Trigger, Header}
+use Rattle.windows.specs.declared.Meaning.{Meaning}
+use Rattle.windows.specs.declared.Meaning.the-variants.{Quiet, Trigger, Header}
 use Rattle.recogniser.specs.declared.Request.{Request}
 use Rattle.recogniser.specs.declared.Recogniser.{Recogniser}
 use Rattle.recogniser.specs.declared.Transition.{Transition}
-use Rattle.recogniser.specs.Hunting.{meaningOf, huntBy, isFast}
-use Rattle.recogniser.specs.Fields.{isSlow, isFrame, lengthOf, endsOf}
+use Rattle.windows.specs.Windows.{meaningOf, isFast}
+use Rattle.recogniser.specs.Hunting.{huntBy}
+use Rattle.slow_fields.specs.Slow.{isSlow, isFrame, lengthOf}
+use Rattle.recogniser.specs.Fields.{endsOf}
 use Rattle.recogniser.specs.Step.{stepBy, stepOf}
 use Rattle.controller.specs.Requests.{requestFits}
 

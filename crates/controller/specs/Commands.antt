@@ -5,7 +5,7 @@ use mathlib.Core.List.{List}
 use Prim.Native.Nat.{ℕ, _+_, _*_, _-_, _/_, _%_, _^_}
 use lib.Dec.{ltb, eqb}
 use lib.ListN.{getD, set}
-use Rattle.recogniser.specs.Fields.{dataBits, controlBits, receiverBits}
+use Rattle.slow_fields.specs.Slow.{dataBits, controlBits, receiverBits}
 use Rattle.recogniser.specs.declared.SlowRequest.{SlowRequest}
 use Rattle.recogniser.specs.declared.SlowRequest.the-variants.{LeaveRunMode, Command, Bad, Frame}
 use Rattle.recogniser.specs.declared.Request.{Request}

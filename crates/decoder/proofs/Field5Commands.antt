@@ -9,8 +9,8 @@ use borrow.Author.Tests.{ne-eqb}
 use lib.Dec.{T, leb, eqb, eqb→eq, nleb→lt, lit≤, T-not}
 use Rattle.bits.proofs.Truth.{or-case, or-else, stable, and-all}
 use Rattle.recogniser.specs.declared.Recogniser.{Recogniser}
-use Rattle.recogniser.specs.Fields.{lengthOf}
-use Rattle.recogniser.proofs.Field5Lengths.{length-beyond}
+use Rattle.slow_fields.specs.Slow.{lengthOf}
+use Rattle.slow_fields.proofs.Lengths.{length-beyond}
 use Rattle.decoder.specs.Fit.{hasField5, keeps, heldFits, hasGroups, groupFits}
 
 -- What holds of WrRegister, WrFifo and GlobalResetFE holds of a command that keeps the bits of Field 5: at most 27, and the group does not count.

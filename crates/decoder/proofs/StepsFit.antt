@@ -12,13 +12,15 @@ use Rattle.groups.specs.Received.{leftBySome}
 use Rattle.groups.proofs.LeftBits.{left-more}
 use Rattle.recogniser.specs.declared.Phase.{Phase}
 use Rattle.recogniser.specs.declared.Phase.the-variants.{Hunt, Body, Field3, Field4, Field5}
-use Rattle.recogniser.specs.declared.Meaning.{Meaning}
-use Rattle.recogniser.specs.declared.Meaning.the-variants.{Quiet, Trigger, Header}
+use Rattle.windows.specs.declared.Meaning.{Meaning}
+use Rattle.windows.specs.declared.Meaning.the-variants.{Quiet, Trigger, Header}
 use Rattle.recogniser.specs.declared.Recogniser.{Recogniser}
 use Rattle.recogniser.specs.declared.Transition.{Transition}
 use Rattle.recogniser.specs.Parts.{startOf, gatheredOf}
-use Rattle.recogniser.specs.Hunting.{isFast, meaningOf, huntBy, bodyOf}
-use Rattle.recogniser.specs.Fields.{isFrame, lengthOf, endsOf, keptOf, field3Of, field4Of}
+use Rattle.windows.specs.Windows.{isFast, meaningOf}
+use Rattle.recogniser.specs.Hunting.{huntBy, bodyOf}
+use Rattle.slow_fields.specs.Slow.{isFrame, lengthOf, keptOf}
+use Rattle.recogniser.specs.Fields.{endsOf, field3Of, field4Of}
 use Rattle.recogniser.specs.Groups.{isEighth, groupOf, unsteadyOf}
 use Rattle.recogniser.specs.Step.{field5Of, stepBy, stepOf}
 use Rattle.decoder.specs.Fit.{hasField5, keeps, hasGroups, nibbleFits, field4Fits, heldFits, groupFits, field5Fits, fitBy, fitOf}

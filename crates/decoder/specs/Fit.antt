@@ -7,7 +7,7 @@ use Rattle.groups.specs.Received.{leftBySome}
 use Rattle.recogniser.specs.declared.Phase.{Phase}
 use Rattle.recogniser.specs.declared.Phase.the-variants.{Hunt, Body, Field3, Field4, Field5}
 use Rattle.recogniser.specs.declared.Recogniser.{Recogniser}
-use Rattle.recogniser.specs.Fields.{lengthOf}
+use Rattle.slow_fields.specs.Slow.{lengthOf}
 
 -- "Inside Field 5 the command is one that has it": 0 to 6 and 10.
 abbrev pub hasField5 : ℕ → Bool

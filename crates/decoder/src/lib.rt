@@ -129,7 +129,7 @@ fn field5_fits(r: Recogniser, cnt: u16) -> bool
     if 16 <= r.address {
         return false;
     }
-    if recogniser::length(command, cnt) <= r.count {
+    if slow_fields::length(command, cnt) <= r.count {
         return false;
     }
     if keeps_bits(command) {

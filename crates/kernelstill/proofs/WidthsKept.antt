@@ -15,17 +15,19 @@ use Rattle.bits.proofs.Truth.{cases, choice, cond-case}
 use Rattle.bits.proofs.Shift.{shifted-fits}
 use Rattle.recogniser.specs.declared.Phase.{Phase}
 use Rattle.recogniser.specs.declared.Phase.the-variants.{Hunt, Body, Field3, Field4, Field5}
-use Rattle.recogniser.specs.declared.Meaning.{Meaning}
-use Rattle.recogniser.specs.declared.Meaning.the-variants.{Quiet, Trigger, Header}
+use Rattle.windows.specs.declared.Meaning.{Meaning}
+use Rattle.windows.specs.declared.Meaning.the-variants.{Quiet, Trigger, Header}
 use Rattle.recogniser.specs.declared.Request.{Request}
 use Rattle.recogniser.specs.declared.Recogniser.{Recogniser}
 use Rattle.recogniser.specs.declared.Transition.{Transition}
 use Rattle.recogniser.specs.Parts.{startOf, standing}
-use Rattle.recogniser.specs.Hunting.{isFast, meaningOf, huntBy}
-use Rattle.recogniser.specs.Fields.{isFrame, lengthOf, endsOf, keptOf}
+use Rattle.windows.specs.Windows.{isFast, meaningOf}
+use Rattle.recogniser.specs.Hunting.{huntBy}
+use Rattle.slow_fields.specs.Slow.{isFrame, lengthOf, keptOf}
+use Rattle.recogniser.specs.Fields.{endsOf}
 use Rattle.recogniser.specs.Groups.{isEighth, groupOf}
 use Rattle.recogniser.specs.Step.{stepBy, stepOf}
-use Rattle.recogniser.proofs.Field5Lengths.{length-most}
+use Rattle.slow_fields.proofs.Lengths.{length-most}
 use Rattle.registers.specs.declared.Plan.{Plan}
 use Rattle.registers.specs.declared.Model.{Model}
 use Rattle.registers.specs.declared.Pointers.{Pointers}

@@ -8,7 +8,7 @@ use Rattle.recogniser.specs.declared.FrameBit.{FrameBit}
 use Rattle.recogniser.specs.declared.FrameBit.the-variants.{None, At}
 use Rattle.recogniser.specs.declared.Recogniser.{Recogniser}
 use Rattle.recogniser.specs.Parts.{startOf}
-use Rattle.recogniser.specs.Fields.{lengthOf}
+use Rattle.slow_fields.specs.Slow.{lengthOf}
 use Rattle.recogniser.specs.Step.{stepOf}
 use Rattle.frames.specs.Tray.{partOf}
 

@@ -20,7 +20,7 @@ use Rattle.recogniser.specs.declared.Recogniser.{Recogniser}
 use Rattle.recogniser.specs.declared.FrameBit.{FrameBit}
 use Rattle.recogniser.specs.declared.FrameBit.the-variants.{None, At}
 use Rattle.recogniser.specs.Parts.{startOf}
-use Rattle.recogniser.specs.Fields.{isFrame, lengthOf, dataBits, controlBits}
+use Rattle.slow_fields.specs.Slow.{isFrame, lengthOf, dataBits, controlBits}
 use Rattle.frames.specs.Tray.{trayOf, partOf}
 use Rattle.frames.proofs.FrameFill.{filledOf, PartHolds, part-holds}
 use Rattle.decoder.specs.Sound.{soundOf}

@@ -11,7 +11,7 @@ use Rattle.bits.specs.Bits.{bitOf}
 use Rattle.groups.specs.Vote.{voteOf, votesOf, someUnsteady}
 use Rattle.recogniser.specs.declared.Phase.the-variants.{Field5}
 use Rattle.recogniser.specs.Parts.{startOf}
-use Rattle.recogniser.specs.Fields.{isFrame, lengthOf}
+use Rattle.slow_fields.specs.Slow.{isFrame, lengthOf}
 use Rattle.frames.specs.Tray.{partOf}
 use Rattle.controller.specs.Records.{kindOf, kindSlow, flagActed, flagUnsteady, frameBitsOf}
 use Rattle.controller.specs.Widths.{ModelFits}

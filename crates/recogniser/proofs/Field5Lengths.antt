@@ -1,29 +1,16 @@
--- The length of Field 5 past the rows for front ends, the longest one, and that the count of its bits fits.
+-- The count of the bits of Field 5 fits.
 -- Assumes nothing.
 use mathlib.Core.Path.{_≡_}
-use mathlib.Core.Bool.{false, cond}
-use Prim.Native.Nat.{ℕ, _+_, _^_, _≤_, _<_}
+use mathlib.Core.Bool.{false}
+use Prim.Native.Nat.{ℕ, _+_, _^_, _<_}
 use native.Mathlib.Omega.{arith}
-use borrow.Author.Tests.{leb-false, lt-leb}
+use borrow.Author.Tests.{leb-false}
 use mir.Syntax.{w32}
 use mir.Val.{Fits}
-use lib.Dec.{leb, eqb}
-use Rattle.bits.proofs.Truth.{cond-most}
+use Rattle.slow_fields.specs.Slow.{lengthOf}
+use Rattle.slow_fields.proofs.Lengths.{length-most}
 use Rattle.recogniser.specs.declared.Recogniser.{Recogniser}
-use Rattle.recogniser.specs.Fields.{receiverBits, lengthOf, endsOf}
-
--- Past RdFrontEnd a WrReceiver and a GlobalResetFE have a Field 5.
-pub length-beyond : (command cnt : ℕ) → 5 < command → lengthOf command cnt ≡ cond (eqb command 6) (receiverBits cnt) (cond (eqb command 10) 4 0)
-length-beyond command cnt h = simp (lt-leb command 1 (omega arith), lt-leb command 3 (omega arith), lt-leb command 5 h)
-
--- "The largest is 65,976 cycles."
-pub length-most : (command cnt : ℕ) → cnt < 2 ^ 16 → lengthOf command cnt ≤ 65976
-length-most command cnt h =
-    cond-most (leb command 1) (omega arith)
-    (cond-most (leb command 3) (omega arith)
-    (cond-most (leb command 5) (omega arith)
-    (cond-most (eqb command 6) (omega arith)
-    (cond-most (eqb command 10) (omega arith) (omega arith)))))
+use Rattle.recogniser.specs.Fields.{endsOf}
 
 -- Where Field 5 goes on, the count of its bits fits.
 pub count-fits : (r : Recogniser) (cnt : ℕ) → cnt < 2 ^ 16 → endsOf r cnt ≡ false → Fits w32 (r .count + 1)

@@ -1,4 +1,3 @@
-pub mod Positions
 pub mod Field5Lengths
 pub mod StepByPhase
 pub mod GroupCycles

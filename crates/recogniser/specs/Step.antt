@@ -7,7 +7,8 @@ use Rattle.recogniser.specs.declared.Phase.the-variants.{Hunt, Body, Fie
 use Rattle.recogniser.specs.declared.Recogniser.{Recogniser}
 use Rattle.recogniser.specs.declared.Transition.{Transition}
 use Rattle.recogniser.specs.Hunting.{huntOf, bodyOf}
-use Rattle.recogniser.specs.Fields.{isFrame, field3Of, field4Of, keptFieldOf}
+use Rattle.slow_fields.specs.Slow.{isFrame}
+use Rattle.recogniser.specs.Fields.{field3Of, field4Of, keptFieldOf}
 use Rattle.recogniser.specs.Groups.{frameFieldOf}
 
 abbrev pub field5Of : Recogniser → ℕ → ℕ → Transition

@@ -1,15 +1,15 @@
 // One clock cycle of the command line: what the bit completes, and where the recogniser stands after it.
 // It owns only what the chip triplicates; registers, counters and RunMode belong to the model.
 ghost use mathlib.Core.Path.{_≡_};
-ghost use mathlib.Core.Bool.{true};
 ghost use Prim.Native.Nat.{_<_};
-ghost use Rattle.bits.specs.Bits.{shifted};
+ghost use Rattle.windows.specs.Windows.{meaningOf};
 ghost use Rattle.recogniser.specs.Parts.{startOf, moveTo, gatheredOf};
 ghost use Rattle.recogniser.specs.declared.Phase.the-variants.{Hunt};
-ghost use Rattle.recogniser.specs.Hunting.{isLv1, positionOf, meaningOf, isFast, huntBy, huntOf, bodyOf};
-ghost use Rattle.recogniser.specs.Fields.{lengthOf, isSlow, isFrame, keptOf, endsOf, slowRequestOf, field3Of, field4Of, keptFieldOf};
+ghost use Rattle.recogniser.specs.Hunting.{huntBy, huntOf, bodyOf};
+ghost use Rattle.recogniser.specs.Fields.{endsOf, slowRequestOf, field3Of, field4Of, keptFieldOf};
 ghost use Rattle.recogniser.specs.Groups.{frameCycleOf, frameFieldOf};
 ghost use Rattle.recogniser.specs.Step.{field5Of, stepOf};
+use windows::Meaning;
 
 // Where the recogniser stands.
 pub enum Phase {
@@ -18,14 +18,6 @@ pub enum Phase {
     Field3,
     Field4,
     Field5,
-}
-
-// What a window means.
-pub enum Meaning {
-    Quiet,
-    // An LV1. `position`: which of its five received bits was hit, from 1; 0 for an exact one.
-    Trigger { position: u8 },
-    Header,
 }
 
 // What one cycle does to the frame: nothing, or a bit at its place. The bit is as wide as the place, so that an event stays in registers.
@@ -96,138 +88,11 @@ pub struct Transition {
     pub event: Event,
 }
 
-// The window with a new bit at its low end, and without its oldest.
-pub fn window_with(window: u8, bit: u8) -> u8
-    requires { ⌜ bit < 2 ⌝ }
-    ensures { λ r. ⌜ r ≡ shifted 5 window bit ⌝ }
-{
-    ((window << 1) | bit) & 31
-}
-
-pub fn nibble_with(nibble: u8, bit: u8) -> u8
-    requires { ⌜ bit < 2 ⌝ }
-    ensures { λ r. ⌜ r ≡ shifted 4 nibble bit ⌝ }
-{
-    ((nibble << 1) | bit) & 15
-}
-
-fn is_lv1(window: u8) -> bool
-    ensures { λ r. ⌜ r ≡ isLv1 window ⌝ }
-{
-    match window {
-        0b11101 => true,
-        0b11100 => true,
-        0b11111 => true,
-        0b11001 => true,
-        0b10101 => true,
-        0b01101 => true,
-        _ => false,
-    }
-}
-
-// Which of an LV1's bits was hit: the one in which it differs from the exact LV1.
-fn position(window: u8) -> u8
-    requires { ⌜ isLv1 window ≡ true ⌝ }
-    ensures { λ r. ⌜ r ≡ positionOf window ⌝ }
-{
-    let difference = window ^ 0b11101;
-    if difference == 0 {
-        return 0;
-    }
-    5 - u8::trailing_zeros(difference) as u8
-}
-
-pub fn classify(window: u8) -> Meaning
-    ensures { λ r. ⌜ r ≡ meaningOf window ⌝ }
-{
-    if is_lv1(window) {
-        return Meaning::Trigger {
-            position: position(window),
-        };
-    }
-    if window == 0b10110 {
-        return Meaning::Header;
-    }
-    Meaning::Quiet
-}
-
-fn is_fast(body: u8) -> bool
-    ensures { λ r. ⌜ r ≡ isFast body ⌝ }
-{
-    match body {
-        0b0001 => true,
-        0b0010 => true,
-        0b0100 => true,
-        0b1000 => true,
-        _ => false,
-    }
-}
-
-// Whether Field 3 names a Slow command.
-fn is_slow(command: u8) -> bool
-    ensures { λ r. ⌜ r ≡ isSlow command ⌝ }
-{
-    if command <= 6 {
-        return true;
-    }
-    if 8 <= command {
-        return command <= 10;
-    }
-    false
-}
-
-// Whether the command carries frame bits: WrFrontEnd, RdFrontEnd, WrReceiver.
-fn is_frame(command: u8) -> bool
-    ensures { λ r. ⌜ r ≡ isFrame command ⌝ }
-{
-    if 4 <= command {
-        return command <= 6;
-    }
-    false
-}
-
-// The cycles of Field 5, by the command and the CNT register.
-pub fn length(command: u8, cnt: u16) -> u32
-    ensures { λ r. ⌜ r ≡ lengthOf command cnt ⌝ }
-{
-    let n = cnt as u32;
-    if command <= 1 {
-        return 16;
-    }
-    if command <= 3 {
-        return 27;
-    }
-    if command <= 5 {
-        return n / 8 * 8 + n % 8 * 8 * 8;
-    }
-    if command == 6 {
-        return n % 8192 * 8;
-    }
-    if command == 10 {
-        return 4;
-    }
-    0
-}
-
-// The bits kept of Field 5 with one bit more; a read keeps none.
-fn kept(command: u8, held: u32, bit: u8) -> u32
-    requires { ⌜ bit < 2 ⌝ }
-    ensures { λ r. ⌜ r ≡ keptOf command held bit ⌝ }
-{
-    if command == 1 {
-        return 0;
-    }
-    if command == 3 {
-        return 0;
-    }
-    held % 2147483648 * 2 + bit as u32
-}
-
 // The end of a Slow command that carries no frame.
 fn slow(command: u8, address: u8, value: u32) -> Request
     ensures { λ r. ⌜ r ≡ slowRequestOf command address value ⌝ }
 {
-    if is_slow(command) {
+    if slow_fields::is_slow(command) {
         return Request::Slow {
             slow: SlowRequest::Command {
                 command: command,
@@ -259,7 +124,7 @@ impl Transition {
     pub fn hunted(window: u8) -> Self
         ensures { λ r. ⌜ r ≡ huntBy window (meaningOf window) ⌝ }
     {
-        let m = classify(window);
+        let m = windows::classify(window);
         match m {
             Meaning::Quiet => Transition::hunting(window, Request::Nothing),
             Meaning::Trigger { position } => Transition::hunting(0, Request::Lv1 { position }),
@@ -305,18 +170,18 @@ impl Recogniser {
         requires { ⌜ bit < 2 ⌝ }
         ensures { λ r. ⌜ r ≡ huntOf self bit ⌝ }
     {
-        Transition::hunted(window_with(self.shift, bit))
+        Transition::hunted(windows::window_with(self.shift, bit))
     }
 
     pub fn body(self, bit: u8) -> Transition
         requires { ⌜ bit < 2 ⌝ }
         ensures { λ r. ⌜ r ≡ bodyOf self bit ⌝ }
     {
-        let body = nibble_with(self.shift, bit);
+        let body = windows::nibble_with(self.shift, bit);
         if self.count < 3 {
             return self.gather(body);
         }
-        if is_fast(body) {
+        if windows::is_fast(body) {
             return Transition::hunting(0, Request::Fast { body: body });
         }
         if body == 0b1011 {
@@ -337,7 +202,7 @@ impl Recogniser {
         requires { ⌜ bit < 2 ⌝ }
         ensures { λ r. ⌜ r ≡ field3Of self bit ⌝ }
     {
-        let command = nibble_with(self.shift, bit);
+        let command = windows::nibble_with(self.shift, bit);
         if self.count < 3 {
             return self.gather(command);
         }
@@ -351,18 +216,18 @@ impl Recogniser {
         requires { ⌜ bit < 2 ⌝ }
         ensures { λ r. ⌜ r ≡ field4Of self bit cnt ⌝ }
     {
-        let address = nibble_with(self.shift, bit);
+        let address = windows::nibble_with(self.shift, bit);
         if self.count < 3 {
             return self.gather(address);
         }
         let command = self.command;
-        if 0 < length(command, cnt) {
+        if 0 < slow_fields::length(command, cnt) {
             return Transition {
                 next: Recogniser::start(Phase::Field5, 0, command, address),
                 event: Event::NOTHING,
             };
         }
-        if is_frame(command) {
+        if slow_fields::is_frame(command) {
             return Transition::hunting(
                 0,
                 Request::Slow {
@@ -380,7 +245,7 @@ impl Recogniser {
     fn ends(self, cnt: u16) -> bool
         ensures { λ r. ⌜ r ≡ endsOf self cnt ⌝ }
     {
-        length(self.command, cnt) as u64 <= self.count as u64 + 1
+        slow_fields::length(self.command, cnt) as u64 <= self.count as u64 + 1
     }
 
     // Field 5 of a command that carries no frame.
@@ -388,7 +253,7 @@ impl Recogniser {
         requires { ⌜ bit < 2 ⌝ }
         ensures { λ r. ⌜ r ≡ keptFieldOf self bit cnt ⌝ }
     {
-        let value = kept(self.command, self.held, bit);
+        let value = slow_fields::kept(self.command, self.held, bit);
         if self.ends(cnt) {
             return Transition::hunting(0, slow(self.command, self.address, value));
         }
@@ -459,7 +324,7 @@ impl Recogniser {
         requires { ⌜ bit < 2 ⌝ }
         ensures { λ r. ⌜ r ≡ field5Of self bit cnt ⌝ }
     {
-        if is_frame(self.command) {
+        if slow_fields::is_frame(self.command) {
             return self.frame_field(bit, cnt);
         }
         self.kept_field(bit, cnt)

@@ -10,12 +10,13 @@ use Rattle.bits.specs.Bits.{bitOf, bitsOf, shifted}
 use Rattle.bits.specs.declared.Cursor.{Cursor}
 use Rattle.bits.specs.Place.{cursorAt, placeUnder}
 use Rattle.bits.proofs.Places.{Stands, stands, stands-at, bits-left}
-use Rattle.recogniser.specs.declared.Meaning.{Meaning}
-use Rattle.recogniser.specs.declared.Meaning.the-variants.{Quiet, Trigger, Header}
+use Rattle.windows.specs.declared.Meaning.{Meaning}
+use Rattle.windows.specs.declared.Meaning.the-variants.{Quiet, Trigger, Header}
 use Rattle.recogniser.specs.declared.Recogniser.{Recogniser}
 use Rattle.recogniser.specs.declared.Transition.{Transition}
 use Rattle.recogniser.specs.Parts.{transition, standing}
-use Rattle.recogniser.specs.Hunting.{meaningOf, huntBy, bodyOf}
+use Rattle.windows.specs.Windows.{meaningOf}
+use Rattle.recogniser.specs.Hunting.{huntBy, bodyOf}
 use Rattle.recogniser.specs.Step.{stepOf}
 use Rattle.stretches.specs.declared.Stretch.{Stretch}
 use Rattle.stretches.specs.declared.Walk.{Walk}

@@ -8,13 +8,14 @@ use lib.Dec.{ltb}
 use Rattle.bits.specs.Bits.{shifted}
 use Rattle.recogniser.specs.declared.Phase.{Phase}
 use Rattle.recogniser.specs.declared.Phase.the-variants.{Hunt, Body, Field3, Field4, Field5}
-use Rattle.recogniser.specs.declared.Meaning.{Meaning}
-use Rattle.recogniser.specs.declared.Meaning.the-variants.{Quiet, Trigger, Header}
+use Rattle.windows.specs.declared.Meaning.{Meaning}
+use Rattle.windows.specs.declared.Meaning.the-variants.{Quiet, Trigger, Header}
 use Rattle.recogniser.specs.declared.Request.the-variants.{Nothing, Lv1}
 use Rattle.recogniser.specs.declared.Recogniser.{Recogniser}
 use Rattle.recogniser.specs.declared.Transition.{Transition}
 use Rattle.recogniser.specs.Parts.{startOf, idle, moveTo}
-use Rattle.recogniser.specs.Hunting.{meaningOf, bodyOf}
+use Rattle.windows.specs.Windows.{meaningOf}
+use Rattle.recogniser.specs.Hunting.{bodyOf}
 use Rattle.recogniser.specs.Step.{stepOf}
 use Rattle.stretches.specs.declared.Stretch.{Stretch}
 

@@ -5,12 +5,12 @@ ghost use lib.ListN.{length};
 ghost use Rattle.bits.specs.Bits.{bitsOf};
 ghost use Rattle.bits.specs.Place.{placeUnder};
 ghost use Rattle.recogniser.specs.Parts.{standing};
-ghost use Rattle.recogniser.specs.Hunting.{meaningOf};
+ghost use Rattle.windows.specs.Windows.{meaningOf};
 ghost use Rattle.stretches.specs.Stretch.{isQuiet, stretched, huntOn, bodyOn, stretchOf};
 ghost use Rattle.stretches.specs.Walk.{Reaches, walkOf};
 use bits::Cursor;
 use recogniser::Event;
-use recogniser::Meaning;
+use windows::Meaning;
 use recogniser::Phase;
 use recogniser::Recogniser;
 use recogniser::Request;
@@ -48,7 +48,7 @@ pub struct Walk {
 fn is_quiet(window: u8) -> bool
     ensures { λ r. ⌜ r ≡ isQuiet (meaningOf window) ⌝ }
 {
-    let m = recogniser::classify(window);
+    let m = windows::classify(window);
     match m {
         Meaning::Quiet => true,
         Meaning::Trigger { position } => false,
@@ -65,7 +65,7 @@ fn hunt_on(shift: u8, input: &[u8], from: Cursor, count: usize) -> Walk
     let mut at = from;
     let mut left = count;
     while 0 < left {
-        window = recogniser::window_with(window, at.read(input));
+        window = windows::window_with(window, at.read(input));
         at = at.next();
         left = left - 1;
         if is_quiet(window) {
@@ -110,7 +110,7 @@ fn body_on(r: Recogniser, input: &[u8], from: Cursor, count: usize) -> Walk
                 behind: at,
             };
         }
-        nibble = recogniser::nibble_with(nibble, bit);
+        nibble = windows::nibble_with(nibble, bit);
         received = received + 1;
     }
     Walk {

@@ -5,7 +5,7 @@ use Prim.Native.Nat.{ℕ, _+_, _-_}
 use lib.Dec.{ltb, eqb}
 use lib.IntN.{ℤ, pos, _-ℤ_}
 use lib.Signed.{ltZ}
-use Rattle.recogniser.specs.Fields.{lengthOf}
+use Rattle.slow_fields.specs.Slow.{lengthOf}
 use Rattle.controller.specs.declared.Cycle.{Cycle}
 use Rattle.controller.specs.declared.Cycle.the-variants.{Silent, Recorded}
 use Rattle.controller.specs.declared.Record.{Record}

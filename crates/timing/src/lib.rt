@@ -49,7 +49,7 @@ fn cycles_back(kind: u8, cnt: u16) -> u64
     if kind < KIND_SLOW {
         return 8;
     }
-    16 + recogniser::length(kind - KIND_SLOW, cnt) as u64
+    16 + slow_fields::length(kind - KIND_SLOW, cnt) as u64
 }
 
 impl Earlier {

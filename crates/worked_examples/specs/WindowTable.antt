@@ -5,8 +5,8 @@ use mathlib.Core.List.{List, [], _∷_}
 use Prim.Native.Nat.{ℕ, zero, suc}
 use lib.Dec.{eqb}
 use Rattle.bits.specs.Bits.{numberOf}
-use Rattle.recogniser.specs.declared.Meaning.{Meaning}
-use Rattle.recogniser.specs.declared.Meaning.the-variants.{Quiet, Trigger, Header}
+use Rattle.windows.specs.declared.Meaning.{Meaning}
+use Rattle.windows.specs.declared.Meaning.the-variants.{Quiet, Trigger, Header}
 use Rattle.worked_examples.specs.CommandBits.{line, field}
 
 abbrev pub windowsFrom : ℕ → ℕ → List ℕ

@@ -1,6 +1,6 @@
 -- The worked examples of windows, streams and calls: the definitions give every row of every table, and the tables have this many rows.
 -- Assumes nothing.
-use Rattle.recogniser.specs.Hunting.{meaningOf}
+use Rattle.windows.specs.Windows.{meaningOf}
 use Rattle.worked_examples.specs.Table.{Table}
 use Rattle.worked_examples.specs.Example.{Gives}
 use Rattle.worked_examples.specs.WindowTable as windows

@@ -7,7 +7,8 @@ use borrow.Author.Tests.{lt-ltb, le-ltb}
 use Rattle.recogniser.specs.declared.Request.the-variants.{Slow}
 use Rattle.recogniser.specs.declared.SlowRequest.the-variants.{Frame}
 use Rattle.recogniser.specs.Parts.{idle, moveTo}
-use Rattle.recogniser.specs.Fields.{isFrame, slowRequestOf, field4Of}
+use Rattle.slow_fields.specs.Slow.{isFrame}
+use Rattle.recogniser.specs.Fields.{slowRequestOf, field4Of}
 use Rattle.recogniser.proofs.Recogniser.field4.Statement.{statement}
 use Rattle.recogniser.proofs.Recogniser.field4.Tie as tie
 
