@@ -10,9 +10,9 @@ use borrow.Author.Tests.{le-leb}
 use Rattle.bits.specs.Bits.{bitOf}
 use Rattle.bits.proofs.Truth.{holds-true, choice, and-left, and-right}
 use Rattle.bits.proofs.BitRanges.{binary, binary-append, bits-binary}
-use Rattle.controller.specs.declared.Cycle.{Cycle}
-use Rattle.controller.specs.declared.Cycle.the-variants.{Silent, Recorded}
-use Rattle.controller.specs.Records.{headOf, isFrameHead}
+use Rattle.records.specs.declared.Cycle.{Cycle}
+use Rattle.records.specs.declared.Cycle.the-variants.{Silent, Recorded}
+use Rattle.records.specs.Records.{headOf, isFrameHead}
 use Rattle.decoder.specs.declared.Decoder.{Decoder}
 use Rattle.limits.specs.Limits.{clockLimit, storeLength, trayLength}
 use Rattle.decoder.specs.Sound.{soundOf}

@@ -18,10 +18,10 @@ use Rattle.recogniser.specs.Groups.{groupOf, unsteadyOf, frameBitOf}
 use Rattle.recogniser.specs.Step.{stepOf}
 use Rattle.frames.specs.Tray.{trayOf}
 use Rattle.frames.proofs.FrameFill.{filledOf}
-use Rattle.controller.specs.declared.Record.{Record}
-use Rattle.controller.specs.declared.Cycle.{Cycle}
-use Rattle.controller.specs.declared.Cycle.the-variants.{Silent, Recorded}
-use Rattle.controller.specs.Records.{headOf, wordsOf, flagActed, flagUnsteady}
+use Rattle.records.specs.declared.Record.{Record}
+use Rattle.records.specs.declared.Cycle.{Cycle}
+use Rattle.records.specs.declared.Cycle.the-variants.{Silent, Recorded}
+use Rattle.records.specs.Records.{headOf, wordsOf, flagActed, flagUnsteady}
 use Rattle.controller.specs.Commands.{slowRecord, frameValueOf, actOf}
 use Rattle.calls.specs.Run.{Turned, stateAfter, wordsAfter}
 use Rattle.timing.specs.declared.Earlier.{Earlier}

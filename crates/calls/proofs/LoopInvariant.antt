@@ -22,10 +22,10 @@ use Rattle.frames.specs.Tray.{trayOf}
 use Rattle.registers.specs.declared.Plan.{Plan}
 use Rattle.registers.specs.declared.Model.{Model}
 use Rattle.registers.specs.Registers.{cntOf}
-use Rattle.controller.specs.declared.Cycle.{Cycle}
-use Rattle.controller.specs.declared.Cycle.the-variants.{Silent, Recorded}
-use Rattle.controller.specs.declared.Record.{Record}
-use Rattle.controller.specs.Records.{headOf, isFrameHead}
+use Rattle.records.specs.declared.Cycle.{Cycle}
+use Rattle.records.specs.declared.Cycle.the-variants.{Silent, Recorded}
+use Rattle.records.specs.declared.Record.{Record}
+use Rattle.records.specs.Records.{headOf, isFrameHead}
 use Rattle.controller.specs.Commands.{Effect, actOf}
 use Rattle.controller.specs.Requests.{requestFits}
 use Rattle.controller.proofs.RequestsFit.{step-request-fits}

@@ -11,9 +11,9 @@ use Rattle.registers.specs.declared.Model.{Model}
 use Rattle.registers.specs.declared.Plan.{Plan}
 use Rattle.registers.specs.Registers.{cntOf}
 use Rattle.controller.specs.declared.Acted.{Acted}
-use Rattle.controller.specs.declared.Record.{Record}
-use Rattle.controller.specs.declared.Cycle.the-variants.{Silent, Recorded}
-use Rattle.controller.specs.Records.{headOf, isFrameHead}
+use Rattle.records.specs.declared.Record.{Record}
+use Rattle.records.specs.declared.Cycle.the-variants.{Silent, Recorded}
+use Rattle.records.specs.Records.{headOf, isFrameHead}
 use Rattle.controller.specs.Commands.{Effect, effect, actOf}
 use Rattle.controller.specs.Requests.{requestFits}
 use Rattle.controller.proofs.RecordStamps.{Stamp, record-stamp}

@@ -28,7 +28,7 @@ use Rattle.decoder.specs.declared.Decoder.{Decoder}
 use Rattle.decoder.specs.Fit.{hasField5, nibbleFits, fitBy, fitOf}
 use Rattle.decoder.specs.Sound.{soundOf}
 use Rattle.decoder.proofs.Soundness.{sound-parts}
-use Rattle.controller.specs.Records.{wordsOf}
+use Rattle.records.specs.Records.{wordsOf}
 use Rattle.controller.specs.Widths.{ModelFits, Narrow, WordsFit}
 use Rattle.controller.proofs.EffectKeeps.{model-fits}
 use Rattle.controller.proofs.RecordsFit.{cycle-fits}

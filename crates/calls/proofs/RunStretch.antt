@@ -17,7 +17,7 @@ use Rattle.stretches.specs.declared.Stretch.{Stretch}
 use Rattle.stretches.specs.Stretch.{stretched, oneMore}
 use Rattle.stretches.proofs.SingleCycles.{Passes, ends, last, more}
 use Rattle.frames.specs.Tray.{trayOf}
-use Rattle.controller.specs.declared.Cycle.the-variants.{Silent}
+use Rattle.records.specs.declared.Cycle.the-variants.{Silent}
 use Rattle.controller.specs.Commands.{Effect, actOf}
 use Rattle.calls.specs.declared.Ending.the-variants.{Done, ListFull}
 use Rattle.calls.specs.Run.{Turned, Run, ended, oneBit, afterCycle, runOf}

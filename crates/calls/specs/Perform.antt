@@ -10,9 +10,9 @@ use Rattle.recogniser.specs.declared.Request.the-variants.{Nothing, Lv1, Fast, 
 use Rattle.registers.specs.declared.Plan.{Plan}
 use Rattle.registers.specs.declared.Model.{Model}
 use Rattle.registers.specs.Registers.{cntOf}
-use Rattle.controller.specs.declared.Cycle.{Cycle}
-use Rattle.controller.specs.declared.Cycle.the-variants.{Silent, Recorded}
-use Rattle.controller.specs.Records.{headOf, isFrameHead}
+use Rattle.records.specs.declared.Cycle.{Cycle}
+use Rattle.records.specs.declared.Cycle.the-variants.{Silent, Recorded}
+use Rattle.records.specs.Records.{headOf, isFrameHead}
 use Rattle.controller.specs.Commands.{Effect, actOf}
 use Rattle.timing.specs.declared.Earlier.{Earlier}
 use Rattle.timing.specs.TooClose.{earlierOf, flaggedCycle}

@@ -11,7 +11,7 @@ use Rattle.frames.specs.Tray.{trayOf}
 use Rattle.registers.specs.declared.Plan.{Plan}
 use Rattle.registers.specs.declared.Model.{Model}
 use Rattle.registers.specs.Registers.{cntOf}
-use Rattle.controller.specs.declared.Cycle.{Cycle}
+use Rattle.records.specs.declared.Cycle.{Cycle}
 use Rattle.controller.specs.Commands.{Effect, actOf}
 use Rattle.timing.specs.declared.Earlier.{Earlier}
 use Rattle.timing.specs.TooClose.{flaggedCycle, earlierAfter}

@@ -6,7 +6,7 @@ use Prim.Native.Nat.{ℕ}
 use lib.Dec.{eqb}
 use Rattle.registers.specs.declared.Model.{Model}
 use Rattle.registers.specs.Parts.{counters, zeroPointers, withCounters, withPointers}
-use Rattle.controller.specs.Records.{recordOf, kindFast}
+use Rattle.records.specs.Records.{recordOf, kindFast}
 use Rattle.controller.specs.Commands.{recorded, fastRecord, fastOf}
 
 pub unchanged : (m : Model) (body time : ℕ) → m .running ≡ true → eqb body 0b0001 ≡ false → eqb body 0b0010 ≡ false

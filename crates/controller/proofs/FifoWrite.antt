@@ -10,7 +10,7 @@ use Rattle.registers.specs.Registers.{feenOf}
 use Rattle.registers.specs.Parts.{pointers, withPointers}
 use Rattle.registers.specs.Fifos.{writeOf}
 use Rattle.registers.proofs.WriteLoop.{fifos}
-use Rattle.controller.specs.Records.{flagActed}
+use Rattle.records.specs.Records.{flagActed}
 use Rattle.controller.specs.Commands.{effect, recorded, slowRecord, writeFifoOf}
 
 pub wrote : (plan : Plan) (m : Model) (value time : ℕ) (store w s : List ℕ)

@@ -16,10 +16,10 @@ use Rattle.registers.specs.declared.Plan.{Plan}
 use Rattle.registers.specs.declared.Model.{Model}
 use Rattle.registers.specs.Plan.{existsAt}
 use Rattle.controller.specs.declared.Acted.{Acted}
-use Rattle.controller.specs.declared.Cycle.{Cycle}
-use Rattle.controller.specs.declared.Cycle.the-variants.{Silent, Recorded}
-use Rattle.controller.specs.declared.Record.{Record}
-use Rattle.controller.specs.Records.{recordOf, flagActed, flagFlip, flagSent}
+use Rattle.records.specs.declared.Cycle.{Cycle}
+use Rattle.records.specs.declared.Cycle.the-variants.{Silent, Recorded}
+use Rattle.records.specs.declared.Record.{Record}
+use Rattle.records.specs.Records.{recordOf, flagActed, flagFlip, flagSent}
 use Rattle.controller.specs.Commands.{hasFlip, sendsOf, slowOf, actOf}
 use Rattle.controller.specs.Requests.{slowFits, requestFits}
 use Rattle.controller.proofs.EffectCases.{command-cases}

@@ -15,8 +15,8 @@ use Rattle.registers.specs.declared.Model.{Model}
 use Rattle.registers.specs.Plan.{existsAt}
 use Rattle.registers.specs.Registers.{cntOf, warningBits, readOf}
 use Rattle.controller.specs.declared.Acted.{Acted}
-use Rattle.controller.specs.declared.Cycle.{Cycle}
-use Rattle.controller.specs.declared.Cycle.the-variants.{Silent, Recorded}
+use Rattle.records.specs.declared.Cycle.{Cycle}
+use Rattle.records.specs.declared.Cycle.the-variants.{Silent, Recorded}
 use Rattle.controller.specs.Commands.{frameValueOf, slowOf, actOf}
 use Rattle.controller.specs.Widths.{ModelFits, SlowNarrow, Narrow, ValueFits}
 use Rattle.controller.proofs.EffectCases.{command-cases}

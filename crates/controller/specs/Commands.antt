@@ -19,11 +19,11 @@ use Rattle.registers.specs.Registers.{registerOf, cntOf, feenOf, readOf, writte
 use Rattle.registers.specs.Parts.{counters, warnings, pointers, zeroPointers, cleared, withRunning, withCounters, withWarnings, withRegisters, withPointers}
 use Rattle.registers.specs.Fifos.{movedOn, writeOf, readWordOf}
 use Rattle.controller.specs.declared.Acted.{Acted}
-use Rattle.controller.specs.declared.Cycle.{Cycle}
-use Rattle.controller.specs.declared.Cycle.the-variants.{Silent, Recorded}
-use Rattle.controller.specs.declared.Record.{Record}
-use Rattle.controller.specs.Records.{recordOf, kindLv1, kindFast, kindBadFast, kindSlow, kindBadSlow}
-use Rattle.controller.specs.Records.{flagActed, flagFlip, flagSent, flagMissing, flagUnsteady}
+use Rattle.records.specs.declared.Cycle.{Cycle}
+use Rattle.records.specs.declared.Cycle.the-variants.{Silent, Recorded}
+use Rattle.records.specs.declared.Record.{Record}
+use Rattle.records.specs.Records.{recordOf, kindLv1, kindFast, kindBadFast, kindSlow, kindBadSlow}
+use Rattle.records.specs.Records.{flagActed, flagFlip, flagSent, flagMissing, flagUnsteady}
 
 abbrev pub acted : Model → Cycle → Acted
 acted m cycle = record { model = m; cycle = cycle }

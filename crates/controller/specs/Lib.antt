@@ -1,4 +1,3 @@
-pub mod Records
 pub mod Commands
 pub mod Requests
 pub mod Widths

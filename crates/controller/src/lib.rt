@@ -3,49 +3,25 @@ ghost use mathlib.Core.Path.{_≡_};
 ghost use mathlib.Core.Bool.{true};
 ghost use Prim.Native.Nat.{_<_};
 ghost use lib.ListN.{length};
-ghost use Rattle.limits.specs.Limits.{clockLimit, storeLength};
-ghost use Rattle.controller.specs.Records.{kindOf, recordOf, headOf, isFrameHead, frameBitsOf};
+ghost use Rattle.limits.specs.Limits.{storeLength};
+ghost use Rattle.records.specs.Records.{recordOf};
 ghost use Rattle.controller.specs.Commands.{acted, recorded, bunchOf, lv1Of, fastOf, badFastOf, leaveOf, writeRegisterOf, readRegisterOf};
 ghost use Rattle.controller.specs.Commands.{writeFifoOf, readFifoOf, enableOf, resetOf, resetFrontEndsOf, badSlowOf, frameValueOf, frameOf};
 ghost use Rattle.controller.specs.Commands.{commandOf, slowOf, actOf};
 ghost use Rattle.controller.specs.Requests.{requestFits, slowFits};
 use recogniser::Request;
 use recogniser::SlowRequest;
+use records::Cycle;
+use records::KIND_BAD_FAST;
+use records::KIND_BAD_SLOW;
+use records::KIND_FAST;
+use records::KIND_LV1;
+use records::KIND_SLOW;
+use records::Record;
 use registers::Counters;
 use registers::Model;
 use registers::Plan;
 use registers::Pointers;
-
-// A record by its parts. Its two words are made where it is written.
-pub struct Record {
-    pub time: u64,
-    pub kind: u8,
-    pub flags: u8,
-    pub value: u64,
-}
-
-impl Record {
-    // Its first word. Kind and flags are bytes, so that it fits while the time has 48 bits.
-    pub fn head(self) -> u64
-        requires { ⌜ self .time < clockLimit ⌝ }
-        ensures { λ r. ⌜ r ≡ headOf self ⌝ }
-    {
-        self.time * 65536 + self.kind as u64 * 256 + self.flags as u64
-    }
-
-    // Whether it is a frame's, after which a taking call stops: kind 24, 25 or 26.
-    pub fn is_frame(self) -> bool
-        ensures { λ r. ⌜ r ≡ isFrameHead (headOf self) ⌝ }
-    {
-        (0x24 <= self.kind) & (self.kind <= 0x26)
-    }
-}
-
-// What one cycle answers: nothing, or a record.
-pub enum Cycle {
-    Silent,
-    Recorded { entry: Record },
-}
 
 pub struct Acted {
     pub model: Model,
@@ -68,17 +44,6 @@ const EN_DATA_TAKE: u8 = 8;
 const GLOBAL_RESET_MCC: u8 = 9;
 
 const GLOBAL_RESET_FE: u8 = 10;
-
-// The kinds of a record; a Fast and a Slow add their body and Field 3.
-pub const KIND_LV1: u8 = 0x01;
-
-pub const KIND_FAST: u8 = 0x10;
-
-const KIND_BAD_FAST: u8 = 0x1F;
-
-pub const KIND_SLOW: u8 = 0x20;
-
-const KIND_BAD_SLOW: u8 = 0x2F;
 
 // The flags of a record, which are added; `timing` adds one more, 0x20.
 const FLAG_ACTED: u8 = 0x01;
@@ -106,24 +71,6 @@ fn answer(model: Model, time: u64, kind: u8, flags: u8, value: u64) -> Acted
             },
         },
     }
-}
-
-// Whether a record of which only the first word is at hand is a frame's.
-pub fn is_frame_head(head: u64) -> bool
-    ensures { λ r. ⌜ r ≡ isFrameHead head ⌝ }
-{
-    let kind = head / 256 % 256;
-    (0x24 <= kind) & (kind <= 0x26)
-}
-
-// A frame's count of bits, off the two words of its record.
-pub fn frame_bits(head: u64, value: u64) -> usize
-    ensures { λ r. ⌜ r ≡ frameBitsOf (kindOf head) value ⌝ }
-{
-    if head / 256 % 256 == 0x26 {
-        return value as usize;
-    }
-    (value / 65536 + value % 65536) as usize
 }
 
 // The value of a frame's record.

@@ -16,8 +16,8 @@ use Rattle.recogniser.specs.Parts.{idle}
 use Rattle.recogniser.specs.Step.{stepOf}
 use Rattle.registers.specs.Registers.{cntOf}
 use Rattle.decoder.specs.declared.Decoder.{Decoder}
-use Rattle.controller.specs.declared.Record.{Record}
-use Rattle.controller.specs.Records.{headOf, recordWords, wordsOf}
+use Rattle.records.specs.declared.Record.{Record}
+use Rattle.records.specs.Records.{headOf, recordWords, wordsOf}
 use Rattle.controller.proofs.RequestsFit.{step-request-fits}
 use Rattle.calls.specs.Run.{stateAfter, wordsAfter}
 use Rattle.calls.specs.Turn.{System, decoderOf, cntAt, turnOf}

@@ -8,7 +8,7 @@ use Prim.Native.Nat.{ℕ, _+_, _-_, _%_}
 use native.Mathlib.Omega.{arith}
 use lib.Dec.{eqb, ltb, T, ltb→lt}
 use Rattle.bits.proofs.Truth.{cases, cond-left, cond-statement}
-use Rattle.controller.specs.declared.Record.{Record}
+use Rattle.records.specs.declared.Record.{Record}
 use Rattle.timing.specs.Table.{kindBcr, kindEcr}
 use Rattle.timing.specs.TooClose.{earlierBelow, tooClose, flagTooClose}
 use Rattle.damage.specs.Commands.{Command, lv1, bcr, ecr, cal, sync, commandKind, requestOf}

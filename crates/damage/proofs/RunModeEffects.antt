@@ -24,9 +24,9 @@ use Rattle.recogniser.specs.Hunting.{huntBy}
 use Rattle.recogniser.specs.Step.{stepBy, stepOf}
 use Rattle.registers.specs.declared.Plan.{Plan}
 use Rattle.registers.specs.declared.Model.{Model}
-use Rattle.controller.specs.declared.Cycle.{Cycle}
-use Rattle.controller.specs.declared.Record.{Record}
-use Rattle.controller.specs.Records.{wordsOf, recordWords}
+use Rattle.records.specs.declared.Cycle.{Cycle}
+use Rattle.records.specs.declared.Record.{Record}
+use Rattle.records.specs.Records.{wordsOf, recordWords}
 use Rattle.controller.specs.Commands.{sendsOf, actOf, lv1Record, fastRecord, badFastRecord, fastEffect}
 use Rattle.controller.specs.Requests.{requestFits}
 use Rattle.timing.specs.declared.Earlier.{Earlier}

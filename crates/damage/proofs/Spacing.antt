@@ -10,8 +10,8 @@ use lib.Dec.{eqb, ltb, leb, T, leb→le, eqb→eq}
 use borrow.Author.Tests.{le-ltb, lt-ltb, ltb-true}
 use Rattle.bits.proofs.Truth.{clash, cases, either, or-left, or-right, cond-most, and-left, and-right}
 use Rattle.recogniser.specs.declared.Request.the-variants.{Nothing, Lv1, Fast, BadFast, Slow}
-use Rattle.controller.specs.declared.Record.{Record}
-use Rattle.controller.specs.Records.{kindLv1, kindFast, kindBadFast, flagSent}
+use Rattle.records.specs.declared.Record.{Record}
+use Rattle.records.specs.Records.{kindLv1, kindFast, kindBadFast, flagSent}
 use Rattle.timing.specs.declared.Earlier.{Earlier}
 use Rattle.timing.specs.Table.{zerosAsked}
 use Rattle.timing.specs.TooClose.{isNone, earlierBelow, cyclesBack, tooClose}

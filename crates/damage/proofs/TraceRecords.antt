@@ -9,7 +9,7 @@ use lib.Dec.{leb, T, leb→le}
 use lib.ListN.{length}
 use Rattle.bits.proofs.Truth.{and-left, and-right}
 use Rattle.recogniser.specs.declared.Request.{Request}
-use Rattle.controller.specs.declared.Record.{Record}
+use Rattle.records.specs.declared.Record.{Record}
 use Rattle.damage.specs.Commands.{Command, widthOf}
 use Rattle.damage.specs.CleanStreams.{Item, itemSize}
 use Rattle.damage.specs.Table.{Replacement, nothing, at, itself}

@@ -7,7 +7,7 @@ use lib.Dec.{eqb}
 use lib.ListN.{length}
 use Rattle.recogniser.specs.declared.Request.{Request}
 use Rattle.recogniser.specs.declared.Request.the-variants.{Lv1, Fast}
-use Rattle.controller.specs.Records.{kindLv1}
+use Rattle.records.specs.Records.{kindLv1}
 use Rattle.timing.specs.Table.{kindBcr, kindEcr, kindCal, kindSync}
 
 -- "Its commands are the exact LV1, BCR, ECR, CAL and SYNC".

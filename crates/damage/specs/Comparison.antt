@@ -7,8 +7,8 @@ use mathlib.Core.List.{List, [], _∷_, _++_}
 use Prim.Native.Nat.{ℕ, _+_, _-_, _/_, _%_}
 use lib.Dec.{eqb, ltb, T}
 use Rattle.registers.specs.declared.Counters.{Counters}
-use Rattle.controller.specs.Records.{kindLv1}
-use Rattle.controller.specs.declared.Record.{Record}
+use Rattle.records.specs.Records.{kindLv1}
+use Rattle.records.specs.declared.Record.{Record}
 use Rattle.timing.specs.Table.{kindBcr, kindEcr}
 use Rattle.damage.specs.Commands.{commandKind}
 use Rattle.damage.specs.CleanStreams.{Item, itemSize}

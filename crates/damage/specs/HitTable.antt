@@ -7,7 +7,7 @@ use Prim.Native.Nat.{ℕ, _+_}
 use lib.Dec.{eqb}
 use Rattle.bits.specs.Bits.{numberOf}
 use Rattle.recogniser.specs.Parts.{idle}
-use Rattle.controller.specs.Records.{recordWords}
+use Rattle.records.specs.Records.{recordWords}
 use Rattle.timing.specs.Table.{kindBcr, kindEcr}
 use Rattle.timing.specs.TooClose.{none}
 use Rattle.damage.specs.Commands.{Command, lv1, bcr, ecr, cal, sync}

@@ -4,7 +4,7 @@
 use mathlib.Core.Path.{_≡_}
 use mathlib.Core.List.{List, [], _∷_, _++_, map}
 use Rattle.frames.specs.Tray.{partOf}
-use Rattle.controller.specs.Records.{frameBitsOf}
+use Rattle.records.specs.Records.{frameBitsOf}
 use Rattle.worked_examples.specs.CommandBits.{line, eightfold, lv1, wrRegister, wrFrontEnd, rdFrontEnd, wrReceiver}
 use Rattle.worked_examples.specs.Cells.{phase, command, count, group, unsteady, register, byte}
 use Rattle.worked_examples.specs.Example.{Row, row, done, frame}

@@ -4,7 +4,7 @@ ghost use mathlib.Core.Bool.{cond};
 ghost use mathlib.Core.Path.{_≡_};
 ghost use lib.ListN.{length};
 ghost use Rattle.frames.specs.Tray.{partOf};
-ghost use Rattle.controller.specs.Records.{kindOf, isFrameHead, frameBitsOf};
+ghost use Rattle.records.specs.Records.{kindOf, isFrameHead, frameBitsOf};
 ghost use Rattle.decoder.specs.Opening.{openOf};
 ghost use Rattle.calls.specs.Take.{call, takeOf};
 ghost use Rattle.image_fields.specs.Image.{imageLength, stateOf};
@@ -169,8 +169,8 @@ pub extern "C" fn kernelstill_take(
 pub extern "C" fn kernelstill_frame_bits(head: u64, value: u64) -> u64
     ensures { λ r. ⌜ r ≡ cond (isFrameHead head) (frameBitsOf (kindOf head) value) 0 ⌝ }
 {
-    if controller::is_frame_head(head) {
-        return controller::frame_bits(head, value) as u64;
+    if records::is_frame_head(head) {
+        return records::frame_bits(head, value) as u64;
     }
     0
 }

@@ -5,7 +5,7 @@ use mathlib.Core.List.{List, [], _∷_, _++_}
 use Prim.Native.Nat.{ℕ}
 use lib.Dec.{eqb}
 use Rattle.frames.specs.Tray.{partOf}
-use Rattle.controller.specs.Records.{kindOf, isFrameHead, frameBitsOf}
+use Rattle.records.specs.Records.{kindOf, isFrameHead, frameBitsOf}
 use Rattle.layout.specs.ListingLines.{recordLine, frameLine}
 
 -- "after a frame of at least one bit, ">" and its bytes"; a program may leave the frames out.

@@ -17,10 +17,10 @@ fn put_record(out: &mut [u8], at: usize, head: u64, value: u64, tray: &[u8], fra
     ensures { λ r. ⌜ block (now (out .exit)) r ≡ putAll (now (out .entry)) at (recordText frames (now (tray .entry)) head value) ⌝ }
 {
     let place = layout::record_line(out, at, head, value);
-    if !(frames & controller::is_frame_head(head)) {
+    if !(frames & records::is_frame_head(head)) {
         return place;
     }
-    let bits = controller::frame_bits(head, value);
+    let bits = records::frame_bits(head, value);
     if bits == 0 {
         return place;
     }

@@ -10,10 +10,10 @@ use lib.ListN.{length, drop, length-append, length-take}
 use borrow.Author.Tests.{le-ltb}
 use Rattle.bits.proofs.Truth.{choice}
 use Rattle.frames.specs.Tray.{partOf}
-use Rattle.controller.specs.declared.Cycle.{Cycle}
-use Rattle.controller.specs.declared.Cycle.the-variants.{Silent, Recorded}
-use Rattle.controller.specs.declared.Record.{Record}
-use Rattle.controller.specs.Records.{headOf, kindOf, isFrameHead, frameBitsOf}
+use Rattle.records.specs.declared.Cycle.{Cycle}
+use Rattle.records.specs.declared.Cycle.the-variants.{Silent, Recorded}
+use Rattle.records.specs.declared.Record.{Record}
+use Rattle.records.specs.Records.{headOf, kindOf, isFrameHead, frameBitsOf}
 use Rattle.calls.specs.declared.Ending.{Ending}
 use Rattle.calls.specs.declared.Ending.the-variants.{Frame, ListFull, Done}
 use Rattle.calls.specs.Run.{Run, ended, oneBit, oneRecord, afterCycle, runOf, stateAfter}

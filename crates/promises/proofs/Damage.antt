@@ -6,7 +6,7 @@ use Prim.Native.Nat.{ℕ, _+_, _<_}
 use lib.ListN.{length}
 use Rattle.decoder.specs.declared.Decoder.{Decoder}
 use Rattle.decoder.proofs.Soundness.{sound-parts}
-use Rattle.controller.specs.Records.{recordWords}
+use Rattle.records.specs.Records.{recordWords}
 use Rattle.damage.specs.CleanStreams.{Item, streamBits}
 use Rattle.damage.specs.Records.{aheadOf, sends}
 use Rattle.damage.proofs.Comparison.{replaced}

@@ -24,7 +24,7 @@ use Rattle.slow_fields.specs.Slow.{isFrame, lengthOf, dataBits, controlBits}
 use Rattle.frames.specs.Tray.{trayOf, partOf}
 use Rattle.frames.proofs.FrameFill.{filledOf, PartHolds, part-holds}
 use Rattle.decoder.specs.Sound.{soundOf}
-use Rattle.controller.specs.Records.{headOf, kindOf, kindSlow, flagUnsteady, frameBitsOf}
+use Rattle.records.specs.Records.{headOf, kindOf, kindSlow, flagUnsteady, frameBitsOf}
 use Rattle.controller.specs.Commands.{frameValueOf}
 use Rattle.controller.specs.Widths.{ModelFits}
 use Rattle.controller.proofs.EffectKeeps.{model-fits}

@@ -7,10 +7,10 @@ use Prim.Native.Nat.{ℕ, zero, suc, _-_, _<_, _≤_}
 use native.Mathlib.Omega.{arith}
 use lib.Dec.{ltb, T, nltb→le}
 use lib.ListN.{take}
-use Rattle.controller.specs.declared.Cycle.{Cycle}
-use Rattle.controller.specs.declared.Cycle.the-variants.{Silent, Recorded}
-use Rattle.controller.specs.declared.Record.{Record}
-use Rattle.controller.specs.Records.{headOf, wordsOf, isFrameHead}
+use Rattle.records.specs.declared.Cycle.{Cycle}
+use Rattle.records.specs.declared.Cycle.the-variants.{Silent, Recorded}
+use Rattle.records.specs.declared.Record.{Record}
+use Rattle.records.specs.Records.{headOf, wordsOf, isFrameHead}
 use Rattle.calls.specs.declared.Ending.the-variants.{Frame, ListFull}
 use Rattle.calls.specs.Run.{Turned, Run, ended, oneBit, oneRecord, afterCycle, runOf, wordsAfter}
 use Rattle.promises.specs.Records.{GoesOn}

@@ -11,7 +11,7 @@ use Rattle.limits.specs.Limits.{clockLimit}
 use Rattle.recogniser.specs.declared.Phase.the-variants.{Hunt}
 use Rattle.decoder.specs.declared.Decoder.{Decoder}
 use Rattle.decoder.specs.Sound.{soundOf}
-use Rattle.controller.specs.Records.{recordWords}
+use Rattle.records.specs.Records.{recordWords}
 use Rattle.calls.specs.Take.{Call}
 use Rattle.calls.specs.Calls.{allBits, allWords}
 use Rattle.damage.specs.CleanStreams.{Item, streamBits, timed, inverted}

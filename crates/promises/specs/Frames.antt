@@ -13,7 +13,7 @@ use Rattle.recogniser.specs.declared.Phase.the-variants.{Field5}
 use Rattle.recogniser.specs.Parts.{startOf}
 use Rattle.slow_fields.specs.Slow.{isFrame, lengthOf}
 use Rattle.frames.specs.Tray.{partOf}
-use Rattle.controller.specs.Records.{kindOf, kindSlow, flagActed, flagUnsteady, frameBitsOf}
+use Rattle.records.specs.Records.{kindOf, kindSlow, flagActed, flagUnsteady, frameBitsOf}
 use Rattle.controller.specs.Widths.{ModelFits}
 use Rattle.timing.specs.TooClose.{tooClose, flagTooClose}
 use Rattle.calls.specs.Run.{stateAfter, wordsAfter}

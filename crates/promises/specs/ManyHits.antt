@@ -8,7 +8,7 @@ use lib.Dec.{T}
 use lib.ListN.{length}
 use Rattle.limits.specs.Limits.{clockLimit}
 use Rattle.decoder.specs.declared.Decoder.{Decoder}
-use Rattle.controller.specs.Records.{recordWords}
+use Rattle.records.specs.Records.{recordWords}
 use Rattle.timing.specs.Table.{kindBcr, kindEcr}
 use Rattle.calls.specs.Take.{Call}
 use Rattle.calls.specs.Calls.{allBits, allWords, stateLeft}

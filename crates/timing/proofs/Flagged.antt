@@ -9,10 +9,10 @@ use lib.Dec.{ltb, eqb}
 use borrow.Author.Tests.{ltb-true, lt-ltb, ne-eqb}
 use Rattle.limits.specs.Limits.{clockLimit}
 use Rattle.bits.proofs.Truth.{cond-most, either, or-left, or-right}
-use Rattle.controller.specs.declared.Cycle.{Cycle}
-use Rattle.controller.specs.declared.Cycle.the-variants.{Silent, Recorded}
-use Rattle.controller.specs.declared.Record.{Record}
-use Rattle.controller.specs.Records.{wordsOf}
+use Rattle.records.specs.declared.Cycle.{Cycle}
+use Rattle.records.specs.declared.Cycle.the-variants.{Silent, Recorded}
+use Rattle.records.specs.declared.Record.{Record}
+use Rattle.records.specs.Records.{wordsOf}
 use Rattle.controller.specs.Widths.{WordsFit}
 use Rattle.controller.proofs.RecordStamps.{Stamp, Stamped}
 use Rattle.controller.proofs.RecordsFit.{CycleFits}

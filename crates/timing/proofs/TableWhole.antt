@@ -6,7 +6,7 @@ use Prim.Native.Nat.{ℕ, _+_, _≤_}
 use native.Mathlib.Omega.{arith}
 use lib.Dec.{eqb}
 use Rattle.bits.proofs.Truth.{cond-most}
-use Rattle.controller.specs.Records.{kindLv1, kindBadFast, kindBadSlow}
+use Rattle.records.specs.Records.{kindLv1, kindBadFast, kindBadSlow}
 use Rattle.timing.specs.Table.{kindBcr, kindEcr, kindSync, isLv1Kind, fastKinds, slowKinds, table13, distances, zerosAsked}
 
 -- The commands of Table 1-3, and what it does not speak of: a bad Fast and a bad Slow.

@@ -4,7 +4,7 @@ use mathlib.Core.Bool.{Bool, false, cond, _&&_, _||_}
 use mathlib.Core.List.{List, [], _∷_, _++_, map}
 use Prim.Native.Nat.{ℕ}
 use lib.Dec.{eqb}
-use Rattle.controller.specs.Records.{kindLv1, kindFast, kindSlow}
+use Rattle.records.specs.Records.{kindLv1, kindFast, kindSlow}
 
 abbrev pub kindBcr : ℕ
 kindBcr = kindFast 0b0001

@@ -5,10 +5,10 @@ ghost use Prim.Native.Nat.{_<_, _^_};
 ghost use Rattle.limits.specs.Limits.{clockLimit};
 ghost use Rattle.timing.specs.Table.{zerosAsked};
 ghost use Rattle.timing.specs.TooClose.{none, earlierOf, earlierBelow, cyclesBack, tooClose, flagged};
-use controller::KIND_FAST;
-use controller::KIND_LV1;
-use controller::KIND_SLOW;
-use controller::Record;
+use records::KIND_FAST;
+use records::KIND_LV1;
+use records::KIND_SLOW;
+use records::Record;
 
 // The earlier record: that of the command before, by its time and kind. Kind 0, which no record has, stands for none.
 pub struct Earlier {

@@ -3,7 +3,7 @@
 use mathlib.Core.Bool.{Bool, cond}
 use mathlib.Core.Path.{sym, ap, _∙_}
 use borrow.Author.Needs.{needs}
-use Rattle.controller.specs.Records.{kindOf, frameBitsOf}
+use Rattle.records.specs.Records.{kindOf, frameBitsOf}
 use Rattle.kernelstill.proofs.kernelstill_frame_bits.Statement.{statement}
 use Rattle.kernelstill.proofs.kernelstill_frame_bits.Tie as tie
 

@@ -4,7 +4,7 @@ use mathlib.Core.Bool.{Bool, true, false, _&&_}
 use mathlib.Core.Path.{_≡_, ap, sym, _∙_}
 use borrow.Author.Needs.{needs}
 use borrow.Author.Tests.{eq-eqb, ne-eqb, not-true, not-false}
-use Rattle.controller.specs.Records.{isFrameHead}
+use Rattle.records.specs.Records.{isFrameHead}
 use Rattle.listing.proofs.Records.{without-frame, with-frame}
 use Rattle.listing.proofs.put_record.Statement.{statement}
 use Rattle.listing.proofs.put_record.Tie as tie

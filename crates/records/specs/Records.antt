@@ -4,9 +4,9 @@ use mathlib.Core.Bool.{Bool, cond, _&&_}
 use mathlib.Core.List.{List, [], _∷_}
 use Prim.Native.Nat.{ℕ, _+_, _*_, _/_, _%_}
 use lib.Dec.{leb, eqb}
-use Rattle.controller.specs.declared.Cycle.{Cycle}
-use Rattle.controller.specs.declared.Cycle.the-variants.{Silent, Recorded}
-use Rattle.controller.specs.declared.Record.{Record}
+use Rattle.records.specs.declared.Cycle.{Cycle}
+use Rattle.records.specs.declared.Cycle.the-variants.{Silent, Recorded}
+use Rattle.records.specs.declared.Record.{Record}
 
 abbrev pub recordOf : ℕ → ℕ → ℕ → ℕ → Record
 recordOf time kind flags value = record { time = time; kind = kind; flags = flags; value = value }

@@ -4,9 +4,9 @@ use mathlib.Core.Path.{_≡_, sym, ap}
 use mathlib.Core.Bool.{_&&_}
 use native.Mathlib.Omega.{arith}
 use lib.Dec.{leb}
-use Rattle.controller.specs.Records.{kindOf, headOf}
-use Rattle.controller.proofs.Record.is_frame.Statement.{statement}
-use Rattle.controller.proofs.Record.is_frame.Tie as tie
+use Rattle.records.specs.Records.{kindOf, headOf}
+use Rattle.records.proofs.Record.is_frame.Statement.{statement}
+use Rattle.records.proofs.Record.is_frame.Tie as tie
 
 returns : tie.Need-returns
 returns c =

@@ -2,8 +2,8 @@
 -- Assumes nothing.
 use borrow.Author.Needs.{needs}
 use borrow.Author.Tests.{eq-eqb, ne-eqb}
-use Rattle.controller.proofs.frame_bits.Statement.{statement}
-use Rattle.controller.proofs.frame_bits.Tie as tie
+use Rattle.records.proofs.frame_bits.Statement.{statement}
+use Rattle.records.proofs.frame_bits.Tie as tie
 
 returns : tie.Need-returns
 returns c = simp (eq-eqb _ _ (c .if1 .taken))
