@@ -10,7 +10,7 @@ use Rattle.recogniser.specs.declared.Request.the-variants.{Nothing, Lv1, Fast, 
 use Rattle.registers.specs.declared.Model.{Model}
 use Rattle.registers.specs.declared.Plan.{Plan}
 use Rattle.registers.specs.Registers.{cntOf}
-use Rattle.controller.specs.declared.Acted.{Acted}
+use Rattle.triggers.specs.declared.Acted.{Acted}
 use Rattle.records.specs.declared.Record.{Record}
 use Rattle.records.specs.declared.Cycle.the-variants.{Silent, Recorded}
 use Rattle.records.specs.Records.{headOf, isFrameHead}

@@ -21,8 +21,9 @@ use Rattle.registers.specs.Registers.{feenOf, writtenOf, zeros16}
 use Rattle.registers.specs.Parts.{counters, pointers, zeroPointers}
 use Rattle.registers.specs.Fifos.{Fifos, movedOn, pushOf, writeOf}
 use Rattle.registers.proofs.WriteLoop.{fifos}
-use Rattle.controller.specs.declared.Acted.{Acted}
-use Rattle.controller.specs.Commands.{Effect, effect, lv1Counted, fastCounted, fastPointers, writeRegisterOf, readRegisterOf, writeFifoOf, readFifoOf}
+use Rattle.triggers.specs.declared.Acted.{Acted}
+use Rattle.triggers.specs.Triggers.{lv1Counted, fastCounted, fastPointers}
+use Rattle.controller.specs.Commands.{Effect, effect, writeRegisterOf, readRegisterOf, writeFifoOf, readFifoOf}
 use Rattle.controller.specs.Commands.{enableOf, resetOf, resetFrontEndsOf, commandOf, slowOf, actOf}
 use Rattle.controller.specs.Requests.{changesRegisters, changesRunning}
 

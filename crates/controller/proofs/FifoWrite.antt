@@ -11,7 +11,8 @@ use Rattle.registers.specs.Parts.{pointers, withPointers}
 use Rattle.registers.specs.Fifos.{writeOf}
 use Rattle.registers.proofs.WriteLoop.{fifos}
 use Rattle.records.specs.Records.{flagActed}
-use Rattle.controller.specs.Commands.{effect, recorded, slowRecord, writeFifoOf}
+use Rattle.triggers.specs.Triggers.{recorded}
+use Rattle.controller.specs.Commands.{effect, slowRecord, writeFifoOf}
 
 pub wrote : (plan : Plan) (m : Model) (value time : ℕ) (store w s : List ℕ)
     → fifos w s ≡ writeOf 16 0 (feenOf plan m) (value % 2 ^ 27) (fifos (m .pointers .writes) store)

@@ -1,5 +1,4 @@
 pub mod FifoWrite
-pub mod FastCases
 pub mod EffectCases
 pub mod EffectKeeps
 pub mod RecordStamps

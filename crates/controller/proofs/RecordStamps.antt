@@ -15,12 +15,13 @@ use Rattle.recogniser.specs.declared.Request.the-variants.{Nothing, Lv1, Fast, 
 use Rattle.registers.specs.declared.Plan.{Plan}
 use Rattle.registers.specs.declared.Model.{Model}
 use Rattle.registers.specs.Plan.{existsAt}
-use Rattle.controller.specs.declared.Acted.{Acted}
+use Rattle.triggers.specs.declared.Acted.{Acted}
 use Rattle.records.specs.declared.Cycle.{Cycle}
 use Rattle.records.specs.declared.Cycle.the-variants.{Silent, Recorded}
 use Rattle.records.specs.declared.Record.{Record}
 use Rattle.records.specs.Records.{recordOf, flagActed, flagFlip, flagSent}
-use Rattle.controller.specs.Commands.{hasFlip, sendsOf, slowOf, actOf}
+use Rattle.triggers.specs.Triggers.{hasFlip, sendsOf}
+use Rattle.controller.specs.Commands.{slowOf, actOf}
 use Rattle.controller.specs.Requests.{slowFits, requestFits}
 use Rattle.controller.proofs.EffectCases.{command-cases}
 

@@ -14,7 +14,7 @@ use Rattle.registers.specs.declared.Warnings.{Warnings}
 use Rattle.registers.specs.declared.Model.{Model}
 use Rattle.registers.specs.Plan.{existsAt}
 use Rattle.registers.specs.Registers.{cntOf, warningBits, readOf}
-use Rattle.controller.specs.declared.Acted.{Acted}
+use Rattle.triggers.specs.declared.Acted.{Acted}
 use Rattle.records.specs.declared.Cycle.{Cycle}
 use Rattle.records.specs.declared.Cycle.the-variants.{Silent, Recorded}
 use Rattle.controller.specs.Commands.{frameValueOf, slowOf, actOf}

@@ -4,29 +4,20 @@ ghost use mathlib.Core.Bool.{true};
 ghost use Prim.Native.Nat.{_<_};
 ghost use lib.ListN.{length};
 ghost use Rattle.limits.specs.Limits.{storeLength};
-ghost use Rattle.records.specs.Records.{recordOf};
-ghost use Rattle.controller.specs.Commands.{acted, recorded, bunchOf, lv1Of, fastOf, badFastOf, leaveOf, writeRegisterOf, readRegisterOf};
-ghost use Rattle.controller.specs.Commands.{writeFifoOf, readFifoOf, enableOf, resetOf, resetFrontEndsOf, badSlowOf, frameValueOf, frameOf};
+ghost use Rattle.triggers.specs.Triggers.{acted};
+ghost use Rattle.controller.specs.Commands.{leaveOf, writeRegisterOf, readRegisterOf, writeFifoOf, readFifoOf, enableOf, resetOf, resetFrontEndsOf};
+ghost use Rattle.controller.specs.Commands.{badSlowOf, frameValueOf, frameOf};
 ghost use Rattle.controller.specs.Commands.{commandOf, slowOf, actOf};
 ghost use Rattle.controller.specs.Requests.{requestFits, slowFits};
 use recogniser::Request;
 use recogniser::SlowRequest;
 use records::Cycle;
-use records::KIND_BAD_FAST;
 use records::KIND_BAD_SLOW;
-use records::KIND_FAST;
-use records::KIND_LV1;
 use records::KIND_SLOW;
-use records::Record;
-use registers::Counters;
 use registers::Model;
 use registers::Plan;
-use registers::Pointers;
-
-pub struct Acted {
-    pub model: Model,
-    pub cycle: Cycle,
-}
+use triggers::Acted;
+use triggers::FLAG_ACTED;
 
 // The values of Field 3 that are told apart here.
 const WR_REGISTER: u8 = 0;
@@ -45,33 +36,10 @@ const GLOBAL_RESET_MCC: u8 = 9;
 
 const GLOBAL_RESET_FE: u8 = 10;
 
-// The flags of a record, which are added; `timing` adds one more, 0x20.
-const FLAG_ACTED: u8 = 0x01;
-
-const FLAG_FLIP: u8 = 0x02;
-
-const FLAG_SENT: u8 = 0x04;
-
+// The flags of a record that a Slow alone has; `triggers` has the others, and `timing` adds one more, 0x20.
 const FLAG_MISSING: u8 = 0x08;
 
 const FLAG_UNSTEADY: u8 = 0x10;
-
-// A model with its record.
-fn answer(model: Model, time: u64, kind: u8, flags: u8, value: u64) -> Acted
-    ensures { λ r. ⌜ r ≡ recorded model (recordOf time kind flags value) ⌝ }
-{
-    Acted {
-        model: model,
-        cycle: Cycle::Recorded {
-            entry: Record {
-                time: time,
-                kind: kind,
-                flags: flags,
-                value: value,
-            },
-        },
-    }
-}
 
 // The value of a frame's record.
 fn frame_value(command: u8, cnt: u16) -> u64
@@ -84,15 +52,6 @@ fn frame_value(command: u8, cnt: u16) -> u64
     n % 8 * 8 * 65536 + n / 8
 }
 
-fn bunch(counters: Counters, time: u64) -> u64
-    ensures { λ r. ⌜ r ≡ bunchOf counters time ⌝ }
-{
-    if time < counters.base {
-        return 0;
-    }
-    (time - counters.base) % 256
-}
-
 // A cycle that writes no record and changes nothing here.
 fn silent(model: Model) -> Acted
     ensures { λ r. ⌜ r ≡ acted model Cycle.Silent ⌝ }
@@ -101,66 +60,6 @@ fn silent(model: Model) -> Acted
         model: model,
         cycle: Cycle::Silent,
     }
-}
-
-fn lv1(model: Model, plan: Plan, position: u8, time: u64) -> Acted
-    ensures { λ r. ⌜ r ≡ lv1Of plan model position time ⌝ }
-{
-    let flip = 0 < position;
-    let high = position as u64 * 65536;
-    let mut m = model;
-    let mut warnings = model.warnings;
-    warnings.wlv1 = warnings.wlv1 | flip;
-    m.warnings = warnings;
-    let flipped = registers::flag(flip, FLAG_FLIP);
-    if !model.running {
-        return answer(m, time, KIND_LV1, flipped, high);
-    }
-    let csr = model.register(plan.csr);
-    let sent = registers::flag(csr / 64 % 2 == 0, FLAG_SENT);
-    let mut counters = model.counters;
-    let low = counters.l1id as u64 * 256 + bunch(counters, time);
-    counters.l1id = ((counters.l1id as u16 + 1) % 256) as u8;
-    m.counters = counters;
-    answer(m, time, KIND_LV1, FLAG_ACTED + flipped + sent, high + low)
-}
-
-fn fast(model: Model, body: u8, time: u64) -> Acted
-    requires { ⌜ body < 16 ⌝ }
-    ensures { λ r. ⌜ r ≡ fastOf model body time ⌝ }
-{
-    let kind = KIND_FAST + body;
-    if !model.running {
-        return answer(model, time, kind, 0, 0);
-    }
-    let mut m = model;
-    let mut counters = model.counters;
-    if body == 0b0001 {
-        counters.base = time;
-        m.counters = counters;
-        return answer(m, time, kind, FLAG_ACTED, 0);
-    }
-    if body == 0b0010 {
-        counters.l1id = 0;
-        m.counters = counters;
-        let pointers = Pointers {
-            writes: [0u8; 16],
-            reads: [0u8; 16],
-        };
-        m.pointers = pointers;
-        return answer(m, time, kind, FLAG_ACTED, 0);
-    }
-    answer(model, time, kind, FLAG_ACTED, 0)
-}
-
-fn bad_fast(model: Model, body: u8, time: u64) -> Acted
-    ensures { λ r. ⌜ r ≡ badFastOf model body time ⌝ }
-{
-    let mut m = model;
-    let mut warnings = model.warnings;
-    warnings.wfst = true;
-    m.warnings = warnings;
-    answer(m, time, KIND_BAD_FAST, 0, body as u64)
 }
 
 // RunMode ends at the ninth header bit of any Slow, whatever the Slow turns out to be.
@@ -181,11 +80,11 @@ fn write_register(model: Model, plan: Plan, address: u8, value: u32, time: u64) 
     let bits = (value % 65536) as u16;
     let arrived = address as u64 * 65536 + bits as u64;
     if !plan.exists_at(address) {
-        return answer(model, time, KIND_SLOW + WR_REGISTER, FLAG_MISSING, arrived);
+        return triggers::answer(model, time, KIND_SLOW + WR_REGISTER, FLAG_MISSING, arrived);
     }
     let mut m = model;
     m.registers[address as usize] = plan.stored(address, bits);
-    answer(m, time, KIND_SLOW + WR_REGISTER, FLAG_ACTED, arrived)
+    triggers::answer(m, time, KIND_SLOW + WR_REGISTER, FLAG_ACTED, arrived)
 }
 
 fn read_register(model: Model, plan: Plan, address: u8, time: u64) -> Acted
@@ -193,10 +92,10 @@ fn read_register(model: Model, plan: Plan, address: u8, time: u64) -> Acted
 {
     let asked = address as u64 * 65536;
     if !plan.exists_at(address) {
-        return answer(model, time, KIND_SLOW + RD_REGISTER, FLAG_MISSING, asked);
+        return triggers::answer(model, time, KIND_SLOW + RD_REGISTER, FLAG_MISSING, asked);
     }
     let value = model.read(plan, address);
-    answer(
+    triggers::answer(
         model,
         time,
         KIND_SLOW + RD_REGISTER,
@@ -217,7 +116,7 @@ fn write_fifo(model: Model, plan: Plan, value: u32, time: u64, store: &mut [u32]
     pointers.writes = moved;
     let mut m = model;
     m.pointers = pointers;
-    answer(m, time, KIND_SLOW + WR_FIFO, FLAG_ACTED, word as u64)
+    triggers::answer(m, time, KIND_SLOW + WR_FIFO, FLAG_ACTED, word as u64)
 }
 
 fn read_fifo(model: Model, address: u8, time: u64, store: &[u32]) -> Acted
@@ -232,7 +131,7 @@ fn read_fifo(model: Model, address: u8, time: u64, store: &[u32]) -> Acted
     let mut m = model;
     m.pointers = pointers;
     let value = n as u64 * registers::WORD as u64 + word as u64;
-    answer(m, time, KIND_SLOW + RD_FIFO, FLAG_ACTED, value)
+    triggers::answer(m, time, KIND_SLOW + RD_FIFO, FLAG_ACTED, value)
 }
 
 // RunMode starts at the end of EnDataTake.
@@ -241,7 +140,7 @@ fn enable(model: Model, time: u64) -> Acted
 {
     let mut m = model;
     m.running = true;
-    answer(m, time, KIND_SLOW + EN_DATA_TAKE, FLAG_ACTED, 0)
+    triggers::answer(m, time, KIND_SLOW + EN_DATA_TAKE, FLAG_ACTED, 0)
 }
 
 // All but RunMode starts anew, and the bunch number counts from here.
@@ -249,14 +148,14 @@ fn reset(model: Model, time: u64) -> Acted
     ensures { λ r. ⌜ r ≡ resetOf model time ⌝ }
 {
     let m = Model::cleared(model.running, time);
-    answer(m, time, KIND_SLOW + GLOBAL_RESET_MCC, FLAG_ACTED, 0)
+    triggers::answer(m, time, KIND_SLOW + GLOBAL_RESET_MCC, FLAG_ACTED, 0)
 }
 
 fn reset_front_ends(model: Model, value: u32, time: u64) -> Acted
     ensures { λ r. ⌜ r ≡ resetFrontEndsOf model value time ⌝ }
 {
     let told = (value % 16 * 2 + 1) as u64;
-    answer(model, time, KIND_SLOW + GLOBAL_RESET_FE, FLAG_ACTED, told)
+    triggers::answer(model, time, KIND_SLOW + GLOBAL_RESET_FE, FLAG_ACTED, told)
 }
 
 fn bad_slow(model: Model, command: u8, time: u64) -> Acted
@@ -266,7 +165,7 @@ fn bad_slow(model: Model, command: u8, time: u64) -> Acted
     let mut warnings = model.warnings;
     warnings.wslw = true;
     m.warnings = warnings;
-    answer(m, time, KIND_BAD_SLOW, 0, command as u64)
+    triggers::answer(m, time, KIND_BAD_SLOW, 0, command as u64)
 }
 
 fn frame(model: Model, plan: Plan, command: u8, unsteady: bool, time: u64) -> Acted
@@ -275,7 +174,7 @@ fn frame(model: Model, plan: Plan, command: u8, unsteady: bool, time: u64) -> Ac
 {
     let value = frame_value(command, model.cnt(plan));
     let flags = FLAG_ACTED + registers::flag(unsteady, FLAG_UNSTEADY);
-    answer(model, time, KIND_SLOW + command, flags, value)
+    triggers::answer(model, time, KIND_SLOW + command, flags, value)
 }
 
 // A Slow command that carries no frame, by Field 3.
@@ -336,9 +235,9 @@ pub fn act(model: Model, plan: Plan, request: Request, time: u64, store: &mut [u
 {
     match request {
         Request::Nothing => silent(model),
-        Request::Lv1 { position } => lv1(model, plan, position, time),
-        Request::Fast { body } => fast(model, body, time),
-        Request::BadFast { body } => bad_fast(model, body, time),
+        Request::Lv1 { position } => triggers::lv1(model, plan, position, time),
+        Request::Fast { body } => triggers::fast(model, body, time),
+        Request::BadFast { body } => triggers::bad_fast(model, body, time),
         Request::Slow { slow: s } => slow(model, plan, s, time, store),
     }
 }

@@ -27,7 +27,8 @@ use Rattle.registers.specs.declared.Model.{Model}
 use Rattle.records.specs.declared.Cycle.{Cycle}
 use Rattle.records.specs.declared.Record.{Record}
 use Rattle.records.specs.Records.{wordsOf, recordWords}
-use Rattle.controller.specs.Commands.{sendsOf, actOf, lv1Record, fastRecord, badFastRecord, fastEffect}
+use Rattle.triggers.specs.Triggers.{sendsOf, lv1Record, fastRecord, badFastRecord, fastEffect}
+use Rattle.controller.specs.Commands.{actOf}
 use Rattle.controller.specs.Requests.{requestFits}
 use Rattle.timing.specs.declared.Earlier.{Earlier}
 use Rattle.timing.specs.TooClose.{earlierOf, flagged, flaggedCycle, earlierAfter}

@@ -9,7 +9,7 @@ use Rattle.recogniser.specs.declared.Request.{Request}
 use Rattle.recogniser.specs.declared.Request.the-variants.{Nothing, Lv1, Fast, BadFast, Slow}
 use Rattle.registers.specs.declared.Counters.{Counters}
 use Rattle.records.specs.declared.Record.{Record}
-use Rattle.controller.specs.Commands.{sendsOf, lv1Record, lv1Counted, fastRecord, fastCounted, badFastRecord}
+use Rattle.triggers.specs.Triggers.{sendsOf, lv1Record, lv1Counted, fastRecord, fastCounted, badFastRecord}
 use Rattle.timing.specs.declared.Earlier.{Earlier}
 use Rattle.timing.specs.TooClose.{earlierOf, flagged}
 use Rattle.decoder.specs.declared.Decoder.{Decoder}

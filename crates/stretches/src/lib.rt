@@ -10,11 +10,11 @@ ghost use Rattle.stretches.specs.Stretch.{isQuiet, stretched, huntOn, bo
 ghost use Rattle.stretches.specs.Walk.{Reaches, walkOf};
 use bits::Cursor;
 use recogniser::Event;
-use windows::Meaning;
 use recogniser::Phase;
 use recogniser::Recogniser;
 use recogniser::Request;
 use recogniser::Transition;
+use windows::Meaning;
 
 // How many cycles, the recogniser after them, and what the last of them asks for.
 pub struct Stretch {

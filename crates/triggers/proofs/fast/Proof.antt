@@ -4,9 +4,9 @@ use mathlib.Core.Bool.{true}
 use mathlib.Core.Path.{_≡_}
 use borrow.Author.Tests.{ne-eqb, not-true, not-false}
 use borrow.Author.Needs.{needs}
-use Rattle.controller.proofs.FastCases.{unchanged}
-use Rattle.controller.proofs.fast.Statement.{statement}
-use Rattle.controller.proofs.fast.Tie as tie
+use Rattle.triggers.proofs.FastCases.{unchanged}
+use Rattle.triggers.proofs.fast.Statement.{statement}
+use Rattle.triggers.proofs.fast.Tie as tie
 
 -- Past the first test RunMode is on.
 running : (c : tie.Else1) → c .before .before .args .model .running ≡ true

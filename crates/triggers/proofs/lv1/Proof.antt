@@ -4,8 +4,8 @@ use Prim.Native.Nat.{_^_, _<_}
 use native.Mathlib.Nat.{zero-add, add-zero, mod-eq-of-lt}
 use borrow.Author.Tests.{not-true, not-false}
 use borrow.Author.Needs.{needs}
-use Rattle.controller.proofs.lv1.Statement.{statement}
-use Rattle.controller.proofs.lv1.Tie as tie
+use Rattle.triggers.proofs.lv1.Statement.{statement}
+use Rattle.triggers.proofs.lv1.Tie as tie
 
 mul-high : tie.Need-mul-high
 mul-high c = search needs

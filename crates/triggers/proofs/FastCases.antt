@@ -7,7 +7,7 @@ use lib.Dec.{eqb}
 use Rattle.registers.specs.declared.Model.{Model}
 use Rattle.registers.specs.Parts.{counters, zeroPointers, withCounters, withPointers}
 use Rattle.records.specs.Records.{recordOf, kindFast}
-use Rattle.controller.specs.Commands.{recorded, fastRecord, fastOf}
+use Rattle.triggers.specs.Triggers.{recorded, fastRecord, fastOf}
 
 pub unchanged : (m : Model) (body time : ℕ) → m .running ≡ true → eqb body 0b0001 ≡ false → eqb body 0b0010 ≡ false
     → recorded m (recordOf time (kindFast body) 1 0) ≡ fastOf m body time
