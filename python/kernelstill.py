@@ -77,7 +77,7 @@ __all__ = [
     "hex_line",
 ]
 
-__version__ = "1.7.0"
+__version__ = "1.7.1"
 
 # As kernelstill.h has them.
 CLOCK_LIMIT = 1 << 48

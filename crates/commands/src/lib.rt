@@ -57,7 +57,7 @@ fn help(name: &[u8], prints: &[u8]) -> u8
 fn version(name: &[u8]) -> u8
     ensures { λ r. ⌜ IsStatus r ⌝ }
 {
-    let whole = print(print(true, name), b" (Kernelstill) 1.7.0\n");
+    let whole = print(print(true, name), b" (Kernelstill) 1.7.1\n");
     printed(name, whole)
 }
 
