@@ -1,8 +1,7 @@
 -- The image in numbers and names, as the header has it.
 -- Assumes nothing.
 use mathlib.Core.Path.{_≡_}
-use mathlib.Core.List.{List, [], _∷_, _++_, map}
-use Prim.Native.String.{String}
+use mathlib.Core.List.{[], _∷_, _++_, map}
 use lib.ListN.{replicate}
 use Rattle.image_fields.specs.Fields.{whole, bits, upTo, fields, nameOf}
 use Rattle.image_fields.specs.Image.{layout, wordLimits, imageLength}
