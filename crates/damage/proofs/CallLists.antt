@@ -24,8 +24,8 @@ use Rattle.calls.specs.Turn.{System, decoderOf, cntAt, turnOf}
 use Rattle.calls.specs.Take.{Call, takeOf, lent}
 use Rattle.calls.specs.Calls.{bitsTaken, wordsStanding, allBits, allWords, stateLeft}
 use Rattle.calls.proofs.CallLists.{call-kept}
-use Rattle.damage.specs.Commands.{Command, widthOf}
-use Rattle.damage.specs.CleanStreams.{Item, itemSize, streamBits, timed}
+use Rattle.clean_streams.specs.Commands.{Command, widthOf}
+use Rattle.clean_streams.specs.CleanStreams.{Item, itemSize, streamBits, timed}
 use Rattle.damage.specs.Table.{Replacement, itself}
 use Rattle.damage.specs.Hits.{HitCycles, invertedAt, standsIn, apartByItems}
 use Rattle.damage.specs.Traces.{requestsOf, recogniserAfter, quiet, spread, itemTrace, cleanTrace, hitTrace}

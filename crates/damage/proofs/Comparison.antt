@@ -11,8 +11,9 @@ use Rattle.bits.proofs.Truth.{cases, cond-left, cond-statement}
 use Rattle.records.specs.declared.Record.{Record}
 use Rattle.timing.specs.Table.{kindBcr, kindEcr}
 use Rattle.timing.specs.TooClose.{earlierBelow, tooClose, flagTooClose}
-use Rattle.damage.specs.Commands.{Command, lv1, bcr, ecr, cal, sync, commandKind, requestOf}
-use Rattle.damage.specs.CleanStreams.{Item, itemSize, spaced, timed}
+use Rattle.clean_streams.specs.Commands.{Command, lv1, bcr, ecr, cal, sync, commandKind}
+use Rattle.damage.specs.Requests.{requestOf}
+use Rattle.clean_streams.specs.CleanStreams.{Item, itemSize, spaced, timed}
 use Rattle.damage.specs.Table.{Replacement, itself, damage, affected, hitOf, replacementOf}
 use Rattle.damage.specs.Hits.{HitCycles, affectedBy, standsIn}
 use Rattle.damage.specs.Records.{Ahead, requestRecords, aheadAfter, lastCycle, itemRecords, itemAhead, cleanRecords, cleanAhead}

@@ -9,8 +9,8 @@ use native.Mathlib.Omega.{arith}
 use lib.Dec.{T}
 use borrow.Author.Tests.{lt-ltb, ltb-true}
 use Rattle.bits.proofs.Truth.{clash, cases, both}
-use Rattle.damage.specs.Commands.{Command}
-use Rattle.damage.specs.CleanStreams.{Item, itemSize}
+use Rattle.clean_streams.specs.Commands.{Command}
+use Rattle.clean_streams.specs.CleanStreams.{Item, itemSize}
 use Rattle.damage.specs.Table.{Replacement, itself, affected, replacementOf}
 use Rattle.damage.specs.Hits.{HitCycles, firstBelow, affecting, affectedBy, standsIn}
 use Rattle.damage.proofs.Replacements.{Passes, own-passes, replacement-passes}

@@ -9,7 +9,7 @@ use native.Mathlib.Nat.{le-of-suc-le-suc, not-suc-le-zero}
 use native.Mathlib.Omega.{arith}
 use lib.ListN.{length}
 use Rattle.bits.proofs.Truth.{clash, cases}
-use Rattle.damage.specs.CleanStreams.{inverted}
+use Rattle.damage.specs.Inverted.{inverted}
 use Rattle.damage.specs.Hits.{HitCycles, invertedAt, hitsIn}
 
 -- Of m bits from cycle n on those are inverted that pass a test.

@@ -10,8 +10,8 @@ use lib.ListN.{length, length-replicate}
 use Rattle.bits.proofs.Truth.{cases, and-left, and-right}
 use Rattle.recogniser.specs.declared.Recogniser.{Recogniser}
 use Rattle.recogniser.specs.Parts.{idle}
-use Rattle.damage.specs.Commands.{Command}
-use Rattle.damage.specs.CleanStreams.{Item, zeros, zerosBetween, itemBits, itemSize, streamBits, spaced, timed}
+use Rattle.clean_streams.specs.Commands.{Command}
+use Rattle.clean_streams.specs.CleanStreams.{Item, zeros, zerosBetween, itemBits, itemSize, streamBits, spaced, timed}
 use Rattle.damage.specs.Table.{itself, affected}
 use Rattle.damage.specs.Hits.{HitCycles, invertedAt, affectedBy, hitsIn, apartByItems}
 use Rattle.damage.specs.Traces.{requestsOf, itemTrace, hitTrace}

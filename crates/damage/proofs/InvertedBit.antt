@@ -17,11 +17,12 @@ use Rattle.recogniser.specs.declared.Recogniser.{Recogniser}
 use Rattle.recogniser.specs.declared.Phase.the-variants.{Hunt}
 use Rattle.recogniser.specs.Parts.{idle, startOf}
 use Rattle.recogniser.specs.Step.{stepOf}
-use Rattle.damage.specs.Commands.{Command, lv1, bcr, ecr, cal, sync, codeOf, widthOf, isFastCommand}
-use Rattle.damage.specs.CleanStreams.{Item, zeros, itemBits, itemSize, inverted}
+use Rattle.clean_streams.specs.Commands.{Command, lv1, bcr, ecr, cal, sync, codeOf, widthOf, isFastCommand}
+use Rattle.clean_streams.specs.CleanStreams.{Item, zeros, itemBits, itemSize}
+use Rattle.damage.specs.Inverted.{inverted}
 use Rattle.damage.specs.Table.{ownBit, zeroAhead, damage, itself, hitsFast, affected, replacementOf}
 use Rattle.damage.specs.Traces.{requestsOf, recogniserAfter, quiet, spread, itemTrace}
-use Rattle.damage.proofs.FiniteFacts.{each-at}
+use Rattle.clean_streams.proofs.FiniteFacts.{each-at}
 use Rattle.damage.proofs.TracesJoined.{Shows, chain}
 use Rattle.damage.proofs.Replacements.{zeroDamage, replacement-cases}
 use Rattle.damage.proofs.Recovery.{shownBy, shouldShow, Resumes, Settles, empty-resumes, idling, trailing, late}

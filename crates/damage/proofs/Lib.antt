@@ -1,4 +1,3 @@
-pub mod FiniteFacts
 pub mod TablesWhole
 pub mod StreamBits
 pub mod TracesJoined

@@ -10,7 +10,8 @@ use lib.Dec.{eqb, ltb, ltb→lt, nltb→le}
 use lib.ListN.{length}
 use borrow.Author.Tests.{eqb-true, eq-eqb, ne-eqb}
 use Rattle.bits.proofs.Truth.{cases, clash, holds-true, cond-case}
-use Rattle.damage.specs.CleanStreams.{Item, itemSize, inverted}
+use Rattle.clean_streams.specs.CleanStreams.{Item, itemSize}
+use Rattle.damage.specs.Inverted.{inverted}
 use Rattle.damage.specs.Table.{Replacement, itself, replacementOf}
 use Rattle.damage.specs.Hits.{HitCycles, invertedAt, standsIn, Apart}
 use Rattle.damage.specs.Records.{Ahead, itemRecords, itemAhead, cleanRecords, replacementRecords, replacementAhead, damagedRecords, hitRecords}

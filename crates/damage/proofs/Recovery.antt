@@ -14,11 +14,11 @@ use Rattle.recogniser.specs.declared.Request.the-variants.{Nothing}
 use Rattle.recogniser.specs.declared.Recogniser.{Recogniser}
 use Rattle.recogniser.specs.Parts.{idle}
 use Rattle.recogniser.specs.Step.{stepOf}
-use Rattle.damage.specs.Commands.{Command, codeOf}
-use Rattle.damage.specs.CleanStreams.{Item, zeros, zerosBetween, itemBits, streamBits}
+use Rattle.clean_streams.specs.Commands.{Command, codeOf}
+use Rattle.clean_streams.specs.CleanStreams.{Item, zeros, zerosBetween, itemBits, streamBits}
 use Rattle.damage.specs.Table.{itself}
 use Rattle.damage.specs.Traces.{requestsOf, recogniserAfter, quiet, commandTrace, itemTrace, cleanTrace}
-use Rattle.damage.proofs.FiniteFacts.{each, each-at}
+use Rattle.clean_streams.proofs.FiniteFacts.{each, each-at}
 use Rattle.damage.proofs.TracesJoined.{Shows, chain, onward}
 
 -- What a recogniser shows over a few zeros, over five, and over each command behind a few more zeros than the timing table asks after c.

@@ -7,10 +7,10 @@ use native.Mathlib.Omega.{arith}
 use lib.Dec.{ltb, T, ltb→lt, leb→le, nltb→le}
 use Rattle.bits.proofs.Truth.{true-holds, and-right, cond-case}
 use Rattle.bits.proofs.Below.{below, below-at}
-use Rattle.damage.specs.Commands.{Command, widthOf, isFastCommand}
-use Rattle.damage.specs.CleanStreams.{Item, itemSize}
+use Rattle.clean_streams.specs.Commands.{Command, widthOf, isFastCommand}
+use Rattle.clean_streams.specs.CleanStreams.{Item, itemSize}
 use Rattle.damage.specs.Table.{ownBit, zeroAhead, Replacement, damage, hitsFast, itself, affected, replacementOf}
-use Rattle.damage.proofs.FiniteFacts.{each, each-at}
+use Rattle.clean_streams.proofs.FiniteFacts.{each, each-at}
 
 -- what stands in a command's place for a zero so far ahead of it
 abbrev pub zeroDamage : Command → ℕ → Replacement

@@ -10,7 +10,7 @@ use lib.Dec.{ltb, leb, T, leb→le, le→leb, ltb→lt}
 use lib.ListN.{length, length-replicate}
 use borrow.Author.Tests.{ltb-true, ltb-false}
 use Rattle.bits.proofs.Truth.{clash, cases, and-both, and-left, and-right, holds-true, true-holds, cond-case}
-use Rattle.damage.specs.CleanStreams.{Item, zeros, itemSize, streamBits}
+use Rattle.clean_streams.specs.CleanStreams.{Item, zeros, itemSize, streamBits}
 use Rattle.damage.specs.Table.{affected, hitsFast}
 use Rattle.damage.specs.Hits.{HitCycles, affecting, affectedBy, Spared, SomeSpared, Apart, hitsIn, apartByItems}
 use Rattle.damage.proofs.StreamBits.{stream-length}

@@ -17,12 +17,13 @@ use Rattle.timing.specs.Table.{zerosAsked}
 use Rattle.timing.specs.TooClose.{isNone, earlierBelow, cyclesBack, tooClose}
 use Rattle.timing.proofs.Distance.{without-subtraction}
 use Rattle.timing.proofs.TableWhole.{asked-most}
-use Rattle.damage.specs.Commands.{Command, lv1, bcr, ecr, cal, sync, widthOf, commandKind, requestOf}
-use Rattle.damage.specs.CleanStreams.{Item, itemSize, zerosBetween, spaced, timed}
+use Rattle.clean_streams.specs.Commands.{Command, lv1, bcr, ecr, cal, sync, widthOf, commandKind}
+use Rattle.damage.specs.Requests.{requestOf}
+use Rattle.clean_streams.specs.CleanStreams.{Item, itemSize, zerosBetween, spaced, timed}
 use Rattle.damage.specs.Table.{Replacement, nothing, at}
 use Rattle.damage.specs.Records.{Ahead, requestRecords, aheadAfter, lastCycle, itemAhead, cleanRecords, replacementAhead}
 use Rattle.damage.specs.Comparison.{InTime, OnlyFirst}
-use Rattle.damage.proofs.FiniteFacts.{each-at}
+use Rattle.clean_streams.proofs.FiniteFacts.{each-at}
 use Rattle.damage.proofs.Replacements.{Passes}
 
 -- A record's length is its command's.

@@ -10,10 +10,10 @@ use lib.ListN.{length, length-append, length-replicate}
 use borrow.Author.Tests.{ltb-true}
 use Rattle.bits.proofs.Truth.{and-both, and-left, and-right, cond-case}
 use Rattle.bits.proofs.BitRanges.{binary, binary-append}
-use Rattle.damage.specs.Commands.{Command, lv1, bcr, ecr, cal, sync, codeOf, widthOf}
-use Rattle.damage.specs.CleanStreams.{Item, zeros, zerosBetween, itemBits, itemSize, streamBits, spaced, timed}
+use Rattle.clean_streams.specs.Commands.{Command, lv1, bcr, ecr, cal, sync, codeOf, widthOf}
+use Rattle.clean_streams.specs.CleanStreams.{Item, zeros, zerosBetween, itemBits, itemSize, streamBits, spaced, timed}
 use Rattle.damage.specs.Hits.{HitCycles, invertedAt}
-use Rattle.damage.proofs.FiniteFacts.{each-at}
+use Rattle.clean_streams.proofs.FiniteFacts.{each-at}
 
 zeros-binary : (n : ℕ) → T (binary (zeros n))
 zeros-binary zero = tt

@@ -4,9 +4,9 @@ use mathlib.Core.Path.{_≡_, refl}
 use mathlib.Core.List.{map}
 use Prim.Native.Nat.{suc}
 use Rattle.bits.proofs.Below.{below}
-use Rattle.damage.specs.Commands.{Command, fasts, widthOf}
+use Rattle.clean_streams.specs.Commands.{Command, fasts, widthOf}
 use Rattle.damage.specs.Table.{ownBit, zeroAhead, table, rowsFor}
-use Rattle.damage.proofs.FiniteFacts.{each-at}
+use Rattle.clean_streams.proofs.FiniteFacts.{each-at}
 
 -- every bit of every command has one row of the damage table, and so has each of the two zeros ahead of a Fast
 pub rows : (c : Command) → below (widthOf c) (λ k. rowsFor table c (ownBit (suc k))) ≡ below (widthOf c) (λ k. 1)

@@ -10,8 +10,8 @@ use lib.ListN.{length}
 use Rattle.bits.proofs.Truth.{and-left, and-right}
 use Rattle.recogniser.specs.declared.Request.{Request}
 use Rattle.records.specs.declared.Record.{Record}
-use Rattle.damage.specs.Commands.{Command, widthOf}
-use Rattle.damage.specs.CleanStreams.{Item, itemSize}
+use Rattle.clean_streams.specs.Commands.{Command, widthOf}
+use Rattle.clean_streams.specs.CleanStreams.{Item, itemSize}
 use Rattle.damage.specs.Table.{Replacement, nothing, at, itself}
 use Rattle.damage.specs.Hits.{HitCycles, standsIn}
 use Rattle.damage.specs.Traces.{quiet, spread, cleanTrace, hitTrace}

@@ -10,8 +10,8 @@ use Rattle.registers.specs.declared.Counters.{Counters}
 use Rattle.records.specs.Records.{kindLv1}
 use Rattle.records.specs.declared.Record.{Record}
 use Rattle.timing.specs.Table.{kindBcr, kindEcr}
-use Rattle.damage.specs.Commands.{commandKind}
-use Rattle.damage.specs.CleanStreams.{Item, itemSize}
+use Rattle.clean_streams.specs.Commands.{commandKind}
+use Rattle.clean_streams.specs.CleanStreams.{Item, itemSize}
 use Rattle.damage.specs.Table.{affected, replacementOf}
 use Rattle.damage.specs.Hits.{HitCycles, affectedBy, standsIn}
 use Rattle.damage.specs.Records.{Ahead, itemRecords, itemAhead, cleanRecords, replacementRecords, hitAfter}

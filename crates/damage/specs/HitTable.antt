@@ -10,8 +10,8 @@ use Rattle.recogniser.specs.Parts.{idle}
 use Rattle.records.specs.Records.{recordWords}
 use Rattle.timing.specs.Table.{kindBcr, kindEcr}
 use Rattle.timing.specs.TooClose.{none}
-use Rattle.damage.specs.Commands.{Command, lv1, bcr, ecr, cal, sync}
-use Rattle.damage.specs.CleanStreams.{Item, itemSize, streamBits, timed}
+use Rattle.clean_streams.specs.Commands.{Command, lv1, bcr, ecr, cal, sync}
+use Rattle.clean_streams.specs.CleanStreams.{Item, itemSize, streamBits, timed}
 use Rattle.damage.specs.Hits.{HitCycles, invertedAt, apartByItems}
 use Rattle.damage.specs.Traces.{requestsOf}
 use Rattle.damage.specs.Records.{Ahead, ahead, cleanRecords, hitRecords, performed}

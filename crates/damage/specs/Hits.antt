@@ -6,7 +6,7 @@ use mathlib.Core.Logic.{_⊎_}
 use Prim.Native.Nat.{ℕ, zero, suc, _+_, _-_, _<_, _≤_}
 use lib.Dec.{ltb, leb, T}
 use lib.ListN.{length}
-use Rattle.damage.specs.CleanStreams.{Item, itemSize, streamBits}
+use Rattle.clean_streams.specs.CleanStreams.{Item, itemSize, streamBits}
 use Rattle.damage.specs.Table.{Replacement, itself, damage, affected, hitOf}
 
 -- Which bits are inverted: for each cycle, whether its bit is.

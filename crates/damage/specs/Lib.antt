@@ -1,5 +1,5 @@
-pub mod Commands
-pub mod CleanStreams
+pub mod Requests
+pub mod Inverted
 pub mod Table
 pub mod Hits
 pub mod Traces

@@ -13,8 +13,9 @@ use Rattle.triggers.specs.Triggers.{sendsOf, lv1Record, lv1Counted, fastRecord,
 use Rattle.timing.specs.declared.Earlier.{Earlier}
 use Rattle.timing.specs.TooClose.{earlierOf, flagged}
 use Rattle.decoder.specs.declared.Decoder.{Decoder}
-use Rattle.damage.specs.Commands.{widthOf, requestOf}
-use Rattle.damage.specs.CleanStreams.{Item, itemSize}
+use Rattle.clean_streams.specs.Commands.{widthOf}
+use Rattle.damage.specs.Requests.{requestOf}
+use Rattle.clean_streams.specs.CleanStreams.{Item, itemSize}
 use Rattle.damage.specs.Table.{Replacement, nothing, at, replacementOf}
 use Rattle.damage.specs.Hits.{HitCycles, standsIn}
 

@@ -8,8 +8,10 @@ use lib.ListN.{drop}
 use Rattle.bits.specs.Bits.{numberOf}
 use Rattle.recogniser.specs.declared.Request.{Request}
 use Rattle.recogniser.specs.declared.Request.the-variants.{Lv1, BadFast}
-use Rattle.damage.specs.Commands.{Command, lv1, bcr, ecr, cal, sync, fasts, among, codeOf, widthOf, isFastCommand, requestOf}
-use Rattle.damage.specs.CleanStreams.{Item, inverted}
+use Rattle.clean_streams.specs.Commands.{Command, lv1, bcr, ecr, cal, sync, fasts, among, codeOf, widthOf, isFastCommand}
+use Rattle.damage.specs.Requests.{requestOf}
+use Rattle.clean_streams.specs.CleanStreams.{Item}
+use Rattle.damage.specs.Inverted.{inverted}
 
 -- Which bit is inverted, seen from a command: one of its own, counted from 1, or a zero so many cycles ahead of it.
 pub data Hit : Type 0 where

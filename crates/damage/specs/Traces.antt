@@ -7,8 +7,8 @@ use Rattle.recogniser.specs.declared.Request.{Request}
 use Rattle.recogniser.specs.declared.Request.the-variants.{Nothing}
 use Rattle.recogniser.specs.declared.Recogniser.{Recogniser}
 use Rattle.recogniser.specs.Step.{stepOf}
-use Rattle.damage.specs.Commands.{Command, widthOf}
-use Rattle.damage.specs.CleanStreams.{Item, itemSize}
+use Rattle.clean_streams.specs.Commands.{Command, widthOf}
+use Rattle.clean_streams.specs.CleanStreams.{Item, itemSize}
 use Rattle.damage.specs.Table.{Replacement, nothing, at, itself}
 use Rattle.damage.specs.Hits.{HitCycles, standsIn}
 

@@ -7,7 +7,7 @@ use lib.ListN.{length}
 use Rattle.decoder.specs.declared.Decoder.{Decoder}
 use Rattle.decoder.proofs.Soundness.{sound-parts}
 use Rattle.records.specs.Records.{recordWords}
-use Rattle.damage.specs.CleanStreams.{Item, streamBits}
+use Rattle.clean_streams.specs.CleanStreams.{Item, streamBits}
 use Rattle.damage.specs.Records.{aheadOf, sends}
 use Rattle.damage.proofs.Comparison.{replaced}
 use Rattle.damage.proofs.OneHit.{oneHit, one-inverted, one-apart, one-records}

@@ -25,7 +25,7 @@ use Rattle.image_fields.proofs.RoundTrip.{image-fits, read-back}
 use Rattle.image_fields.proofs.WellFormed.{read-again, read-widths}
 use Rattle.kernelstill.specs.Take.{TakeResult, resultLength, answered, soundImage, takeResultOf}
 use Rattle.kernelstill.proofs.WidthsKept.{model-widths, widths-kept}
-use Rattle.damage.specs.CleanStreams.{Item, streamBits}
+use Rattle.clean_streams.specs.CleanStreams.{Item, streamBits}
 use Rattle.damage.specs.Hits.{HitCycles}
 use Rattle.damage.proofs.StreamBits.{item-some, stream-length}
 use Rattle.damage.proofs.OneHit.{oneHit, one-apart}

@@ -4,7 +4,7 @@ use mathlib.Core.Path.{_∙_, refl, sym, ap}
 use mathlib.Core.Bool.{false}
 use Rattle.decoder.proofs.Soundness.{sound-parts}
 use Rattle.calls.proofs.BitCalls.{callsFor, calls-take}
-use Rattle.damage.specs.CleanStreams.{streamBits}
+use Rattle.clean_streams.specs.CleanStreams.{streamBits}
 use Rattle.damage.specs.Hits.{invertedAt}
 use Rattle.damage.specs.Records.{Ahead, aheadOf, sends}
 use Rattle.damage.proofs.Separation.{by-items, by-pairs}

@@ -14,7 +14,8 @@ use Rattle.decoder.specs.Sound.{soundOf}
 use Rattle.records.specs.Records.{recordWords}
 use Rattle.calls.specs.Take.{Call}
 use Rattle.calls.specs.Calls.{allBits, allWords}
-use Rattle.damage.specs.CleanStreams.{Item, streamBits, timed, inverted}
+use Rattle.clean_streams.specs.CleanStreams.{Item, streamBits, timed}
+use Rattle.damage.specs.Inverted.{inverted}
 use Rattle.damage.specs.Records.{aheadOf, sends, cleanRecords, damagedRecords}
 use Rattle.damage.specs.Comparison.{OnlyFirst, Replaced}
 

@@ -12,7 +12,7 @@ use Rattle.records.specs.Records.{recordWords}
 use Rattle.timing.specs.Table.{kindBcr, kindEcr}
 use Rattle.calls.specs.Take.{Call}
 use Rattle.calls.specs.Calls.{allBits, allWords, stateLeft}
-use Rattle.damage.specs.CleanStreams.{Item, streamBits}
+use Rattle.clean_streams.specs.CleanStreams.{Item, streamBits}
 use Rattle.damage.specs.Hits.{HitCycles, invertedAt, Apart, apartByItems}
 use Rattle.damage.specs.Records.{aheadOf, sends, cleanRecords, cleanAhead, hitRecords, hitAhead}
 use Rattle.damage.specs.Comparison.{OnlyFirst, Beside, SameCounters, mayDifferAfter}

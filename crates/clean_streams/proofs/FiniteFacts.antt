@@ -2,7 +2,7 @@
 -- Assumes nothing.
 use mathlib.Core.Path.{_≡_}
 use mathlib.Core.List.{List, [], _∷_}
-use Rattle.damage.specs.Commands.{Command, lv1, bcr, ecr, cal, sync}
+use Rattle.clean_streams.specs.Commands.{Command, lv1, bcr, ecr, cal, sync}
 
 module _ {A : Type 0} where
   -- the values at each command

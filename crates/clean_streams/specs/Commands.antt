@@ -5,8 +5,6 @@ use mathlib.Core.List.{List, [], _∷_, _++_}
 use Prim.Native.Nat.{ℕ}
 use lib.Dec.{eqb}
 use lib.ListN.{length}
-use Rattle.recogniser.specs.declared.Request.{Request}
-use Rattle.recogniser.specs.declared.Request.the-variants.{Lv1, Fast}
 use Rattle.records.specs.Records.{kindLv1}
 use Rattle.timing.specs.Table.{kindBcr, kindEcr, kindCal, kindSync}
 
@@ -58,11 +56,3 @@ commandKind bcr = kindBcr
 commandKind ecr = kindEcr
 commandKind cal = kindCal
 commandKind sync = kindSync
-
--- What a whole command asks for at its last bit: the LV1 is exact.
-abbrev pub requestOf : Command → Request
-requestOf lv1 = Lv1 0
-requestOf bcr = Fast 0b0001
-requestOf ecr = Fast 0b0010
-requestOf cal = Fast 0b0100
-requestOf sync = Fast 0b1000

@@ -1,12 +1,12 @@
--- Clean streams and one inverted bit (document 01, "The damage table").
+-- Clean streams (document 01, "The damage table").
 -- Assumes nothing.
 use mathlib.Core.Bool.{Bool, true, _&&_}
 use mathlib.Core.List.{List, [], _∷_, _++_}
-use Prim.Native.Nat.{ℕ, zero, suc, _+_, _-_}
+use Prim.Native.Nat.{ℕ, _+_}
 use lib.Dec.{leb}
 use lib.ListN.{replicate}
 use Rattle.timing.specs.Table.{zerosAsked}
-use Rattle.damage.specs.Commands.{Command, codeOf, widthOf, commandKind}
+use Rattle.clean_streams.specs.Commands.{Command, codeOf, widthOf, commandKind}
 
 -- The zeros between two commands, by the timing table, which goes by the kinds of their records.
 abbrev pub zerosBetween : Command → Command → ℕ
@@ -39,9 +39,3 @@ spaced c (i ∷ is) = leb (zerosBetween c (i .command)) (i .ahead) && spaced (i 
 abbrev pub timed : List Item → Bool
 timed [] = true
 timed (i ∷ is) = spaced (i .command) is
-
--- The same bits with one inverted: bit k, counted from 0.
-abbrev pub inverted : ℕ → List ℕ → List ℕ
-inverted k [] = []
-inverted zero (bit ∷ bits) = (1 - bit) ∷ bits
-inverted (suc k) (bit ∷ bits) = bit ∷ inverted k bits
