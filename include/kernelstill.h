@@ -2,8 +2,9 @@
  * Kernelstill: a verified reader of the command line of the MCC-I2.1, the
  * controller chip of pixel-detector modules. For C and C++.
  *
- * kernelstill_open opens, kernelstill_take takes bits and writes records; the
- * other functions help to read what they wrote. Each is proved to meet its
+ * kernelstill_open opens, kernelstill_take takes bits and writes records;
+ * kernelstill_accept checks a finished stream of triggers and Fasts; the other
+ * functions help to read what was written. Each is proved to meet its
  * contract (crates/kernelstill) for every argument that keeps these rules,
  * which no function can check:
  *
@@ -63,6 +64,9 @@ extern "C" {
 #define KERNELSTILL_CLOCK_OVER 6      /* next cycle + count exceeds 2^48 */
 #define KERNELSTILL_WRONG_CHARACTER 7 /* a character of a hexadecimal line is not 0-9 or A-F */
 #define KERNELSTILL_WRONG_LENGTH 8    /* its digits are odd in number, or above 64 */
+#define KERNELSTILL_UNKNOWN_PATTERN 13   /* a pattern of a stream begins none of LV1, BCR, ECR, CAL and SYNC */
+#define KERNELSTILL_CUT_PATTERN 14       /* the stream ends inside a command */
+#define KERNELSTILL_PATTERN_TOO_CLOSE 15 /* too few zeros lie ahead of a command */
 
 /* The result of a taking call, by place. */
 #define KERNELSTILL_RESULT_BITS 0    /* the bits taken */
@@ -236,6 +240,28 @@ uint64_t kernelstill_frame_bits(uint64_t head, uint64_t value);
  * where the tray was carried over from the frame's first bit.
  */
 size_t kernelstill_frame_part(const uint8_t *tray, size_t tray_length, size_t bits);
+
+/*
+ * Whether a finished stream of trigger and fast commands, `count` bits of the
+ * input from bit `first` on, is accepted: zeros and whole, exact LV1, BCR, ECR,
+ * CAL and SYNC, with at least the zeros between two that the timing table asks
+ * (see the flags of a record). Nothing is asked ahead of the first command, and
+ * zeros alone, or no bits, are accepted. A pattern begins at the first 1 behind
+ * the one before. Nothing is changed, and nothing is kept between calls.
+ *
+ * The answer is 0, or the refusal number and the place of the first bit of the
+ * first pattern at fault, counted from 0 at bit `first`, which the macros take
+ * apart: WRONG_RANGE at place 0, checked first; then, pattern by pattern,
+ * UNKNOWN_PATTERN where the bits up to the stream's end begin none of the five
+ * commands, CUT_PATTERN where the stream ends inside one, PATTERN_TOO_CLOSE
+ * where one is whole with too few zeros ahead of it.
+ */
+uint64_t kernelstill_accept(
+    const uint8_t *input, size_t input_length,
+    size_t first, size_t count);
+
+#define KERNELSTILL_ACCEPT_NUMBER(answer) ((answer) & 0xFF) /* the refusal number, 0 for an accepted stream */
+#define KERNELSTILL_ACCEPT_PLACE(answer) ((answer) >> 8)    /* the place, 0 for an accepted stream */
 
 /*
  * Reads a line of hexadecimal digits, given without its line feed, into the

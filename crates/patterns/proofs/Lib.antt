@@ -1,0 +1,4 @@
+pub mod PatternLaws
+pub mod VerdictSteps
+pub mod CleanEnds
+pub mod Verdicts
