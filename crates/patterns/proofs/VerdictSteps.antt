@@ -11,7 +11,8 @@ use Rattle.timing.specs.Table.{zerosAsked}
 use Rattle.clean_streams.specs.Commands.{Command, lv1, bcr, ecr, cal, sync, codeOf, commandKind, widthOf}
 use Rattle.clean_streams.specs.CleanStreams.{zeros}
 use Rattle.patterns.specs.declared.Verdict.{Verdict}
-use Rattle.patterns.specs.declared.Verdict.the-variants.{TooClose}
+use Rattle.patterns.specs.declared.Verdict.the-variants.{Unknown, Cut, TooClose}
+use Rattle.patterns.specs.Patterns.{unknown, cut, patternOf}
 use Rattle.patterns.specs.Verdicts.{verdictFrom}
 
 -- Zeros are passed, and counted.
@@ -36,3 +37,12 @@ module _ (last ahead place : ℕ) (bits : List ℕ) where
   command-judged ecr = ap (behind ecr) (omega arith)
   command-judged cal = ap (behind cal) (omega arith)
   command-judged sync = ap (behind sync) (omega arith)
+
+  -- A pattern that is no whole command.
+  pub unknown-judged : (n : ℕ) → patternOf (suc n ∷ bits) ≡ unknown → verdictFrom last ahead place 0 (suc n ∷ bits) ≡ Unknown place
+  unfolding verdictFrom
+  unknown-judged n e = rw e
+
+  pub cut-judged : (n : ℕ) → patternOf (suc n ∷ bits) ≡ cut → verdictFrom last ahead place 0 (suc n ∷ bits) ≡ Cut place
+  unfolding verdictFrom
+  cut-judged n e = rw e

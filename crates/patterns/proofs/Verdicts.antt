@@ -20,7 +20,7 @@ use Rattle.patterns.specs.Patterns.{commands, Pattern, unknown, cut, who
 use Rattle.patterns.specs.Verdicts.{verdictFrom, verdictOf}
 use Rattle.patterns.specs.Accepted.{Clean, lastKind, AtFault, TooFew, Told}
 use Rattle.patterns.proofs.PatternLaws.{held-whole, whole-holds}
-use Rattle.patterns.proofs.VerdictSteps.{zeros-passed, command-judged}
+use Rattle.patterns.proofs.VerdictSteps.{zeros-passed, command-judged, unknown-judged, cut-judged}
 use Rattle.patterns.proofs.CleanEnds.{item, zero-behind, command-behind, last-behind, timed-behind}
 
 take-front : (xs ys : List ℕ) → take (length xs) (xs ++ ys) ≡ xs
@@ -88,9 +88,8 @@ some-width = each-at (λ c. leb 1 (widthOf c)) (λ c. true) refl
 -- The bits from a 1 on, by the pattern that they are.
 module _ (n : ℕ) (again : ToldFrom n) (m : ℕ) (bits : List ℕ) (h : length bits ≤ n) (items : List Item) (t : ℕ) (timing : T (timed items)) where
   by-pattern : (p : Pattern) → patternOf (suc m ∷ bits) ≡ p → Told (streamBits items t ++ (suc m ∷ bits)) (verdict items t (suc m ∷ bits))
-  unfolding verdictFrom
-  by-pattern unknown e = rw e (at-fault items t timing (suc m ∷ bits) (λ is k p. p ≡ unknown) e)
-  by-pattern cut e = rw e (at-fault items t timing (suc m ∷ bits) (λ is k p. p ≡ cut) e)
+  by-pattern unknown e = rw (unknown-judged (lastKind items) t _ bits m e) (at-fault items t timing (suc m ∷ bits) (λ is k p. p ≡ unknown) e)
+  by-pattern cut e = rw (cut-judged (lastKind items) t _ bits m e) (at-fault items t timing (suc m ∷ bits) (λ is k p. p ≡ cut) e)
   by-pattern (whole c) e =
       let w : List ℕ = suc m ∷ bits in
       let rest = drop (widthOf c) w in

@@ -1,6 +1,7 @@
 //! Generated streams, the same ones each time.
 
 use crate::generate::{self, Noise};
+use crate::pulses::{ending_with_a_byte, pulses, Flaw};
 use crate::spaced::spaced_hits;
 use crate::{Case, Random, Stream};
 
@@ -117,6 +118,31 @@ fn hits_case(number: u64) -> Case {
     };
     let input = random_lines(&begun.raw(&hit.bits).bytes(), &mut random);
     Case::new(format!("hit-streams/{number:03}"), input)
+}
+
+/// The first `count` streams of a maker's pulse program (document 02, F-8):
+/// with no flaw, and with each flaw in turn; now and then a line is refused.
+/// Each depends on its number only.
+pub fn pulsed(count: u64) -> Vec<Case> {
+    (0..count).map(pulsed_case).collect()
+}
+
+fn pulsed_case(number: u64) -> Case {
+    let mut random = Random::new(0xF8_5EED_0000 + number);
+    let flaw = Flaw::ALL[(number % Flaw::ALL.len() as u64) as usize];
+    let commands = [3, 20, 300][random.below(3) as usize];
+    let sent = pulses(&mut random, commands);
+    let stream = ending_with_a_byte(&flaw.put_into(&sent, &mut random));
+    let mut input = random_lines(&stream.bytes(), &mut random);
+    if random.one_in(8) && !input.is_empty() {
+        // A wrong character, or a line that is odd or longer.
+        let place = random.below(input.len() as u64) as usize;
+        match random.bit() {
+            true => input[place] = b'x',
+            false => drop(input.remove(place)),
+        }
+    }
+    Case::new(format!("pulse-streams/{number:03}"), input)
 }
 
 /// Lines of random lengths, empty ones too; now and then no last line feed.

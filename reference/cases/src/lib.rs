@@ -10,12 +10,13 @@ pub mod code;
 mod fixed;
 pub mod generate;
 mod generated;
+pub mod pulses;
 pub mod random;
 pub mod spaced;
 pub mod stream;
 
 pub use fixed::{fixed, RECEIVED};
-pub use generated::{crowded, generated, hits, noisy};
+pub use generated::{crowded, generated, hits, noisy, pulsed};
 pub use random::Random;
 pub use stream::Stream;
 

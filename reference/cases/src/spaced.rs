@@ -29,6 +29,14 @@ impl Sent {
         }
     }
 
+    /// A stream and then this command.
+    pub fn add_to(self, stream: Stream) -> Stream {
+        match self {
+            Sent::Lv1 => stream.lv1(),
+            Sent::Fast(body) => stream.fast(body),
+        }
+    }
+
     /// The zeros that the timing table asks between it and the next.
     pub fn zeros_ahead_of(self, next: Sent) -> usize {
         match (self, next) {
@@ -85,10 +93,7 @@ impl Spaced {
         assert!(zeros >= self.zeros_asked(command));
         self.clean = self.clean.zeros(zeros);
         let first = self.clean.bits.len();
-        self.clean = match command {
-            Sent::Lv1 => self.clean.lv1(),
-            Sent::Fast(body) => self.clean.fast(body),
-        };
+        self.clean = command.add_to(self.clean);
         match inverted {
             Inverted::Nowhere => {}
             Inverted::Ahead(cycles) => {

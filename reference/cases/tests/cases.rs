@@ -1,14 +1,22 @@
 //! The cases: names, repeatability, and what they cover.
 
 use cases::generate::{late_groups, noisy_groups, without_frames, Noise};
+use cases::pulses::{ending_with_a_byte, pulses, Flaw, Pulses};
 use cases::spaced::{spaced_hits, Inverted, Sent, Spaced, BCR, CAL, SYNC};
-use cases::{crowded, fixed, generated, hits, noisy, Case, Random, Stream};
+use cases::{crowded, fixed, generated, hits, noisy, pulsed, Case, Random, Stream};
 use std::collections::HashSet;
 
 #[test]
 fn names_serve_as_file_names() {
     let mut names = HashSet::new();
-    let listed = [fixed(), generated(40), noisy(40), crowded(40), hits(40)];
+    let listed = [
+        fixed(),
+        generated(40),
+        noisy(40),
+        crowded(40),
+        hits(40),
+        pulsed(40),
+    ];
     for case in listed.concat() {
         let mut parts = case.name.split('/');
         assert!(parts.all(|part| {
@@ -29,6 +37,8 @@ fn generated_cases_repeat() {
     let inputs = |count| crowded(count).into_iter().map(|case| case.input);
     assert!(inputs(20).eq(inputs(40).take(20)));
     let inputs = |count| hits(count).into_iter().map(|case| case.input);
+    assert!(inputs(20).eq(inputs(40).take(20)));
+    let inputs = |count| pulsed(count).into_iter().map(|case| case.input);
     assert!(inputs(20).eq(inputs(40).take(20)));
 }
 
@@ -122,6 +132,54 @@ fn hits_are_as_many_as_asked_for() {
     assert!((100..200).contains(&count(20)));
 }
 
+/// Commands with the zeros asked, and where a zero is needed.
+#[test]
+fn pulses_keep_the_timing_table() {
+    let sent = Pulses::new()
+        .send(1, BCR)
+        .send(0, SYNC)
+        .send(0, Sent::Lv1)
+        .send(2, BCR)
+        .send(1, CAL)
+        .send(0, CAL)
+        .zeros(2);
+    let stream = "0 101100001 00 101101000 0000 11101 00 101100001 000 101100100 101100100 00";
+    assert_eq!(sent.stream, Stream::new().pattern(stream));
+    let firsts: Vec<usize> = sent.sent.iter().map(|(_, first)| *first).collect();
+    assert_eq!(firsts, [1, 12, 25, 32, 44, 53]);
+    assert_eq!(sent.needed_zeros(), [11, 24]);
+    let cut = Stream::new().pattern("11101 1");
+    assert_eq!(
+        ending_with_a_byte(&cut),
+        Stream::new().pattern("00 11101 1")
+    );
+}
+
+#[test]
+fn a_flaw_is_somewhere() {
+    let mut random = Random::new(4);
+    for _ in 0..200 {
+        let sent = pulses(&mut random, 20);
+        let clean = &sent.stream.bits;
+        for flaw in Flaw::ALL {
+            let bits = flaw.put_into(&sent, &mut random).bits;
+            let differ = bits.iter().zip(clean).filter(|(a, b)| a != b).count();
+            match flaw {
+                Flaw::Nothing => assert_eq!(bits, *clean),
+                Flaw::Inverted => assert_eq!((bits.len(), differ), (clean.len(), 1)),
+                Flaw::ZeroMissing => {
+                    let missing = usize::from(!sent.needed_zeros().is_empty());
+                    assert_eq!(bits.len() + missing, clean.len());
+                }
+                Flaw::Cut => assert!(bits.len() < clean.len() && differ == 0),
+                Flaw::Slow => assert_eq!(bits.len(), clean.len() + 9),
+                Flaw::FlippedLv1 => assert_eq!(bits.len(), clean.len() + 5),
+                Flaw::Extra => assert!(bits.len() > clean.len()),
+            }
+        }
+    }
+}
+
 #[test]
 fn a_stream_without_frames_has_its_count_of_bits() {
     for count in [0, 1, 79, 80, 81, 1_000, 99_999] {
@@ -158,6 +216,20 @@ fn cases_cover_what_they_should() {
     assert_eq!(count("crowded/"), 2 * (23 + 7 + 4) + 1);
     // A day, and every bit in and out of RunMode, clean and hit; and one.
     assert_eq!(count("hits/"), 2 * (1 + 2) + 1);
+    // Twelve unknown patterns first and later; each bit of each command.
+    assert_eq!(count("accept/unknown-1"), 12 * 5);
+    assert_eq!(count("accept/hit-"), 5 + 4 * 9);
+    // Each beginning of three commands, first and later.
+    assert_eq!(count("accept/cut-lv1-"), 2 * 4);
+    assert_eq!(
+        count("accept/cut-bcr-") + count("accept/cut-sync-"),
+        2 * 2 * 8
+    );
+    // Zeros too few: 2 and 1 ahead of each of four Fasts, and 4; twice each.
+    let close = ["bcr", "ecr", "sync"].map(|name| count(&format!("accept/close-{name}-")));
+    assert_eq!(close, [2 * 2 * 4, 2 * 4, 2 * 4]);
+    let refused = count("accept/line-wrong-") + count("accept/line-odd-");
+    assert_eq!(refused, 7 + 1);
     let lines = |case: &Case| case.input.iter().filter(|&&byte| byte == b'\n').count();
     let long = generated(450)
         .iter()

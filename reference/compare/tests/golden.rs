@@ -91,6 +91,21 @@ fn what_is_said_is_a_file() {
     assert!(matches!(&faults[..], [(_, Fault::Stray)]));
 
     assert_eq!(files(&named("paper/listing")[0]).len(), 4);
+
+    // A stream for `accept` has its input, what is printed and what is said.
+    let [accepted] = named("accept/across-a-line");
+    let [cut] = named("accept/cut-at-a-line-end");
+    let names = |case: &Case| -> Vec<String> {
+        let files = files(case).into_iter();
+        files.map(|(path, _)| path.display().to_string()).collect()
+    };
+    let ends = ["in", "accept", "said"];
+    let expected = ends.map(|end| format!("accept/cut-at-a-line-end.{end}"));
+    assert_eq!(names(&cut), expected);
+    assert_eq!(names(&accepted).len(), 2);
+    let said =
+        "accept: standard input: bit 5: the input ends inside the command that begins here\n";
+    assert_eq!(files(&cut)[2].1, said.as_bytes());
 }
 
 /// The stored runs show a frame, a refusal, more than a block, a file to its
@@ -100,7 +115,7 @@ fn stored_runs() {
     let folder = folder("stored");
     stored::write_all(&folder).unwrap();
     let checks = stored::check(&folder);
-    assert!(checks.len() == 7 && faults(checks).is_empty());
+    assert!(checks.len() == 9 && faults(checks).is_empty());
     let read = |name: &str| fs::read_to_string(folder.join(name)).unwrap();
     let (input, output) = (read("station/stdin"), read("station/stdout"));
     assert!((65_537..75_000).contains(&input.len()) && output.len() < 20_000);
@@ -117,6 +132,16 @@ fn stored_runs() {
     let (whole, last) = file.rsplit_once('\n').unwrap();
     let without = printed(Program::Reading, whole.as_bytes());
     assert!(!last.is_empty() && listing.len() == without.len() + 4 * 28);
+
+    let (input, output) = (read("accept/stdin"), read("accept/stdout"));
+    assert!((65_537..75_000).contains(&input.len()));
+    assert!(!input[..65_536].ends_with('\n') && input.as_bytes()[65_536] != b'\n');
+    // Too close, and far from the first bit; the refused line is not reached.
+    assert!(
+        output.starts_with("!0F 00000004") && output.lines().count() == 1,
+        "{output}"
+    );
+    assert!(input.ends_with("\nx\n"));
 
     let state = read("model/stdout");
     assert!(!state.contains('!') && state.contains("\nword ") && state.contains("\nl1id 06\n"));

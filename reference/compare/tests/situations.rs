@@ -61,6 +61,17 @@ fn every_end_and_every_message_is_among_them() {
         "model: standard input: line 2: character 1 is a lower-case letter\n",
         "station: standard input: line 2: character 2 is byte 80, none of 0-9 and A-F\n",
         "station: standard input: line 2: the count of digits is 3, which is odd\n",
+        "usage: accept [FILE]\n",
+        "accept: missing.hex: No such file or directory\n",
+        "accept: standard input: Bad file descriptor\n",
+        "accept: standard input: Input/output error\n",
+        "accept: standard output: No space left on device\n",
+        "accept: standard output: Input/output error\n",
+        "accept: standard input: bit 8: the bits from here on begin none of ",
+        "accept: standard input: bit 13: the input ends inside the command that begins here\n",
+        "accept: standard input: bit 10: too few zeros lie ahead of the command that begins here\n",
+        "accept: standard input: line 3: character 1 is a lower-case letter\n",
+        "accept: standard input: line 2: character 2 is byte 80, none of 0-9 and A-F\n",
     ] {
         assert!(said.contains(text), "{text}");
     }
@@ -75,7 +86,7 @@ fn an_interrupted_closing_says_nothing() {
     for (what, status) in [("good", 0), ("--help", 0), ("refused", 1)] {
         let interrupted = found(&format!("closing is interrupted, {what}"));
         let failed = found(&format!("closing fails, {what}"));
-        for program in Program::ALL {
+        for program in Program::LISTING {
             let expected = interrupted.expected(program);
             assert_eq!(expected.end, End::Status(status));
             assert_eq!(expected.said.is_empty(), status == 0);
@@ -92,7 +103,10 @@ fn a_write_of_nothing_ends_the_run() {
         let Some(at) = situation.faults.write_stops_at else {
             continue;
         };
-        for program in Program::ALL {
+        for program in Program::LISTING {
+            if !situation.programs.contains(&program) {
+                continue;
+            }
             let expected = situation.expected(program);
             let (begins, status) = match at {
                 5_000 => (String::new(), 0),
@@ -114,7 +128,8 @@ fn no_state_after_a_failed_read() {
     let all = situations(Means::ALL);
     let failed = all.iter().filter(|situation| {
         let at = situation.faults.read_fails_at;
-        at.is_some() && !situation.contents.contains(&b'e')
+        let lists = situation.programs.contains(&Program::Model);
+        at.is_some() && lists && !situation.contents.contains(&b'e')
     });
     let mut seen = 0;
     for situation in failed {
@@ -125,6 +140,55 @@ fn no_state_after_a_failed_read() {
         seen += 1;
     }
     assert!(seen >= 30, "{seen}");
+}
+
+/// `accept` in each of its own: a failed read is no end of the stream, a write
+/// that takes nothing ends the run, and only what is printed can fail.
+#[test]
+fn what_accept_does_where_the_system_fails() {
+    let all = situations(Means::ALL);
+    let expected = |name: &str| {
+        let situation = all.iter().find(|situation| situation.name == name);
+        let expected = situation.expect(name).expected(Program::Accept);
+        let printed = String::from_utf8(expected.printed).unwrap();
+        (printed, expected.end)
+    };
+    let ends = |printed: &str, status| (printed.to_string(), End::Status(status));
+    for (name, outcome) in [
+        ("cut, named", ends("!0E 00000000000D\n", 1)),
+        ("cut, a read fails at 6", ends("", 3)),
+        ("cut, a read fails at 2", ends("", 3)),
+        ("accepted, a read fails at 9", ends("", 3)),
+        ("accepted, standard output full", ends("", 0)),
+        ("accepted, standard output closed", ends("", 0)),
+        ("accepted, a write takes nothing at 0", ends("", 0)),
+        ("accepted, closing fails", ends("", 3)),
+        ("unknown, a read fails at 5", ends("", 3)),
+        ("unknown, a read fails at 6", ends("!0D 000000000008\n", 1)),
+        ("unknown, a write fails at 5", ends("!0D 0", 3)),
+        (
+            "unknown, a write takes nothing at 12",
+            ends("!0D 00000000", 3),
+        ),
+        (
+            "unknown, closing is interrupted",
+            ends("!0D 000000000008\n", 1),
+        ),
+        ("too close, standard output full", ends("", 3)),
+        ("a line inside a pattern, named", ends("!07 00000003\n", 1)),
+        (
+            "a line behind a fault, named",
+            ends("!0D 000000000008\n", 1),
+        ),
+    ] {
+        let (printed, end) = expected(&format!("stream {name}"));
+        assert_eq!((printed, end), outcome, "{name}");
+    }
+    // The others are its situations too.
+    let of_all = all.iter().filter(|situation| situation.programs.len() == 4);
+    let of_accept = all.iter().filter(|s| s.programs == [Program::Accept]);
+    let (of_all, of_accept) = (of_all.count(), of_accept.count());
+    assert!(of_all > 200 && of_accept > 700, "{of_all} {of_accept}");
 }
 
 /// Without gcc no call can be made to fail, and not everybody may mount.

@@ -18,8 +18,8 @@ use std::path::{Path, PathBuf};
 use std::sync::OnceLock;
 use std::time::Duration;
 
-/// Scripts that stand in for all three programs; REAL is the program itself.
-const SCRIPTS: [(&str, &str); 9] = [
+/// Scripts that stand in for all programs; REAL is the program itself.
+const SCRIPTS: [(&str, &str); 11] = [
     ("real", "exec REAL \"$@\""),
     ("drops-a-line", "REAL \"$@\" | sed 2d"),
     ("hangs", "exec sleep 1000"),
@@ -32,6 +32,12 @@ const SCRIPTS: [(&str, &str); 9] = [
     ("reads-after-a-refusal", "REAL \"$@\"; s=$?; cat; exit $s"),
     ("crashes", "REAL \"$@\"; kill -SEGV $$"),
     ("fails", "REAL \"$@\"; exit 3"),
+    ("accepts-all", "cat \"$@\" >/dev/null"),
+    // It takes each line for a stream of its own.
+    (
+        "judges-lines-alone",
+        "cat \"$@\" | while read -r l; do echo \"$l\" | REAL || exit 1; done",
+    ),
 ];
 
 /// Their folders. All are written ahead of the first start of a program: a
@@ -92,14 +98,18 @@ fn the_programs_themselves_pass() {
         "frames/wr-9",
         "refusals/odd",
         "lines/empty-input",
+        "accept/across-empty-lines",
+        "accept/cut-no-last-line-feed",
+        "accept/close-across-a-line",
+        "accept/line-odd-inside-a-pattern",
     ] {
-        // Three programs, five deliveries.
-        assert_eq!(faults(&programs, name), vec![None; 15], "{name}");
+        // Four programs, five deliveries.
+        assert_eq!(faults(&programs, name), vec![None; 20], "{name}");
     }
     assert!(live_faults(&programs).iter().all(Option::is_none));
     // Long inputs are not written a byte at a time.
     for name in ["refusals/200000-digits", "frames/receiver-65528"] {
-        assert_eq!(faults(&programs, name), vec![None; 12], "{name}");
+        assert_eq!(faults(&programs, name), vec![None; 16], "{name}");
     }
 }
 
@@ -108,14 +118,14 @@ fn wrong_output_is_reported_with_its_place() {
     let programs = patient("drops-a-line");
     let scratch = Scratch::new().unwrap();
     let checks = case::check(&programs, &named("paper/listing"), &scratch);
-    assert_eq!(checks.len(), 15);
+    assert_eq!(checks.len(), 20);
     let mut tally = Tally::default();
     tally.add(checks);
     let first = "FAILED station, paper/listing, as a file: differs at byte 40, line 2: \
                  expected \"000000000015 01 05 00000015\\n\", got \"00000000001C 01 07 0005011C\\n\"";
     let text = tally.to_string();
     assert_eq!(text.lines().next(), Some(first));
-    assert!(text.ends_with("\n0 passed, 15 failed"));
+    assert!(text.ends_with("\n0 passed, 20 failed"));
 }
 
 #[test]
@@ -139,7 +149,7 @@ fn a_program_that_hangs_is_killed_and_given_up() {
         }
     }
     let again = Some(Fault::GivenUp);
-    assert_eq!(faults(&programs, "frames/wr-9"), vec![again; 15]);
+    assert_eq!(faults(&programs, "frames/wr-9"), vec![again; 20]);
 }
 
 #[test]
@@ -151,15 +161,18 @@ fn a_program_that_hangs_after_its_output_is_killed_too() {
     let given_up = faults
         .iter()
         .filter(|fault| **fault == Some(Fault::GivenUp));
-    assert_eq!((hang.count(), given_up.count()), (9, 6));
+    assert_eq!((hang.count(), given_up.count()), (12, 8));
 }
 
 #[test]
 fn a_crash_and_another_status_show() {
     let expected = End::Status(0);
     for (script, got) in [("crashes", End::Signal(11)), ("fails", End::Status(3))] {
-        let faults = faults(&patient(script), "paper/listing");
-        assert_eq!(faults, vec![Some(Fault::Ends { expected, got }); 15]);
+        let programs = patient(script);
+        let ends = |count| vec![Some(Fault::Ends { expected, got }); count];
+        // `accept` refuses the listing's input.
+        assert_eq!(faults(&programs, "paper/listing")[..15], ends(15));
+        assert_eq!(faults(&programs, "accept/one-trigger"), ends(20));
     }
 }
 
@@ -179,13 +192,15 @@ fn a_lagging_program_fails_on_a_live_pipe_only() {
         assert_eq!(check.fault, Some(Fault::LagsAtLine(1)), "{}", check.name);
     }
     let programs = patient("reads-all-first");
-    assert_eq!(faults(&programs, "refusals/odd"), vec![None; 15]);
+    assert_eq!(faults(&programs, "refusals/odd"), vec![None; 20]);
+    assert_eq!(faults(&programs, "accept/cut-bcr-5"), vec![None; 20]);
 }
 
 /// A refused line ends the run, though the pipe stays open.
 #[test]
 fn reading_on_after_a_refused_line_fails_on_a_live_pipe() {
-    for live in live::cases() {
+    for mut live in live::cases() {
+        live.programs.retain(|&program| program != Program::Accept);
         let (make, expected) = if live.left_open {
             (impatient as fn(&str) -> UnderTest, Some(Fault::Hangs(None)))
         } else {
@@ -193,6 +208,60 @@ fn reading_on_after_a_refused_line_fails_on_a_live_pipe() {
         };
         for check in live::check(&make("reads-after-a-refusal"), &live) {
             assert_eq!(check.fault, expected, "{}", check.name);
+        }
+    }
+}
+
+/// The same of a pattern at fault: what `accept` reads on is printed, or it
+/// hangs.
+#[test]
+fn accept_reading_on_after_a_fault_fails_on_a_live_pipe() {
+    let mut seen = 0;
+    for mut live in live::cases() {
+        live.programs.retain(|&program| program == Program::Accept);
+        let expected = match live.left_open {
+            true => impatient("reads-after-a-refusal"),
+            false => patient("reads-after-a-refusal"),
+        };
+        let faults = live::check(&expected, &live);
+        assert!(!live.left_open || faults.iter().all(|check| check.fault.is_some()));
+        seen += faults.len() * usize::from(live.left_open);
+    }
+    assert_eq!(seen, 6);
+}
+
+/// One that accepts everything, and one that begins anew at each line.
+#[test]
+fn a_wrong_accept_shows_in_the_cases() {
+    // Those of `accept` come last.
+    let of_accept = |script: &str, name: &str| faults(&patient(script), name)[15..].to_vec();
+    for name in [
+        "accept/unknown-at-once",
+        "accept/cut-at-a-line-end",
+        "accept/close-across-a-line",
+        "accept/line-wrong-after-accepted",
+    ] {
+        for fault in of_accept("accepts-all", name) {
+            assert!(
+                matches!(fault, Some(Fault::Differs(_))),
+                "{name}, {fault:?}"
+            );
+        }
+    }
+    assert_eq!(
+        of_accept("accepts-all", "accept/every-pair"),
+        [const { None }; 5]
+    );
+    for name in [
+        "accept/across-a-line",
+        "accept/close-across-a-line",
+        "accept/cut-by-lines-sync",
+    ] {
+        for fault in of_accept("judges-lines-alone", name) {
+            assert!(
+                matches!(fault, Some(Fault::Differs(_))),
+                "{name}, {fault:?}"
+            );
         }
     }
 }

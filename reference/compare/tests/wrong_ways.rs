@@ -12,6 +12,7 @@ use compare::programs::scratch::Scratch;
 use compare::programs::situations::{situations, Means};
 use compare::programs::started;
 use compare::programs::under_test::UnderTest;
+use compare::tally::Check;
 use reader::Program;
 use std::fs;
 use std::os::unix::fs::symlink;
@@ -19,7 +20,7 @@ use std::path::{Path, PathBuf};
 use std::sync::{Mutex, OnceLock};
 use std::time::Duration;
 
-/// A folder with the three programs that are wrong in this way.
+/// A folder with the programs that are wrong in this way.
 fn folder(way: &str) -> PathBuf {
     static WRONG: OnceLock<PathBuf> = OnceLock::new();
     static MAKING: Mutex<()> = Mutex::new(());
@@ -54,23 +55,46 @@ impl Wrong {
         }
     }
 
-    /// The faults of the three programs in a situation.
-    fn starts(&self, name: &str) -> Vec<Option<Fault>> {
+    fn checks_of(&self, name: &str) -> Vec<Check> {
         let all = situations(self.means);
         let situation = all.iter().find(|situation| situation.name == name);
-        let checks = started::check(&self.programs, situation.expect(name), &self.scratch);
-        assert_eq!(checks.len(), 3);
-        checks.into_iter().map(|check| check.fault).collect()
+        started::check(&self.programs, situation.expect(name), &self.scratch)
     }
 
-    /// Their faults on a case, by one delivery.
-    fn reads(&self, name: &str, how: &str) -> Vec<Option<Fault>> {
+    /// The faults, in a situation, of the three programs that list records.
+    fn starts(&self, name: &str) -> Vec<Option<Fault>> {
+        let checks = self.checks_of(name).into_iter();
+        let listing = checks.filter(|check| !check.name.starts_with("accept, "));
+        let faults: Vec<Option<Fault>> = listing.map(|check| check.fault).collect();
+        assert_eq!(faults.len(), 3);
+        faults
+    }
+
+    /// The fault of `accept` in a situation.
+    fn accepts(&self, name: &str) -> Option<Fault> {
+        let checks = self.checks_of(name).into_iter();
+        let mut accept = checks.filter(|check| check.name.starts_with("accept, "));
+        accept.next().expect(name).fault
+    }
+
+    /// The faults on a case, by one delivery, of all programs.
+    fn delivered(&self, name: &str, how: &str) -> Vec<Option<Fault>> {
         let case = fixed().into_iter().find(|case| case.name == name);
         let checks = case::check(&self.programs, &case.expect(name), &self.scratch);
         let delivered = checks.into_iter().filter(|check| check.name.ends_with(how));
         let faults: Vec<Option<Fault>> = delivered.map(|check| check.fault).collect();
-        assert_eq!(faults.len(), 3);
+        assert_eq!(faults.len(), 4);
         faults
+    }
+
+    /// Those of the three that list records.
+    fn reads(&self, name: &str, how: &str) -> Vec<Option<Fault>> {
+        self.delivered(name, how)[..3].to_vec()
+    }
+
+    /// That of `accept`, which comes last.
+    fn judges(&self, name: &str, how: &str) -> Option<Fault> {
+        self.delivered(name, how)[3].clone()
     }
 }
 
@@ -271,6 +295,58 @@ fn one_that_drops_the_rest_of_a_short_write() {
     assert!(differ(&wrong.starts("interrupted, good")));
     assert!(differ(&wrong.reads("paper/listing", "interrupted calls")));
     assert!(say(&wrong.starts("writes take nothing at 0, good")));
+}
+
+/// `accept` by the right program, and by ones that are wrong where it shows.
+#[test]
+fn wrong_ways_to_accept() {
+    let right = Wrong::new("right", true);
+    for name in [
+        "stream accepted, named",
+        "stream unknown, named",
+        "stream cut, named",
+        "stream too close, a read fails at 7",
+        "stream cut, interrupted 5 times",
+        "stream unknown, a write takes nothing at 5",
+        "stream a line inside a pattern, named",
+        "large stream unknown, named",
+        "wrong words [\"-x\"]",
+        "--help",
+    ] {
+        assert_eq!(right.accepts(name), None, "{name}");
+    }
+    for name in ["paper/listing", "accept/every-pair", "accept/cut-bcr-5"] {
+        assert_eq!(right.judges(name, "as a file"), None, "{name}");
+    }
+    let differs = |fault: Option<Fault>| matches!(fault, Some(Fault::Differs(_)));
+    let says = |fault: Option<Fault>| matches!(fault, Some(Fault::Says(_)));
+    let ends = |fault: Option<Fault>| matches!(fault, Some(Fault::Ends { .. }));
+
+    let wrong = Wrong::new("writes-twice", true);
+    assert!(differs(wrong.accepts("stream unknown, named")));
+    assert!(differs(wrong.judges("accept/cut-bcr-5", "as a file")));
+    let wrong = Wrong::new("silent", true);
+    assert!(says(wrong.accepts("stream cut, named")));
+    assert!(says(wrong.judges("accept/close-bcr-1-bcr", "as a file")));
+    let wrong = Wrong::new("no-status", true);
+    assert!(ends(wrong.accepts("stream too close, named")));
+    assert!(ends(wrong.judges("accept/unknown-at-once", "as a file")));
+    // It takes each pattern that goes on in another read for a cut one.
+    let wrong = Wrong::new("takes-an-interrupted-read-for-the-end", true);
+    let whole = "stream accepted, interrupted 1 times";
+    assert_eq!(wrong.accepts(whole), None, "it is read as empty");
+    let cut = wrong.accepts("stream cut, interrupted 1 times");
+    assert!(differs(cut));
+    let wrong = Wrong::new("takes-a-failed-read-for-the-end", true);
+    assert!(differs(wrong.accepts("stream cut, a read fails at 6")));
+    let failed = wrong.accepts("stream accepted, a read fails at 3");
+    assert!(says(failed));
+    let wrong = Wrong::new("forgets", true);
+    let cut = wrong.judges("accept/blocks-accepted", "as a file");
+    assert!(cut.is_some());
+    let wrong = Wrong::new("lists-on-standard-error", true);
+    assert!(differs(wrong.accepts("stream unknown, named")));
+    assert_eq!(wrong.accepts("stream accepted, named"), None);
 }
 
 /// Rust's own start ignores SIGPIPE, and the stand-in closes without a look.

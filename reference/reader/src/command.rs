@@ -24,7 +24,7 @@ fn close(system: &mut impl System) -> io::Result<()> {
 pub enum Status {
     /// The whole input was read, or the words asked for a text.
     Whole = 0,
-    /// A line was refused.
+    /// A line was refused, or a pattern of a stream.
     Refused = 1,
     WrongWords = 2,
     SystemFailed = 3,
@@ -63,18 +63,18 @@ impl Program {
                 return self.not_read(input, &error, system);
             }
         }
-        let refusal = match self.run(system) {
-            Ok(refusal) => refusal,
+        let refused = match self.run(system) {
+            Ok(refused) => refused,
             Err(Failure::Read(error)) => return self.not_read(input, &error, system),
             Err(Failure::Write(error)) => return self.not_written(&error, system),
         };
         if let Err(error) = close(system) {
             return self.not_written(&error, system);
         }
-        match refusal {
+        match refused {
             None => Status::Whole,
-            Some(refusal) => {
-                system.say(&about(self, input.name(), &refusal.to_string()));
+            Some(refused) => {
+                system.say(&about(self, input.name(), &refused.to_string()));
                 Status::Refused
             }
         }

@@ -8,6 +8,7 @@
 
 #![forbid(unsafe_code)]
 
+pub mod accept;
 pub mod command;
 pub mod cycle;
 pub mod decoder;
@@ -34,13 +35,14 @@ pub mod tray;
 pub mod window;
 pub mod words;
 
+pub use accept::{accept, Fault, Judge, WhyNot};
 pub use command::Status;
 pub use hex::hex_line;
 pub use plan::Plan;
 pub use program::{model, reading, station, Program};
 pub use recogniser::Recogniser;
 pub use record::Record;
-pub use refusal::{Refusal, Why};
+pub use refusal::{Refusal, Refused, Why};
 pub use sound::sound;
 pub use state::{open, State, Warnings};
 pub use system::System;

@@ -45,3 +45,13 @@ pub fn push_refused(out: &mut Vec<u8>, number: u8, line: u64) {
     push_number(out, line, 8);
     out.push(b'\n');
 }
+
+/// The line of a pattern at fault (document 02, F-8), by the place of its
+/// first bit.
+pub fn push_fault(out: &mut Vec<u8>, number: u8, place: u64) {
+    out.push(b'!');
+    push_number(out, u64::from(number), 2);
+    out.push(b' ');
+    push_number(out, place, 12);
+    out.push(b'\n');
+}

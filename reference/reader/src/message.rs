@@ -19,12 +19,19 @@ pub fn help(program: Program) -> String {
         Program::Station => "a line per record and one per frame",
         Program::Reading => "a line per record",
         Program::Model => "a line per record, then the state,",
+        Program::Accept => "a line for the first pattern at fault, if there is one,",
+    };
+    let (whole, refused) = match program {
+        Program::Station | Program::Reading | Program::Model => {
+            ("the whole input", "a line was refused")
+        }
+        Program::Accept => ("accepted", "refused"),
     };
     format!(
         "{}\
          Hexadecimal lines from FILE, or from standard input if there is none or it is -; \
          {does} to standard output.\n\
-         Exit status: 0 the whole input, 1 a line was refused, 2 wrong words, 3 the system failed.\n",
+         Exit status: 0 {whole}, 1 {refused}, 2 wrong words, 3 the system failed.\n",
         usage(program)
     )
 }

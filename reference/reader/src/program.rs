@@ -1,17 +1,21 @@
-//! The programs: hexadecimal lines in, a listing out.
+//! The programs: hexadecimal lines in, a listing out, or whether their bits
+//! are accepted.
 
+use crate::accept::{Fault, Judge};
 use crate::decoder::Decoder;
 use crate::hex::HexLine;
-use crate::listing::{push_frame, push_record, push_refused};
+use crate::hunting::bit_at;
+use crate::limits::CLOCK_LIMIT;
+use crate::listing::{push_fault, push_frame, push_record, push_refused};
 use crate::model::push_model;
-use crate::refusal::{Refusal, Why};
+use crate::refusal::{Refusal, Refused, Why};
 use crate::system::{write_all, Streams, System};
 use std::io::{self, ErrorKind, Read, Write};
 
 /// Bytes read, and written, at a time.
 const BLOCK: usize = 65_536;
 
-/// All print the records and the line of a refused line.
+/// All print the line of a refused line, and all but the last the records.
 #[derive(Clone, Copy, Debug, PartialEq, Eq)]
 pub enum Program {
     /// Document 01's station program: the frames too.
@@ -20,6 +24,9 @@ pub enum Program {
     Reading,
     /// The controller's state at the end of the run too.
     Model,
+    /// The line of the first pattern at fault, if there is one (document 02,
+    /// F-8).
+    Accept,
 }
 
 /// Prints every record and every frame.
@@ -38,7 +45,15 @@ pub fn model(input: impl Read, output: impl Write) -> io::Result<()> {
 }
 
 impl Program {
-    pub const ALL: [Program; 3] = [Program::Station, Program::Reading, Program::Model];
+    pub const ALL: [Program; 4] = [
+        Program::Station,
+        Program::Reading,
+        Program::Model,
+        Program::Accept,
+    ];
+
+    /// Those that print records.
+    pub const LISTING: [Program; 3] = [Program::Station, Program::Reading, Program::Model];
 
     /// The name of its executable.
     pub fn name(self) -> &'static str {
@@ -46,6 +61,7 @@ impl Program {
             Program::Station => "station",
             Program::Reading => "reading",
             Program::Model => "model",
+            Program::Accept => "accept",
         }
     }
 
@@ -57,9 +73,9 @@ impl Program {
         }
     }
 
-    /// Reads the input to its end, or to a refused line, and writes its
+    /// Reads the input to its end, or to what is refused, and writes its
     /// listing.
-    pub fn run(self, system: &mut impl System) -> Result<Option<Refusal>, Failure> {
+    pub fn run(self, system: &mut impl System) -> Result<Option<Refused>, Failure> {
         let mut run = Run::start(self);
         let mut block = vec![0; BLOCK];
         while !run.is_over() {
@@ -83,7 +99,7 @@ impl Program {
         }
         run.finish();
         run.write(system)?;
-        Ok(run.refusal)
+        Ok(run.refused)
     }
 }
 
@@ -98,11 +114,13 @@ pub enum Failure {
 struct Run {
     program: Program,
     decoder: Decoder,
+    /// In the decoder's place, where the bits are judged.
+    judge: Judge,
     line: HexLine,
     lines_ended: u64,
     /// What is printed and not yet written.
     out: Vec<u8>,
-    refusal: Option<Refusal>,
+    refused: Option<Refused>,
 }
 
 impl Run {
@@ -110,16 +128,17 @@ impl Run {
         Run {
             program,
             decoder: Decoder::start(),
+            judge: Judge::start(),
             line: HexLine::default(),
             lines_ended: 0,
             out: Vec::with_capacity(2 * BLOCK),
-            refusal: None,
+            refused: None,
         }
     }
 
-    /// A refused line ends it.
+    /// A refused line ends it, or a pattern at fault.
     fn is_over(&self) -> bool {
-        self.refusal.is_some()
+        self.refused.is_some()
     }
 
     fn take(&mut self, character: u8) {
@@ -132,33 +151,64 @@ impl Run {
 
     fn end_line(&mut self) {
         self.lines_ended += 1;
-        let (program, out) = (self.program, &mut self.out);
-        let refused = match self.line.bytes() {
-            Ok(bytes) => {
-                let taken = self.decoder.feed(bytes, |record, frame| {
-                    push_record(out, record);
-                    if program == Program::Station {
-                        push_frame(out, frame);
-                    }
-                });
-                // Nothing is printed for it.
-                (!taken).then_some(Why::Clock)
-            }
+        let line = std::mem::take(&mut self.line);
+        match line.bytes() {
+            Ok(bytes) if self.program == Program::Accept => self.judge(bytes),
+            Ok(bytes) => self.list(bytes),
             Err(why) => {
-                push_refused(out, why.number(), self.lines_ended);
-                Some(why)
+                push_refused(&mut self.out, why.number(), self.lines_ended);
+                self.refuse_line(why);
             }
-        };
-        let line = self.lines_ended;
-        self.refusal = refused.map(|why| Refusal { line, why });
-        self.line = HexLine::default();
+        }
     }
 
-    /// The end of the input, or of the run after a refused line.
+    fn refuse_line(&mut self, why: Why) {
+        let line = self.lines_ended;
+        self.refused = Some(Refused::Line(Refusal { line, why }));
+    }
+
+    /// Prints the records of a line.
+    fn list(&mut self, bytes: &[u8]) {
+        let (program, out) = (self.program, &mut self.out);
+        let taken = self.decoder.feed(bytes, |record, frame| {
+            push_record(out, record);
+            if program == Program::Station {
+                push_frame(out, frame);
+            }
+        });
+        if !taken {
+            // Nothing is printed for it.
+            self.refuse_line(Why::Clock);
+        }
+    }
+
+    /// Judges the bits of a line. One whose bits pass the last cycle is
+    /// rejected as a decoder rejects it.
+    fn judge(&mut self, bytes: &[u8]) {
+        let bits = bytes.len() as u64 * 8;
+        if bits > CLOCK_LIMIT - self.judge.taken() {
+            return self.refuse_line(Why::Clock);
+        }
+        let judged = (0..bits).try_for_each(|place| self.judge.take(bit_at(bytes, place)));
+        self.print_fault(judged);
+    }
+
+    fn print_fault(&mut self, judged: Result<(), Fault>) {
+        if let Err(fault) = judged {
+            push_fault(&mut self.out, fault.number(), fault.place);
+            self.refused = Some(Refused::Pattern(fault));
+        }
+    }
+
+    /// The end of the input, or of the run after what is refused.
     fn finish(&mut self) {
         // Nothing after the last line feed is no line.
         if !self.is_over() && self.line.started() {
             self.end_line();
+        }
+        if self.program == Program::Accept && !self.is_over() {
+            let judged = self.judge.finish();
+            self.print_fault(judged);
         }
         if self.program == Program::Model {
             push_model(&mut self.out, &self.decoder.state, &self.decoder.store);

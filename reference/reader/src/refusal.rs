@@ -1,10 +1,28 @@
 //! Why a program refuses a line, as a number of the refusal table and in
-//! words.
+//! words; and what else it may refuse.
 
+use crate::accept::Fault;
 use std::fmt;
 
 /// Digits that a line may have at most.
 pub const LINE_DIGITS: u64 = 64;
+
+/// What a program refuses.
+#[derive(Clone, Copy, Debug, PartialEq, Eq)]
+pub enum Refused {
+    Line(Refusal),
+    /// A pattern of a stream (document 02, F-8).
+    Pattern(Fault),
+}
+
+impl fmt::Display for Refused {
+    fn fmt(&self, f: &mut fmt::Formatter) -> fmt::Result {
+        match self {
+            Refused::Line(line) => write!(f, "{line}"),
+            Refused::Pattern(fault) => write!(f, "{fault}"),
+        }
+    }
+}
 
 /// A refused line.
 #[derive(Clone, Copy, Debug, PartialEq, Eq)]

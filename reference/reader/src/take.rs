@@ -101,13 +101,18 @@ fn refusal(state: &State, lent_fit: bool, input: &[u8], first_bit: u64, count: u
     if !lent_fit {
         return Some(4);
     }
-    if !input_fits(input.len()) || !range_fits(input.len() as u64 * 8, first_bit, count) {
+    if !input_and_range_fit(input, first_bit, count) {
         return Some(5);
     }
     if count > CLOCK_LIMIT - state.next_cycle {
         return Some(6);
     }
     None
+}
+
+/// Number 5's rule.
+pub fn input_and_range_fit(input: &[u8], first_bit: u64, count: u64) -> bool {
+    input_fits(input.len()) && range_fits(input.len() as u64 * 8, first_bit, count)
 }
 
 /// Differences instead of sums, as a sum of the caller's numbers can overflow.

@@ -117,6 +117,99 @@ fn help_and_version() {
     }
 }
 
+/// Document 02, F-8.
+#[test]
+fn help_and_version_of_accept() {
+    let help = "usage: accept [FILE]\n\
+        Hexadecimal lines from FILE, or from standard input if there is none or it is -; a line for the first pattern at fault, if there is one, to standard output.\n\
+        Exit status: 0 accepted, 1 refused, 2 wrong words, 3 the system failed.\n";
+    let version = concat!("accept (Kernelstill) ", env!("CARGO_PKG_VERSION"), "\n");
+    for (word, text) in [("--help", help), ("--version", version)] {
+        let mut system = Scripted::input(&[b"A0\n"]);
+        let ended = system.start(Program::Accept, &[word]);
+        assert_eq!(ended, said(Status::Whole, ""));
+        assert_eq!(system.printed(), text);
+        assert!(system.closed);
+    }
+}
+
+/// What `accept` says of patterns at fault and of refused lines, and that it
+/// reads no further.
+#[test]
+fn what_accept_refuses() {
+    let unknown = "the bits from here on begin none of LV1, BCR, ECR, CAL and SYNC";
+    let cut = "the input ends inside the command that begins here";
+    let close = "too few zeros lie ahead of the command that begins here";
+    for (input, printed, text) in [
+        (&b"E8\nA0\n"[..], "!0D 000000000008", ("bit 8", unknown)),
+        (b"E8\nA0", "!0D 000000000008", ("bit 8", unknown)),
+        (b"E807\n", "!0E 00000000000D", ("bit 13", cut)),
+        (b"E807\n\n", "!0E 00000000000D", ("bit 13", cut)),
+        (b"00B0AC20\n", "!0F 000000000012", ("bit 18", close)),
+        (
+            b"E807\n4\n",
+            "!08 00000002",
+            ("line 2", "the count of digits is 1, which is odd"),
+        ),
+        (
+            b"07\n\r\n",
+            "!07 00000002",
+            ("line 2", "character 1 is a carriage return"),
+        ),
+        (b"A0\nx\n", "!0D 000000000000", ("bit 0", unknown)),
+    ] {
+        for (word, source) in [("-", "standard input"), ("a b.hex", "a b.hex")] {
+            let mut system = Scripted::input(&[input]);
+            let ended = system.start(Program::Accept, &[word]);
+            let (place, text) = text;
+            let line = format!("accept: {source}: {place}: {text}\n");
+            assert_eq!(ended, said(Status::Refused, &line));
+            assert_eq!(system.printed(), format!("{printed}\n"));
+            assert!(system.closed);
+        }
+    }
+    // Each way to be accepted.
+    for input in [&b""[..], b"\n", b"00\n", b"E8\n", b"07\n40"] {
+        let mut system = Scripted::input(&[input]);
+        let ended = system.start(Program::Accept, &[]);
+        assert_eq!(ended, said(Status::Whole, ""));
+        assert_eq!((system.printed(), system.closed), ("", true));
+    }
+    // The lines after a fault are not read; a pattern under way waits.
+    let mut system = Scripted::input(&[b"07\n", b"0", b"0\nE8\n", b"E8\n"]);
+    let (status, _) = system.start(Program::Accept, &[]);
+    assert_eq!((status, system.reads.len()), (Status::Refused, 1));
+    assert_eq!(system.printed(), "!0D 000000000005\n");
+}
+
+/// A failed read is no end of the stream, so that nothing is cut.
+#[test]
+fn what_fails_while_accept_runs() {
+    for input in [&b"E8\n"[..], b"E807\n", b"E8\nA"] {
+        let mut system = Scripted::input(&[input]);
+        system.reads.push_back(Err(EIO));
+        let ended = system.start(Program::Accept, &["a.hex"]);
+        let line = "accept: a.hex: Input/output error\n";
+        assert_eq!(ended, said(Status::SystemFailed, line));
+        assert_eq!(system.printed(), "");
+    }
+    for input in [&b"A0\n"[..], b"07", b"x"] {
+        let mut system = Scripted::input(&[input]);
+        system.writes = [Ok(3), Err(EINTR), Err(ENOSPC)].into();
+        let ended = system.start(Program::Accept, &[]);
+        let line = "accept: standard output: No space left on device\n";
+        assert_eq!(ended, said(Status::SystemFailed, line));
+        assert_eq!(system.printed.len(), 3);
+    }
+    for input in [&b"E8\n"[..], b"A0\n", b"07"] {
+        let mut system = Scripted::input(&[input]);
+        system.closing = Some(EIO);
+        let ended = system.start(Program::Accept, &[]);
+        let line = "accept: standard output: Input/output error\n";
+        assert_eq!(ended, said(Status::SystemFailed, line));
+    }
+}
+
 #[test]
 fn wrong_words() {
     for words in [
@@ -198,7 +291,7 @@ fn a_file_that_cannot_be_opened() {
 /// The line under way is not ended, and no state is printed.
 #[test]
 fn a_read_that_fails() {
-    for program in Program::ALL {
+    for program in Program::LISTING {
         for (words, error, text) in [
             (&[][..], EBADF, "standard input: Bad file descriptor"),
             (&["-"], EIO, "standard input: Input/output error"),

@@ -477,3 +477,34 @@ fn a_live_pipe() {
     assert_eq!(child.wait().unwrap().code(), Some(1));
     reader.join().unwrap();
 }
+
+/// `accept` (document 02, F-8) tells a fault as soon as the line has ended in
+/// which it is found, and ends.
+#[test]
+fn accept_on_a_live_pipe() {
+    let mut child = Command::new(env!("CARGO_BIN_EXE_accept"))
+        .stdin(Stdio::piped())
+        .stdout(Stdio::piped())
+        .stderr(Stdio::null())
+        .spawn()
+        .unwrap();
+    let mut input = child.stdin.take().unwrap();
+    let output = BufReader::new(child.stdout.take().unwrap());
+    let (sender, lines) = channel();
+    let reader = spawn(move || {
+        for line in output.lines() {
+            sender.send(line.unwrap() + "\n").unwrap();
+        }
+    });
+    for line in [&b"E8\n"[..], b"B0\n", b"AC\n", b"20"] {
+        input.write_all(line).unwrap();
+        let waited = lines.recv_timeout(Duration::from_millis(30));
+        assert!(waited.is_err(), "{waited:?}");
+    }
+    input.write_all(b"\n").unwrap();
+    let line = lines.recv_timeout(Duration::from_secs(20));
+    assert_eq!(line.as_deref(), Ok("!0F 000000000012\n"));
+    assert_eq!(child.wait().unwrap().code(), Some(1));
+    reader.join().unwrap();
+    drop(input);
+}

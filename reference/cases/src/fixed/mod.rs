@@ -1,5 +1,6 @@
 //! The cases that are written down one by one, by subject.
 
+mod accept;
 mod capture;
 mod commands;
 mod controller;
@@ -27,6 +28,7 @@ pub fn fixed() -> Vec<Case> {
     cases.extend(votes::cases());
     cases.extend(crowded::cases());
     cases.extend(hits::cases());
+    cases.extend(accept::cases());
     cases
 }
 

@@ -1,6 +1,6 @@
 //! Compares programs with the separate reader, byte for byte on standard
 //! output and standard error: `compare FOLDER [--status]`, where FOLDER holds
-//! `station`, `reading` and `model`. With `--status` their exit status is the
+//! `station`, `reading`, `model` and `accept`. With `--status` their exit status is the
 //! reader's; without it they have none, and it is 0 in every case.
 //!
 //! Its last line is `N passed, M failed`; it fails if any check did.

@@ -1,4 +1,5 @@
-//! Writes each case's input and what the three programs print and say for it:
+//! Writes each case's input and what the programs print and say for it, the
+//! three that list records, or `accept` where the case is meant for that:
 //! `vectors FOLDER [--golden | --generated N | --stored]`.
 //!
 //! With `--generated` also N streams of each generated list. With `--golden`
@@ -8,8 +9,9 @@
 
 #![forbid(unsafe_code)]
 
-use cases::{crowded, fixed, generated, golden, hits, noisy, Case};
+use cases::{crowded, fixed, generated, golden, hits, noisy, pulsed, Case};
 use compare::golden::{files, stored, strays, write};
+use reader::Program;
 use std::fs;
 use std::io;
 use std::path::Path;
@@ -21,10 +23,16 @@ fn main() -> ExitCode {
     let written = match arguments[..] {
         [folder] if !folder.starts_with("--") => write_all(Path::new(folder), fixed()),
         [folder, "--golden"] => write_golden(Path::new(folder)),
-        [folder, "--stored"] => stored::write_all(Path::new(folder)).map(|()| 3),
+        [folder, "--stored"] => stored::write_all(Path::new(folder)).map(|()| Program::ALL.len()),
         [folder, "--generated", count] => match count.parse() {
             Ok(count) => {
-                let listed = [generated(count), noisy(count), crowded(count), hits(count)];
+                let listed = [
+                    generated(count),
+                    noisy(count),
+                    crowded(count),
+                    hits(count),
+                    pulsed(count),
+                ];
                 write_all(Path::new(folder), [fixed(), listed.concat()].concat())
             }
             Err(_) => return usage(),

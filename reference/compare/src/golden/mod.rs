@@ -1,5 +1,5 @@
-//! The golden files of cases: each input with what the three programs print
-//! and say; and the runs that are stored beside the programs.
+//! The golden files of cases: each input with what the programs print and
+//! say; and the runs that are stored beside the programs.
 
 mod check;
 pub mod stored;
@@ -22,12 +22,24 @@ pub type Contents = (PathBuf, Vec<u8>);
 const INPUT: &str = "in";
 const SAID: &str = "said";
 
+/// The folders of the cases for `accept` (document 02, F-8).
+const ACCEPT: [&str; 2] = ["accept/", "pulse-streams/"];
+
+/// The programs whose outputs are a case's files: those that list records, or
+/// `accept` where it is meant for that. All programs are compared on all cases.
+fn programs(case: &Case) -> &'static [Program] {
+    match ACCEPT.iter().any(|folder| case.name.starts_with(folder)) {
+        true => &[Program::Accept],
+        false => &Program::LISTING,
+    }
+}
+
 /// A case's files. The programs say nothing of a fit input.
 pub fn files(case: &Case) -> Vec<Contents> {
     let path = |end: &str| PathBuf::from(format!("{}.{end}", case.name));
     let mut files = vec![(path(INPUT), case.input.clone())];
     let mut said = Vec::new();
-    for program in Program::ALL {
+    for &program in programs(case) {
         let expected = Expected::plain(program, &case.input);
         files.push((path(program.name()), expected.printed));
         said.extend(expected.said);

@@ -29,10 +29,12 @@ fn run(program: Program) -> (&'static str, Option<&'static str>) {
         Program::Reading => ("capture/no-last-line-feed", Some("capture.hex")),
         // The state at the end of the input.
         Program::Model => ("capture/capture", None),
+        // More than a block, accepted up to two commands that are too close.
+        Program::Accept => ("accept/after-a-block", None),
     }
 }
 
-/// The files of all three, below the folder of the crates.
+/// The files of all, below the folder of the crates.
 pub fn files() -> Vec<Contents> {
     let cases = fixed();
     let of_program = |program: Program| {

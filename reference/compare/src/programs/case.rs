@@ -1,4 +1,4 @@
-//! The three programs on one case, by each delivery of the input.
+//! The programs on one case, by each delivery of the input.
 
 use super::delivery::Delivery;
 use super::expected::{Expected, Imagined};

@@ -15,9 +15,10 @@ use std::time::Instant;
 
 pub struct Live {
     pub case: Case,
-    /// The pipe stays open after the last line, which is refused and so ends
-    /// the run.
+    /// The pipe stays open after the last line. A refused line, or a pattern
+    /// at fault, has ended the run.
     pub left_open: bool,
+    pub programs: Vec<Program>,
 }
 
 /// Inputs that fit into a pipe whole, so that no write waits.
@@ -29,6 +30,11 @@ pub fn cases() -> Vec<Live> {
     let live = |name, left_open| Live {
         case: named(name),
         left_open,
+        programs: Program::ALL.to_vec(),
+    };
+    let accept = |name, left_open| Live {
+        programs: vec![Program::Accept],
+        ..live(name, left_open)
     };
     vec![
         live("paper/listing", false),
@@ -36,16 +42,23 @@ pub fn cases() -> Vec<Live> {
         live("generated/000", false),
         live("refusals/lower-case", true),
         live("refusals/odd", true),
+        accept("accept/across-empty-lines", false),
+        accept("accept/cut-then-empty-lines", false),
+        accept("accept/every-pair-by-bytes", false),
+        accept("accept/unknown-at-once", true),
+        accept("accept/unknown-across-empty-lines", true),
+        accept("accept/close-across-a-line", true),
+        accept("accept/line-odd-inside-a-pattern", true),
     ]
 }
 
-/// Each of the three programs on one live pipe.
+/// Its programs on one live pipe.
 pub fn check(under_test: &UnderTest, live: &Live) -> Vec<Check> {
-    let check = |program: Program| Check {
+    let check = |&program: &Program| Check {
         name: format!("{}, {}, on a live pipe", program.name(), live.case.name),
         fault: under_test.run(program, |path| run(under_test, path, program, live)),
     };
-    Program::ALL.map(check).into()
+    live.programs.iter().map(check).collect()
 }
 
 fn run(

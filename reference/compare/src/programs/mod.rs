@@ -20,7 +20,7 @@ pub mod under_test;
 
 use crate::golden;
 use crate::tally::Tally;
-use cases::{crowded, fixed, generated, hits, noisy};
+use cases::{crowded, fixed, generated, hits, noisy, pulsed};
 use scratch::Scratch;
 use situations::Means;
 use std::io;
@@ -28,11 +28,13 @@ use std::path::Path;
 use under_test::UnderTest;
 
 /// Generated streams, ones with noisy front-end groups, ones with commands
-/// crowded together and ones with several hits, besides all other cases.
+/// crowded together, ones with several hits and ones of pulse programs,
+/// besides all other cases.
 const GENERATED: u64 = 450;
 const NOISY: u64 = 100;
 const CROWDED: u64 = 100;
 const HITS: u64 = 100;
+const PULSED: u64 = 210;
 
 /// Compares everything: the repository's golden files and stored runs with
 /// what the separate reader prints now, and the programs in a folder with it on every case. They have an exit
@@ -46,6 +48,7 @@ pub fn compare(programs: &Path, has_status: bool, repository: &Path) -> io::Resu
         noisy(NOISY),
         crowded(CROWDED),
         hits(HITS),
+        pulsed(PULSED),
     ]
     .concat();
 

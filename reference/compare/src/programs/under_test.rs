@@ -16,7 +16,7 @@ pub struct UnderTest {
     folder: PathBuf,
     /// Whether they have an exit status; if not, it is 0 in every case.
     has_status: bool,
-    hangs: [AtomicUsize; 3],
+    hangs: [AtomicUsize; Program::ALL.len()],
     /// How long a run may take.
     pub run_limit: Duration,
     /// How long a line's records may take on a live pipe.

@@ -1,6 +1,7 @@
 //! The situations in which the programs are started: every word, message and
 //! exit status, and every failure of the system.
 
+mod accept;
 mod calls;
 mod inputs;
 mod outputs;
@@ -65,11 +66,14 @@ pub fn situations(means: Means) -> Vec<Situation> {
     let mut all = words::situations();
     all.extend(inputs::situations());
     all.extend(outputs::situations());
+    all.extend(accept::situations());
     if means.faults {
         all.extend(calls::situations());
+        all.extend(accept::calls());
     }
     if means.disk {
         all.extend(outputs::full_disk());
+        all.extend(accept::full_disk());
     }
     all
 }

@@ -1,4 +1,4 @@
-//! The system itself, for the three programs: their only way to it.
+//! The system itself, for the programs: their only way to it.
 //!
 //! A program begins at C's `main`, ahead of which Rust's own start would open
 //! closed descriptors and ignore SIGPIPE; so it meets the system as a program

@@ -1,0 +1,3 @@
+pub mod PatternNumbers
+pub mod Steps
+pub mod CheckLoop
