@@ -28,9 +28,11 @@ _Static_assert(sizeof(size_t) == sizeof(uint64_t), "a size is a word");
 _Static_assert(KERNELSTILL_LV1_POSITION(UINT64_C(0x000512FE)) == 0x05, "the position stands highest");
 _Static_assert(KERNELSTILL_LV1_L1ID(UINT64_C(0x000512FE)) == 0x12, "the trigger number is in the middle");
 _Static_assert(KERNELSTILL_LV1_BUNCH(UINT64_C(0x000512FE)) == 0xFE, "the bunch number stands lowest");
+_Static_assert(KERNELSTILL_ACCEPT_NUMBER(UINT64_C(0x12340F)) == 0x0F, "the refusal number stands lowest");
+_Static_assert(KERNELSTILL_ACCEPT_PLACE(UINT64_C(0x12340F)) == 0x1234, "the place stands above it");
 _Static_assert(__BYTE_ORDER__ == __ORDER_LITTLE_ENDIAN__, "words stand lowest byte first");
 
-enum function { OPEN = 1, TAKE, FRAME_BITS, FRAME_PART, HEX_LINE, RECORD_LINE };
+enum function { OPEN = 1, TAKE, FRAME_BITS, FRAME_PART, HEX_LINE, RECORD_LINE, ACCEPT };
 
 #define MOST_SLICES 6
 #define MOST_ELEMENTS (UINT64_C(1) << 22) /* a request beyond it is malformed */
@@ -273,6 +275,14 @@ static void write_record_line(struct call *call)
     finish(call, kernelstill_record_line(line->data, line->length, head, value));
 }
 
+static void accept_stream(struct call *call)
+{
+    struct slice *input = lend_const(call, sizeof(uint8_t));
+    size_t first = read_word(), count = read_word();
+
+    finish(call, kernelstill_accept(input->data, input->length, first, count));
+}
+
 static void serve(uint64_t function)
 {
     struct call call = {.count = 0};
@@ -284,6 +294,7 @@ static void serve(uint64_t function)
     case FRAME_PART: measure_frame(&call); break;
     case HEX_LINE: read_hex_line(&call); break;
     case RECORD_LINE: write_record_line(&call); break;
+    case ACCEPT: accept_stream(&call); break;
     default: die("a request has an unknown function");
     }
 }

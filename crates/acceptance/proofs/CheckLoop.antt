@@ -17,7 +17,7 @@ use Rattle.bits.proofs.Truth.{clash, cases, both, true-holds, not-other}
 use Rattle.bits.proofs.BitRanges.{length-bits, bits-over}
 use Rattle.bits.proofs.Places.{Stands, stands, bits-left}
 use Rattle.acceptance.specs.declared.Progress.{Progress}
-use Rattle.acceptance.specs.Progress.{verdictOn, Fits, After}
+use Rattle.acceptance.specs.Progress.{verdictOn, reached, Fits, After}
 use Rattle.acceptance.proofs.Steps.{at-fault}
 
 -- A range that fits, in numbers.
@@ -34,7 +34,7 @@ pub record Invariant (input : List ℕ) (first count : ℕ) (from : Progress) (a
   pub few : left ≤ count
   pub place : Stands at (first + (count - left))
   pub fits : Fits p
-  pub near : p .place ≤ from .place + 9 * (count - left)
+  pub near : reached p ≤ reached from + (count - left)
   pub same : (more : List ℕ) → verdictOn p (bitsOf input (placeUnder at) left ++ more) ≡ verdictOn from (bitsOf input first count ++ more)
 
 module _ {input : List ℕ} {first count : ℕ} {from : Progress} where

@@ -8,11 +8,10 @@ use Prim.Native.Nat.{ℕ, suc, _+_, _<_, _≤_}
 use native.Mathlib.Numerals.{add-one}
 use native.Mathlib.Omega.{arith}
 use lib.Dec.{leb, eqb}
-use lib.ListN.{drop}
-use borrow.Author.Tests.{eq-eqb, ne-eqb, le-leb, lt-leb, leb-true}
+use lib.ListN.{length, drop, length-append}
+use borrow.Author.Tests.{eq-eqb, ne-eqb, le-leb, lt-leb}
 use Rattle.timing.specs.Table.{zerosAsked}
 use Rattle.clean_streams.specs.Commands.{Command, lv1, bcr, ecr, cal, sync, codeOf, widthOf, commandKind}
-use Rattle.clean_streams.proofs.FiniteFacts.{each-at}
 use Rattle.patterns.specs.declared.Verdict.{Verdict}
 use Rattle.patterns.specs.declared.Verdict.the-variants.{Accepted, Unknown, Cut}
 use Rattle.patterns.specs.Patterns.{commands, unknown, cut, patternOf}
@@ -20,7 +19,7 @@ use Rattle.patterns.specs.Verdicts.{verdictFrom, verdictOf}
 use Rattle.patterns.proofs.PatternLaws.{unknown-more}
 use Rattle.patterns.proofs.VerdictSteps.{command-judged, unknown-judged, cut-judged}
 use Rattle.acceptance.specs.declared.Progress.{Progress}
-use Rattle.acceptance.specs.Progress.{patternBits, progress, start, completedOf, faultAt, verdictOn, Fits, After}
+use Rattle.acceptance.specs.Progress.{patternBits, progress, start, completedOf, faultAt, verdictOn, reached, Fits, After}
 use Rattle.acceptance.proofs.PatternNumbers.{first-one}
 
 -- What is said while no pattern is at fault, and where one is.
@@ -32,9 +31,6 @@ going p bits e = simp (eq-eqb (p .fault) 0 e)
 pub at-fault : (p : Progress) (bits : List ℕ) → (p .fault ≡ 0 → ⊥) → verdictOn p bits ≡ faultAt (p .fault) (p .place)
 unfolding verdictOn
 at-fault p bits n = simp (ne-eqb (p .fault) 0 n)
-
-narrow-width : (c : Command) → leb (widthOf c) 9 ≡ true
-narrow-width = each-at (λ c. leb (widthOf c) 9) (λ c. true) refl
 
 module _ (p : Progress) (none : p .fault ≡ 0) (fits : Fits p) where
   pub zero-after : (bit : ℕ) → bit ≡ 0 → p .pattern ≡ 0 → After p (bit ∷ []) (progress (p .place + 1) (p .zeros + 1) (p .last) 0 0)
@@ -57,10 +53,13 @@ module _ (p : Progress) (none : p .fault ≡ 0) (fits : Fits p) where
         ∙ ap (verdictFrom (p .last) (p .zeros) (p .place) 0) (append-assoc (patternBits (p .pattern)) (bit ∷ []) more)
         ∙ sym (going p (bit ∷ more) none)
 
+    held : length (patternBits n) ≡ length (patternBits (p .pattern)) + 1
+    held = ap length longer ∙ length-append (patternBits (p .pattern)) (bit ∷ [])
+
     pub begun-after : n < 256 → patternOf (patternBits n) ≡ cut → After p (bit ∷ []) (progress (p .place) (p .zeros) (p .last) n 0)
     begun-after h e = record {
       fits = record { pattern = inr e; narrow = h; zeros = fits .zeros };
-      near = omega arith;
+      near = omega (arith, held);
       same = λ more. going (progress (p .place) (p .zeros) (p .last) n 0) more refl ∙ gathered more;
     }
 
@@ -91,8 +90,8 @@ module _ (p : Progress) (none : p .fault ≡ 0) (fits : Fits p) where
       completed-fits true t = rw t (record { pattern = inl refl; narrow = omega arith; zeros = omega arith })
       completed-fits false t = rw t (record { pattern = inl refl; narrow = omega arith; zeros = fits .zeros })
 
-      completed-near : (b : Bool) → leb (zerosAsked (p .last) (commandKind c)) (p .zeros) ≡ b → completedOf p c .place ≤ p .place + 9
-      completed-near true t = let w = leb-true (widthOf c) 9 (narrow-width c) in rw t (omega arith)
+      completed-near : (b : Bool) → leb (zerosAsked (p .last) (commandKind c)) (p .zeros) ≡ b → reached (completedOf p c) ≤ reached p + 1
+      completed-near true t = let w : length (patternBits n) ≡ widthOf c = ap length e in rw t (omega (arith, w, held))
       completed-near false t = rw t (omega arith)
 
       pub whole-after : After p (bit ∷ []) (completedOf p c)

@@ -4,7 +4,7 @@ use mathlib.Core.Path.{_≡_}
 use mathlib.Core.Bool.{cond}
 use mathlib.Core.List.{List, [], _∷_, _++_}
 use mathlib.Core.Logic.{_⊎_}
-use Prim.Native.Nat.{ℕ, zero, suc, _+_, _*_, _/_, _%_, _<_, _≤_}
+use Prim.Native.Nat.{ℕ, zero, suc, _+_, _/_, _%_, _<_, _≤_}
 use lib.Dec.{leb, eqb}
 use lib.ListN.{length}
 use Rattle.timing.specs.Table.{zerosAsked}
@@ -66,6 +66,10 @@ verdictOn p bits =
     (verdictFrom (p .last) (p .zeros) (p .place) 0 (patternBits (p .pattern) ++ bits))
     (faultAt (p .fault) (p .place))
 
+-- How many bits it stands for.
+abbrev pub reached : Progress → ℕ
+reached p = p .place + length (patternBits (p .pattern))
+
 -- What each progress has.
 pub record Fits (p : Progress) : Type 0 where
   pub pattern : UnderWay (p .pattern)
@@ -75,5 +79,5 @@ pub record Fits (p : Progress) : Type 0 where
 -- One progress after another, with these bits between: whatever more bits come, the same is said in the end.
 pub record After (p : Progress) (bits : List ℕ) (r : Progress) : Type 0 where
   pub fits : Fits r
-  pub near : r .place ≤ p .place + 9 * length bits
+  pub near : reached r ≤ reached p + length bits
   pub same : (more : List ℕ) → verdictOn r more ≡ verdictOn p (bits ++ more)

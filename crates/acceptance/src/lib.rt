@@ -8,7 +8,7 @@ ghost use Rattle.limits.specs.Limits.{clockLimit};
 ghost use Rattle.bits.specs.Bits.{bitsOf};
 ghost use Rattle.bits.specs.Range.{rangeFits};
 ghost use Rattle.patterns.specs.Verdicts.{acceptOf};
-ghost use Rattle.acceptance.specs.Progress.{Reads, UnderWay, WidthBy, CompletedBy, progress, start, Fits, After, verdictOn};
+ghost use Rattle.acceptance.specs.Progress.{Reads, UnderWay, WidthBy, CompletedBy, progress, start, reached, Fits, After, verdictOn};
 use bits::Cursor;
 use patterns::Verdict;
 use records::KIND_FAST;
@@ -161,7 +161,7 @@ impl Progress {
 
     // So many bits more of an input, up to a pattern at fault.
     pub fn check(self, input: &[u8], first: usize, count: usize) -> Progress
-        requires { ⌜ (rangeFits (length (now input)) first count ≡ true) × (self .place ≤ clockLimit) × Fits self ⌝ }
+        requires { ⌜ (rangeFits (length (now input)) first count ≡ true) × (reached self ≤ clockLimit) × Fits self ⌝ }
         ensures { λ r. ⌜ After self (bitsOf (now (input .entry)) first count) r ⌝ }
     {
         let mut at = Cursor::at(first);

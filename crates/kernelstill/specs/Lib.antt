@@ -1,3 +1,4 @@
 pub mod Open
 pub mod Take
 pub mod Lines
+pub mod Accept

@@ -7,9 +7,11 @@ ghost use Rattle.frames.specs.Tray.{partOf};
 ghost use Rattle.records.specs.Records.{kindOf, isFrameHead, frameBitsOf};
 ghost use Rattle.decoder.specs.Opening.{openOf};
 ghost use Rattle.calls.specs.Take.{call, takeOf};
+ghost use Rattle.patterns.specs.Verdicts.{acceptOf};
 ghost use Rattle.image_fields.specs.Image.{imageLength, stateOf};
 ghost use Rattle.kernelstill.specs.Open.{emptyPlan, planOf, openResult, openResultOf};
 ghost use Rattle.kernelstill.specs.Take.{endingCode, resultLength, resultWords, soundImage, takeResult, takeResultOf, Holds};
+ghost use Rattle.kernelstill.specs.Accept.{acceptWord};
 ghost use Rattle.kernelstill.specs.Lines.{lineResult, hexResultOf, recordResultOf};
 use calls::Ending;
 use calls::Report;
@@ -182,6 +184,15 @@ pub extern "C" fn kernelstill_frame_part(tray: &[u8], bits: usize) -> usize
 {
     let part = frames::frame_part(tray, bits);
     part.len()
+}
+
+// Whether a range of the input is an accepted stream: the refusal number, and 256 times the place of the pattern at fault.
+#[no_mangle]
+pub extern "C" fn kernelstill_accept(input: &[u8], first: usize, count: usize) -> u64
+    ensures { λ r. ⌜ r ≡ acceptWord (acceptOf (now (input .entry)) first count) ⌝ }
+{
+    let verdict = acceptance::accept(input, first, count);
+    verdict.place() * 256 + verdict.number() as u64
 }
 
 // A hexadecimal line's bytes, and the refusal number.

@@ -7,7 +7,7 @@ use Prim.Native.Nat.{ℕ, zero, suc, _+_, _≤_}
 use native.Mathlib.Nat.{zero-add}
 use native.Mathlib.Omega.{arith}
 use lib.Dec.{T, leb}
-use lib.ListN.{length, take, drop, length-append, length-drop}
+use lib.ListN.{length, getD, take, drop, length-append, length-drop}
 use borrow.Author.Tests.{le-leb, leb-true, leb-false}
 use Rattle.bits.proofs.Truth.{holds-true, true-holds, and-both, and-left, and-right}
 use Rattle.timing.specs.Table.{zerosAsked}
@@ -31,6 +31,10 @@ drop-front : (xs ys : List ℕ) → drop (length xs) (xs ++ ys) ≡ ys
 drop-front [] ys = refl
 drop-front (x ∷ xs) ys = drop-front xs ys
 
+bit-behind : (xs ys : List ℕ) → getD (xs ++ ys) (length xs) 0 ≡ getD ys 0 0
+bit-behind [] ys = refl
+bit-behind (x ∷ xs) ys = bit-behind xs ys
+
 -- A clean stream so far, and the verdict on the bits behind it.
 abbrev verdict : List Item → ℕ → List ℕ → Verdict
 verdict items t bits = verdictFrom (lastKind items) t (length (streamBits items t)) 0 bits
@@ -39,9 +43,11 @@ module _ (items : List Item) (t : ℕ) (timing : T (timed items)) where
   abbrev ahead : List ℕ
   ahead = streamBits items t
 
-  at-fault : (bits : List ℕ) (Fault : List Item → ℕ → Pattern → Type 0) → Fault items t (patternOf bits) → AtFault (ahead ++ bits) (length ahead) Fault
-  at-fault bits Fault f = record {
+  at-fault : (bits : List ℕ) (Fault : List Item → ℕ → Pattern → Type 0) → (getD bits 0 0 ≡ 0 → ⊥) → Fault items t (patternOf bits)
+      → AtFault (ahead ++ bits) (length ahead) Fault
+  at-fault bits Fault n f = record {
     ahead = record { items = items; trailing = t; same = take-front ahead bits; timing = timing };
+    begins = λ e. n (sym (bit-behind ahead bits) ∙ e);
     fault = subst (λ (l : List ℕ). Fault items t (patternOf l)) (sym (drop-front ahead bits)) f;
   }
 
@@ -76,28 +82,33 @@ module _ (n : ℕ) (again : ToldFrom n) (items : List Item) (t : ℕ) (timing : 
       (again rest h longer 0 (timed-behind items t c timing asked))
 
   by-time : length rest ≤ n → (b : Bool) → leb (zerosAsked (lastKind items) (commandKind c)) t ≡ b → patternOf (codeOf c ++ rest) ≡ whole c
+      → (getD (codeOf c ++ rest) 0 0 ≡ 0 → ⊥)
       → Told (streamBits items t ++ (codeOf c ++ rest)) (verdict items t (codeOf c ++ rest))
-  by-time h true e w = rw (command-judged (lastKind items) t (length (streamBits items t)) rest c, e) (in-time h (true-holds _ e))
-  by-time h false e w =
+  by-time h true e w s = rw (command-judged (lastKind items) t (length (streamBits items t)) rest c, e) (in-time h (true-holds _ e))
+  by-time h false e w s =
       rw (command-judged (lastKind items) t (length (streamBits items t)) rest c, e)
-      (at-fault items t timing (codeOf c ++ rest) TooFew (record { command = c; complete = w; few = leb-false _ _ e }))
+      (at-fault items t timing (codeOf c ++ rest) TooFew s (record { command = c; complete = w; few = leb-false _ _ e }))
 
 some-width : (c : Command) → leb 1 (widthOf c) ≡ true
 some-width = each-at (λ c. leb 1 (widthOf c)) (λ c. true) refl
 
 -- The bits from a 1 on, by the pattern that they are.
 module _ (n : ℕ) (again : ToldFrom n) (m : ℕ) (bits : List ℕ) (h : length bits ≤ n) (items : List Item) (t : ℕ) (timing : T (timed items)) where
+  some : suc m ≡ 0 → ⊥
+  some e = absurd (omega arith)
+
   by-pattern : (p : Pattern) → patternOf (suc m ∷ bits) ≡ p → Told (streamBits items t ++ (suc m ∷ bits)) (verdict items t (suc m ∷ bits))
-  by-pattern unknown e = rw (unknown-judged (lastKind items) t _ bits m e) (at-fault items t timing (suc m ∷ bits) (λ is k p. p ≡ unknown) e)
-  by-pattern cut e = rw (cut-judged (lastKind items) t _ bits m e) (at-fault items t timing (suc m ∷ bits) (λ is k p. p ≡ cut) e)
+  by-pattern unknown e = rw (unknown-judged (lastKind items) t _ bits m e) (at-fault items t timing (suc m ∷ bits) (λ is k p. p ≡ unknown) some e)
+  by-pattern cut e = rw (cut-judged (lastKind items) t _ bits m e) (at-fault items t timing (suc m ∷ bits) (λ is k p. p ≡ cut) some e)
   by-pattern (whole c) e =
       let w : List ℕ = suc m ∷ bits in
       let rest = drop (widthOf c) w in
       let f : w ≡ codeOf c ++ rest = held-whole (codeOf c) w (whole-holds w commands c e) in
-      let some = leb-true 1 (widthOf c) (some-width c) in
+      let wide = leb-true 1 (widthOf c) (some-width c) in
       let short : length rest ≤ n = omega (arith, length-drop (widthOf c) w) in
       subst (λ (l : List ℕ). Told (streamBits items t ++ l) (verdict items t l)) (sym f)
-      (by-time n again items t timing c rest short (leb (zerosAsked (lastKind items) (commandKind c)) t) refl (sym (ap patternOf f) ∙ e))
+      (by-time n again items t timing c rest short (leb (zerosAsked (lastKind items) (commandKind c)) t) refl (sym (ap patternOf f) ∙ e)
+      (λ z. some (ap (λ (l : List ℕ). getD l 0 0) f ∙ z)))
 
 none-left : (items : List Item) (t : ℕ) → T (timed items) → Told (streamBits items t ++ []) (verdict items t [])
 unfolding verdictFrom

@@ -4,7 +4,7 @@ use mathlib.Core.Path.{_≡_}
 use mathlib.Core.List.{List, [], _∷_}
 use Prim.Native.Nat.{ℕ, _<_}
 use lib.Dec.{T}
-use lib.ListN.{take, drop}
+use lib.ListN.{getD, take, drop}
 use Rattle.timing.specs.Table.{zerosAsked}
 use Rattle.clean_streams.specs.Commands.{Command, commandKind}
 use Rattle.clean_streams.specs.CleanStreams.{Item, streamBits, timed}
@@ -27,9 +27,10 @@ lastFrom last (i ∷ is) = lastFrom (commandKind (i .command)) is
 abbrev pub lastKind : List Item → ℕ
 lastKind items = lastFrom 0 items
 
--- "the first pattern at fault": the bits ahead of it are a clean stream, and the pattern is as its number says.
+-- "the first pattern at fault": the bits ahead of it are a clean stream, its first bit is no zero, and the pattern is as its number says.
 pub record AtFault (bits : List ℕ) (place : ℕ) (Fault : List Item → ℕ → Pattern → Type 0) : Type 0 where
   pub ahead : Clean (take place bits)
+  pub begins : getD bits place 0 ≡ 0 → ⊥
   pub fault : Fault (ahead .items) (ahead .trailing) (patternOf (drop place bits))
 
 -- "15 when too few zeros lie ahead": a whole command, and fewer zeros than the timing table asks after the one before.

@@ -1,3 +1,4 @@
 pub mod Patterns
 pub mod Verdicts
 pub mod Accepted
+pub mod VerdictTable

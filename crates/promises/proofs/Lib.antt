@@ -6,6 +6,7 @@ pub mod RecordLines
 pub mod Records
 pub mod ManyHits
 pub mod Damage
+pub mod Acceptance
 pub mod Hosts
 pub mod HostCalls
 pub mod HostDemands

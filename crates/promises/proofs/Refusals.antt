@@ -34,10 +34,10 @@ not-leb-by : (a b : ℕ) (t : Bool) → ltb b a ≡ t → not (leb a b) ≡ ltb 
 not-leb-by a b true e = ap not (lt-leb a b (ltb-true b a e)) ∙ sym e
 not-leb-by a b false e = ap not (le-leb a b (ltb-false b a e)) ∙ sym e
 
-not-leb : (a b : ℕ) → not (leb a b) ≡ ltb b a
+pub not-leb : (a b : ℕ) → not (leb a b) ≡ ltb b a
 not-leb a b = not-leb-by a b (ltb b a) refl
 
-not-and : (a b : Bool) → not (a && b) ≡ (not a || not b)
+pub not-and : (a b : Bool) → not (a && b) ≡ (not a || not b)
 not-and true b = refl
 not-and false b = refl
 

@@ -3,6 +3,7 @@ pub mod Frames
 pub mod Records
 pub mod Damage
 pub mod ManyHits
+pub mod Acceptance
 pub mod Hosts
 pub mod HostCalls
 pub mod Programs

@@ -102,8 +102,8 @@ impl Flaw {
         Flaw::Extra,
     ];
 
-    /// The stream with this flaw somewhere. A flaw need not be a fault: an
-    /// LV1 can be inverted into the zeros and ones of other commands.
+    /// The stream with this flaw somewhere. A flaw need not be a fault: the
+    /// end may come between commands, and one command more may have its zeros.
     pub fn put_into(self, pulses: &Pulses, random: &mut Random) -> Stream {
         let mut stream = pulses.stream.clone();
         if stream.bits.is_empty() {

@@ -9,12 +9,12 @@ use compare::interface::image::{image, is_inside_wr_receiver, state, uses, Image
 use compare::interface::layout::{self, at, largest, IMAGE_WORDS, LAYOUT, RECOGNISER};
 use compare::interface::states::{random_cycle, random_state, EARLIER_KINDS, PLANS};
 use compare::interface::streams::addresses;
-use compare::interface::{checker, crowding, fit, hits, large, prefilled, votes};
+use compare::interface::{accepting, checker, crowding, fit, hits, large, prefilled, votes};
 use compare::tally::Tally;
 use reader::limits::{input_fits, CLOCK_LIMIT, RECORD_WORDS, STORE_WORDS, TRAY_BYTES};
 use reader::listing::push_record;
 use reader::record::{flag, kind};
-use reader::{hex_line, open, recogniser, slow, sound, take};
+use reader::{accept, hex_line, open, recogniser, slow, sound, take};
 use reader::{Ending, Plan, Recogniser, Record, State};
 use std::collections::{BTreeMap, BTreeSet};
 use std::path::Path;
@@ -22,8 +22,15 @@ use std::path::Path;
 /// The C header of the repository.
 const HEADER: &str = concat!(env!("CARGO_MANIFEST_DIR"), "/../../include/kernelstill.h");
 
-/// The header's macros of a value: the parts of an LV1's.
-const PARTS: [&str; 3] = ["LV1_POSITION(value)", "LV1_L1ID(value)", "LV1_BUNCH(value)"];
+/// The header's macros of a value: the parts of an LV1's, and of the answer
+/// for a stream.
+const PARTS: [&str; 5] = [
+    "LV1_POSITION(value)",
+    "LV1_L1ID(value)",
+    "LV1_BUNCH(value)",
+    "ACCEPT_NUMBER(answer)",
+    "ACCEPT_PLACE(answer)",
+];
 
 /// The numbers that the header defines, by name without its first part.
 fn in_header() -> BTreeMap<String, u64> {
@@ -142,6 +149,9 @@ fn refusals() -> Vec<(&'static str, u64)> {
         ("CLOCK_OVER", layout::CLOCK_OVER),
         ("WRONG_CHARACTER", layout::WRONG_CHARACTER),
         ("WRONG_LENGTH", layout::WRONG_LENGTH),
+        ("UNKNOWN_PATTERN", layout::UNKNOWN_PATTERN),
+        ("CUT_PATTERN", layout::CUT_PATTERN),
+        ("PATTERN_TOO_CLOSE", layout::PATTERN_TOO_CLOSE),
     ]
 }
 
@@ -730,7 +740,7 @@ fn sent_back(call: &Call) -> Vec<(&'static str, Vec<u8>)> {
                 ("result", words(&take.result)),
             ]
         }
-        Call::FrameBits { .. } | Call::FramePart { .. } => Vec::new(),
+        Call::FrameBits { .. } | Call::FramePart { .. } | Call::Accept { .. } => Vec::new(),
         Call::HexLine { bytes, .. } => vec![("bytes", bytes.clone())],
         Call::RecordLine { line, .. } => vec![("line", line.clone())],
     }
@@ -748,7 +758,7 @@ fn right_reply(expected: &Expected) -> Vec<u8> {
         .collect()
 }
 
-/// A call of each function, accepted.
+/// A call of each function, accepted but for the last.
 fn one_of_each(random: &mut Random) -> Vec<Call> {
     vec![
         Call::Open(Open {
@@ -777,7 +787,65 @@ fn one_of_each(random: &mut Random) -> Vec<Call> {
             head: random.word(),
             value: random.word(),
         },
+        Call::Accept {
+            input: vec![0xE8, 0x07, 0x40],
+            first: 0,
+            count: 24,
+        },
+        Call::Accept {
+            input: vec![0xFF, 0xB0, 0xAC, 0x20],
+            first: 8,
+            count: 24,
+        },
     ]
+}
+
+/// The answers for streams (document 02, F-8): number, and place from the
+/// range's first bit on.
+#[test]
+fn answers_for_streams() {
+    let answer = |input: &[u8], first, count| {
+        let call = Call::Accept {
+            input: input.to_vec(),
+            first,
+            count,
+        };
+        let expected = expected(&call);
+        assert_eq!(reply_bytes(&expected), 8);
+        expected.answer
+    };
+    let input = [0xFF, 0xB0, 0xAC, 0x20];
+    assert_eq!(answer(&input, 8, 9), 0);
+    assert_eq!(answer(&input, 8, 24), 0x0A0F);
+    assert_eq!(answer(&input, 8, 23), 0x0A0F);
+    assert_eq!(answer(&input, 8, 18), 0x0A0E);
+    assert_eq!(answer(&input, 3, 24), 0x000D);
+    assert_eq!(answer(&input, 17, 15), 0);
+    assert_eq!(answer(&input, 8, 25), 5);
+    assert_eq!(answer(&[], u64::MAX, u64::MAX), 5);
+    assert_eq!(layout::verdict(layout::PATTERN_TOO_CLOSE, 10), 0x0A0F);
+}
+
+/// The random streams of the comparison have each verdict, and long ones.
+#[test]
+fn random_streams_have_every_verdict() {
+    let mut counts = BTreeMap::new();
+    let mut long = 0;
+    for number in 0..4_000 {
+        let stream = accepting::random_stream(&mut Random::new(number), number);
+        let verdict = accept(&stream.bytes(), 0, stream.bits.len() as u64);
+        let number = verdict.map_or_else(|fault| fault.number(), |()| 0);
+        *counts.entry(number).or_insert(0) += 1;
+        long += u32::from(stream.bits.len() > 5_000);
+    }
+    assert!(counts.keys().eq(&[0, 13, 14, 15]), "{counts:?}");
+    assert!(counts.values().all(|&count| count > 200), "{counts:?}");
+    assert!(long > 10, "{long}");
+    let dense = accepting::dense(&mut Random::new(1), 100_000);
+    assert_eq!(dense.stream.bits.len(), 100_000);
+    assert!(dense.sent.len() > 10_000 && dense.needed_zeros().len() > 2_000);
+    let verdict = accept(&dense.stream.bytes(), 0, 100_000);
+    assert_eq!(verdict, Ok(()));
 }
 
 #[test]

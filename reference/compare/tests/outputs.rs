@@ -2,8 +2,12 @@
 
 use cases::{crowded, fixed, generated, golden, hits, noisy, pulsed};
 use compare::printed::printed;
-use reader::{model, reading, station, Program};
+use reader::{hex_line, model, reading, station, Program};
 use std::collections::HashSet;
+
+fn lines_of(input: &[u8]) -> impl Iterator<Item = &[u8]> {
+    input.split(|&byte| byte == b'\n')
+}
 
 #[test]
 fn the_three_outputs_agree() {
@@ -28,10 +32,12 @@ fn the_three_outputs_agree() {
         let state = three.strip_prefix(&two).unwrap();
         assert!(state.starts_with("register 0 "), "{}", case.name);
         let refusal = two.lines().find(|line| line.starts_with('!'));
-        let folders = ["refusals/", "accept/line-wrong-", "accept/line-odd-"];
-        let named = folders.iter().any(|folder| case.name.starts_with(folder));
-        // A stream of pulses may have a refused line.
-        let named = named || refusal.is_some() && case.name.starts_with("pulse-");
+        // Streams for `accept` have refused lines behind faults.
+        let of_accept = ["accept/", "pulse-streams/"];
+        let named = match of_accept.iter().any(|folder| case.name.starts_with(folder)) {
+            true => lines_of(&case.input).any(|line| hex_line(line).is_err()),
+            false => case.name.starts_with("refusals/"),
+        };
         assert_eq!(refusal.is_some(), named, "{}", case.name);
         refused.extend(refusal.map(|line| line[1..3].to_string()));
     }

@@ -89,7 +89,7 @@ const COMMANDS: [Command; 5] = [
 const fn fast(body: u8) -> Command {
     Command {
         kind: kind::FAST + body,
-        bits: 0b10110_0000 | body as u16,
+        bits: 0b10110 << 4 | body as u16,
         length: 9,
     }
 }

@@ -8,6 +8,7 @@ mod function {
     pub const FRAME_PART: u64 = 4;
     pub const HEX_LINE: u64 = 5;
     pub const RECORD_LINE: u64 = 6;
+    pub const ACCEPT: u64 = 7;
 }
 
 /// A call with all that it lends.
@@ -31,6 +32,11 @@ pub enum Call {
         line: Vec<u8>,
         head: u64,
         value: u64,
+    },
+    Accept {
+        input: Vec<u8>,
+        first: u64,
+        count: u64,
     },
 }
 
@@ -82,6 +88,7 @@ impl Call {
             Call::FramePart { tray, .. } => tray.is_empty(),
             Call::HexLine { line, bytes } => line.is_empty() || bytes.is_empty(),
             Call::RecordLine { line, .. } => line.is_empty(),
+            Call::Accept { input, .. } => input.is_empty(),
         }
     }
 
@@ -122,6 +129,15 @@ impl Call {
                 request.words(&[function::RECORD_LINE]);
                 request.bytes_slice(line);
                 request.words(&[*head, *value]);
+            }
+            Call::Accept {
+                input,
+                first,
+                count,
+            } => {
+                request.words(&[function::ACCEPT]);
+                request.bytes_slice(input);
+                request.words(&[*first, *count]);
             }
         }
         request.bytes

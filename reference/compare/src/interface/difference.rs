@@ -48,7 +48,7 @@ fn buffers(call: &Call) -> Vec<Buffer> {
             Buffer::words("list", &take.list),
             Buffer::words("result", &take.result),
         ],
-        Call::FrameBits { .. } | Call::FramePart { .. } => Vec::new(),
+        Call::FrameBits { .. } | Call::FramePart { .. } | Call::Accept { .. } => Vec::new(),
         Call::HexLine { bytes, .. } => vec![Buffer::bytes("bytes", bytes)],
         Call::RecordLine { line, .. } => vec![Buffer::bytes("line", line)],
     }

@@ -3,11 +3,11 @@
 use super::call::{Call, Open, Take};
 use super::image::{image, state, unspecified_places};
 use super::layout::{
-    DONE, FRAME, IMAGE_WORDS, LINE_BYTES, LIST_FULL, OK, RECORD_LINE_BYTES, RESULT_WORDS, UNSOUND,
-    WRONG_BUFFERS, WRONG_PLAN,
+    verdict, DONE, FRAME, IMAGE_WORDS, LINE_BYTES, LIST_FULL, OK, RECORD_LINE_BYTES, RESULT_WORDS,
+    UNSOUND, WRONG_BUFFERS, WRONG_PLAN,
 };
 use reader::listing::push_record;
-use reader::{frame_part, hex_line, open, sound, take, Ending, Plan, Record, State};
+use reader::{accept, frame_part, hex_line, open, sound, take, Ending, Plan, Record, State};
 
 #[derive(Clone, Debug)]
 pub struct Expected {
@@ -31,6 +31,11 @@ pub fn expected(call: &Call) -> Expected {
         Call::FramePart { tray, bits } => frame_part(tray, *bits).len() as u64,
         Call::HexLine { line, bytes } => reading(line, bytes),
         Call::RecordLine { line, head, value } => writing(line, [*head, *value]),
+        Call::Accept {
+            input,
+            first,
+            count,
+        } => accepting(input, *first, *count),
     };
     Expected {
         answer,
@@ -110,6 +115,13 @@ fn take_into(call: &mut Take) -> Result<u64, u64> {
     }
     call.result = vec![answer.bits_taken, answer.records_written, ending];
     Ok(answer.bits_taken)
+}
+
+fn accepting(input: &[u8], first: u64, count: u64) -> u64 {
+    match accept(input, first, count) {
+        Ok(()) => OK,
+        Err(fault) => verdict(fault.number().into(), fault.place),
+    }
 }
 
 fn reading(line: &[u8], bytes: &mut [u8]) -> u64 {

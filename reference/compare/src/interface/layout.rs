@@ -24,6 +24,15 @@ pub const WRONG_RANGE: u64 = 5;
 pub const CLOCK_OVER: u64 = 6;
 pub const WRONG_CHARACTER: u64 = 7;
 pub const WRONG_LENGTH: u64 = 8;
+pub const UNKNOWN_PATTERN: u64 = 13;
+pub const CUT_PATTERN: u64 = 14;
+pub const PATTERN_TOO_CLOSE: u64 = 15;
+
+/// The answer for a stream: the refusal number and the place of the first bit
+/// of the pattern at fault; both 0 if it is accepted.
+pub fn verdict(number: u64, place: u64) -> u64 {
+    place << 8 | number
+}
 
 /// How a taking call ended, by its result.
 pub const DONE: u64 = 0;

@@ -4,6 +4,7 @@
 //! each slice in a block of its own. Every answer and every buffer, written
 //! or not, is compared whole with what the separate reader gives.
 
+pub mod accepting;
 pub mod call;
 pub mod checker;
 pub mod crowding;
@@ -49,6 +50,7 @@ pub fn compare(driver: &Path, tally: &mut Tally) -> io::Result<()> {
         crowding::check(checker)?;
         hits::check(checker)?;
         streams::check(checker)?;
-        large::check(checker)
+        large::check(checker)?;
+        accepting::check(checker)
     })
 }

@@ -4,6 +4,7 @@
 use super::{large, GOOD, REFUSED, SILENT};
 use crate::programs::errors::ENOENT;
 use crate::programs::situation::{ErrorOutput, Input, Output, Situation};
+use reader::Program;
 
 /// Blocks of 512 bytes that 128 records of 28 bytes fill.
 const BLOCKS: usize = 7;
@@ -70,7 +71,10 @@ fn written_in_part() -> Vec<Situation> {
             };
             let name = format!("a reader of {after} bytes, {what}");
             let output = Output::Leaves { after, ignored };
-            all.push(Situation::new(name, &large()).output(output));
+            let mut leaves = Situation::new(name, &large()).output(output);
+            // What `accept` prints fits into the pipe before the reader leaves.
+            leaves.programs = Program::LISTING.to_vec();
+            all.push(leaves);
         }
     }
     all
