@@ -4,3 +4,4 @@ pub mod Notes
 pub mod PartlyRead
 pub mod Blocks
 pub mod Example
+pub mod FitLines

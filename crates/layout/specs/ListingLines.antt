@@ -38,6 +38,10 @@ recordLine head value =
 abbrev pub refusedLine : ℕ → ℕ → List ℕ
 refusedLine number line = lineOf (ascii "!") (number ∷ line ∷ []) (2 ∷ 8 ∷ [])
 
+-- A pattern at fault (document 02, F-8) prints the same with its place, in the digits of a time.
+abbrev pub faultLine : ℕ → ℕ → List ℕ
+faultLine number place = lineOf (ascii "!") (number ∷ place ∷ []) (2 ∷ 12 ∷ [])
+
 -- The digits of bytes, two each.
 unfoldable pub byteDigits : List ℕ → List ℕ
 byteDigits [] = []

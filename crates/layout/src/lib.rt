@@ -9,7 +9,7 @@ ghost use lib.Seq.{sets};
 ghost use Rattle.output.specs.Ascii.{lineFeed};
 ghost use Rattle.output.specs.Block.{block, putAll, putIfFits};
 ghost use Rattle.layout.specs.Digits.{characterOf, charactersOf};
-ghost use Rattle.layout.specs.ListingLines.{space, numbersLine, lineOf, numbersSize, recordLine, refusedLine, byteDigits, frameLine};
+ghost use Rattle.layout.specs.ListingLines.{space, numbersLine, lineOf, numbersSize, recordLine, refusedLine, faultLine, byteDigits, frameLine};
 ghost use Rattle.layout.specs.StateLines.{registerLine, l1idLine, baseLine, runmodeLine, pointersLine, wordLine};
 
 const SPACE: u8 = b' ';
@@ -156,6 +156,15 @@ pub fn refused_line(out: &mut [u8], at: usize, number: u8, line: u64) -> usize
     let numbers = [number as u64, line];
     let widths = [2, 8];
     put_line(out, at, 13, b"!", &numbers, &widths)
+}
+
+// What a pattern at fault prints: the refusal's number, and the place of its first bit, as a time. 17 bytes.
+pub fn fault_line(out: &mut [u8], at: usize, number: u8, place: u64) -> usize
+    ensures { λ r. ⌜ block (now (out .exit)) r ≡ putIfFits (now (out .entry)) at (faultLine number place) ⌝ }
+{
+    let numbers = [number as u64, place];
+    let widths = [2, 12];
+    put_line(out, at, 17, b"!", &numbers, &widths)
 }
 
 // A register of the model's state: its address, and what it holds. 16 bytes.

@@ -11,7 +11,7 @@ use Rattle.bits.proofs.Truth.{choice}
 use Rattle.output.specs.Ascii.{ascii}
 use Rattle.hexlines.specs.declared.LineNotes.{LineNotes}
 use Rattle.hexlines.specs.Line.{digitLimit}
-use Rattle.messages.specs.Sentences.{labelled, characterText, wrongLength, reasonOf, sentenceOf}
+use Rattle.messages.specs.Sentences.{labelled, characterText, wrongLength, reasonOf, sentenceOf, faultReason, faultSentence}
 use Rattle.messages.proofs.Decimal.{decimal-short}
 
 labelled-length : (label : List ℕ) (n : ℕ) (after : List ℕ) → length (labelled label n after) ≤ length label + 20 + length after
@@ -45,3 +45,11 @@ reason-length number notes =
 pub sentence-short : (number line : ℕ) (notes : LineNotes) → length (sentenceOf number line notes) ≤ 120
 sentence-short number line notes =
     rw length-append (omega (arith, labelled-length (ascii "line ") line (ascii ": "), reason-length number notes))
+
+fault-reason-length : (number : ℕ) → Short 70 (faultReason number)
+unfolding faultReason
+fault-reason-length number =
+    choice (Short 70) (eqb number 13) (λ _. omega arith) (λ _. choice (Short 70) (eqb number 14) (λ _. omega arith) (λ _. omega arith))
+
+pub fault-short : (number place : ℕ) → length (faultSentence number place) ≤ 120
+fault-short number place = rw length-append (omega (arith, labelled-length (ascii "bit ") place (ascii ": "), fault-reason-length number))

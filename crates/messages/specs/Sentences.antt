@@ -42,3 +42,12 @@ reasonOf number notes =
 -- The whole sentence, by the number, the line's number and its notes.
 abbrev pub sentenceOf : ℕ → ℕ → LineNotes → List ℕ
 sentenceOf number line notes = labelled (ascii "line ") line (ascii ": ") ++ reasonOf number notes
+
+-- A pattern at fault (document 02, F-8): why, by the number, and the whole sentence, by the place of its first bit.
+unfoldable pub faultReason : ℕ → List ℕ
+faultReason number =
+    cond (eqb number 13) (ascii "the bits from here on begin none of LV1, BCR, ECR, CAL and SYNC\n")
+    (cond (eqb number 14) (ascii "the input ends inside the command that begins here\n") (ascii "too few zeros lie ahead of the command that begins here\n"))
+
+abbrev pub faultSentence : ℕ → ℕ → List ℕ
+faultSentence number place = labelled (ascii "bit ") place (ascii ": ") ++ faultReason number

@@ -8,7 +8,8 @@ use borrow.Author.Needs.{needs}
 use Rattle.hexlines.specs.Line.{hexNumber}
 use Rattle.hexlines.specs.Lines.{answerOf}
 use Rattle.program.specs.RunState.{Snapshot, snapshot, StepReady}
-use Rattle.program.proofs.LineEnd.{line-fits, LineEnded, line-refused, line-accepted}
+use Rattle.hexlines.proofs.FitLines.{line-fits}
+use Rattle.program.proofs.LineEnd.{LineEnded, line-refused, line-accepted}
 use Rattle.program.proofs.RunState.end_line.Statement.{statement}
 use Rattle.program.proofs.RunState.end_line.Tie as tie
 
