@@ -5,7 +5,7 @@ A `Decoder` takes the line's bits, one a clock cycle, and gives a `Record` for
 each command or error. Wherever the bits are cut into calls, the records are
 the same. Here the first call ends inside the second trigger:
 
->>> from kernelstill import Decoder, Refused, hex_line
+>>> from kernelstill import Decoder, Refused, accept, hex_line
 >>> capture = hex_line("B5C074") + hex_line("E0B080")
 >>> decoder = Decoder()
 >>> for record in decoder.take(capture, 0, 26) + decoder.take(capture, 26):
@@ -46,6 +46,12 @@ digits are in lower case, and then a bit is asked for that is not there:
 ...     print(refused.number, "-", refused)
 5 - refused with 5: the input is over 1,048,576 bytes, or the range passes its end
 
+`accept` checks a finished stream of triggers and Fasts. Here two BCRs have one
+zero between them, and the timing table asks two:
+
+>>> accept(hex_line("B0AC20"))
+Verdict(number=15, place=10)
+
 The library is the file that KERNELSTILL_LIBRARY names, or else
 lib/libkernelstill.so beside this module's folder, where host/build puts it.
 """
@@ -73,7 +79,9 @@ __all__ = [
     "Record",
     "Refused",
     "State",
+    "Verdict",
     "Warnings",
+    "accept",
     "hex_line",
 ]
 
@@ -90,6 +98,7 @@ _RESULT_WORDS = 3
 _RECORD_LINE_BYTES = 28
 _LINE_BYTES = 32
 _DONE, _FRAME = 0, 1
+_WRONG_RANGE = 5
 
 _FIFOS = 16
 _FIFO_WORDS = _STORE_WORDS // _FIFOS
@@ -133,6 +142,9 @@ REFUSALS = {
     6: "next cycle + count exceeds 2^48",
     7: "a character is not 0-9 or A-F",
     8: "the count of digits is odd, or above 64",
+    13: "a pattern of a stream begins none of LV1, BCR, ECR, CAL and SYNC",
+    14: "the stream ends inside a command",
+    15: "too few zeros lie ahead of a command",
 }
 
 # Any other object with a buffer will do too.
@@ -181,6 +193,7 @@ def _load() -> ctypes.CDLL:
         ),
         "kernelstill_frame_bits": (u64, [u64, u64]),
         "kernelstill_frame_part": (size, [u8s, size, size]),
+        "kernelstill_accept": (u64, [ctypes.c_void_p, size, size, size]),
         "kernelstill_hex_line": (u64, [ctypes.c_void_p, size, u8s, size]),
         "kernelstill_record_line": (u64, [u8s, size, u64, u64]),
     }
@@ -250,6 +263,48 @@ def hex_line(text: Union[str, BytesLike]) -> bytes:
     octets = (ctypes.c_uint8 * _LINE_BYTES)()
     _check(_library.kernelstill_hex_line(line, len(line), octets, _LINE_BYTES))
     return bytes(octets)[: len(line) // 2]
+
+
+class Verdict(NamedTuple):
+    """What `accept` answers; true if the stream is accepted."""
+
+    number: int  # 0 if accepted, else 13, 14 or 15; REFUSALS has the texts
+    place: int  # of the first bit of the first pattern at fault, 0 if accepted
+
+    @property
+    def accepted(self) -> bool:
+        return self.number == 0
+
+    def __bool__(self) -> bool:
+        return self.accepted
+
+
+def accept(data: BytesLike, first: int = 0, count: Optional[int] = None) -> Verdict:
+    """Whether a finished stream of trigger and fast commands, `count` bits
+    from bit `first` on, or all from there, is accepted: zeros and whole, exact
+    LV1, BCR, ECR, CAL and SYNC, with at least the zeros between two that the
+    timing table asks. Zeros alone, or no bits, are accepted.
+
+    If not, the verdict has the number of the first fault (13, 14, 15) and the
+    place of its pattern's first bit, counted from 0 at bit `first`. A pattern
+    begins at the first 1 behind the one before.
+
+    At most 1,048,576 bytes. An input or a range that is not fit has no
+    verdict: it is refused with 5, as by `take`.
+    """
+    first = _unsigned(first, "first")
+    if count is not None:
+        count = _unsigned(count, "count")
+    lent, length = _lent(data)
+    if count is None:
+        count = max(8 * length - first, 0)
+    answer = _library.kernelstill_accept(lent, length, first, count)
+    # Else the exception would hold the caller's buffer.
+    del lent
+    number, place = answer & 0xFF, answer >> 8
+    if number == _WRONG_RANGE:
+        raise Refused(number)
+    return Verdict(number, place)
 
 
 class Record(NamedTuple):

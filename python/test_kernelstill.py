@@ -1,5 +1,5 @@
 """Tests of the Python module: the header's numbers, cuts, refusals, frames,
-commands sent too close, state, save and resume."""
+commands sent too close, accepted streams, state, save and resume."""
 
 import array
 import copy
@@ -15,7 +15,8 @@ import struct
 import unittest
 
 import kernelstill
-from kernelstill import CLOCK_LIMIT, INPUT_BYTES, Decoder, Phase, Plan, Record, Refused, hex_line
+from kernelstill import CLOCK_LIMIT, INPUT_BYTES, Decoder, Phase, Plan, Record, Refused, Verdict
+from kernelstill import accept, hex_line
 
 ROOT = pathlib.Path(__file__).resolve().parent.parent
 EXAMPLE = [hex_line(line) for line in (ROOT / "examples/capture.hex").read_text().splitlines()]
@@ -30,16 +31,19 @@ def listing(records):
 def packed(bits):
     """A string of 0 and 1 as bytes, the last filled up with zeros."""
     size = (len(bits) + 7) // 8
-    return int(bits.ljust(8 * size, "0"), 2).to_bytes(size, "big")
+    return int(bits.ljust(8 * size, "0") or "0", 2).to_bytes(size, "big")
 
 
 def at_bit_0(*commands):
-    """What `take` is given for strings of 0 and 1."""
+    """What `take` and `accept` are given for strings of 0 and 1."""
     bits = "".join(commands)
     return packed(bits), 0, len(bits)
 
 
 LV1, BCR, ECR, CAL, SYNC = "11101", "101100001", "101100010", "101100100", "101101000"
+
+# What is wrong with a stream's pattern.
+UNKNOWN, CUT, CLOSE = 13, 14, 15
 
 
 def slow(field3, field4, field5=""):
@@ -79,7 +83,7 @@ class Header(unittest.TestCase):
             self.assertEqual(getattr(kernelstill, name), self.header[name], name)
         lengths = ("IMAGE_WORDS", "STORE_WORDS", "TRAY_BYTES", "RESULT_WORDS")
         lines = ("RECORD_LINE_BYTES", "LINE_BYTES")
-        for name in lengths + lines + ("LAYOUT", "DONE", "FRAME"):
+        for name in lengths + lines + ("LAYOUT", "DONE", "FRAME", "WRONG_RANGE"):
             self.assertEqual(getattr(kernelstill, f"_{name}"), self.header[name], name)
         self.assertEqual(len(Decoder()._list) % self.header["RECORD_WORDS"], 0)
         # In the order in which `take` reads them.
@@ -109,17 +113,31 @@ class Header(unittest.TestCase):
             given = [p for p in properties.values() if getattr(record, p)]
             self.assertEqual(given, [properties[name]])
 
-    def test_lv1_parts(self):
-        """The header's macros, which read in Python as in C."""
+    def macros(self, start, argument):
+        """The header's macros of one argument, which read in Python as in C."""
         text = (ROOT / "include/kernelstill.h").read_text()
-        macros = re.findall(r"^#define KERNELSTILL_LV1_(\w+)\(value\) (\S.*?) +/\*", text, re.MULTILINE)
+        form = rf"^#define KERNELSTILL_{start}_(\w+)\({argument}\) (\S.*?) +/\*"
+        return re.findall(form, text, re.MULTILINE)
+
+    def test_lv1_parts(self):
+        macros = self.macros("LV1", "value")
         self.assertEqual([name for name, _ in macros], ["POSITION", "L1ID", "BUNCH"])
         record = Record(0, 0x01, 0x07, 0x000512FE)
         parts = [eval(macro, {"value": record.value}) for _, macro in macros]
         self.assertEqual(parts, [record.position, record.l1id, record.bunch])
 
+    def test_verdict_parts(self):
+        macros = self.macros("ACCEPT", "answer")
+        self.assertEqual([name.lower() for name, _ in macros], list(Verdict._fields))
+        for stream in ("", LV1, "0" * 300 + "11100", SYNC + LV1):
+            data, first, count = at_bit_0(stream)
+            answer = kernelstill._library.kernelstill_accept(data, len(data), first, count)
+            parts = [eval(macro, {"answer": answer}) for _, macro in macros]
+            self.assertEqual(Verdict(*parts), accept(data, first, count))
+
     def test_refusals(self):
-        names = {"UNSOUND", "CLOCK_OVER"} | {n for n in self.header if n.startswith("WRONG_")}
+        names = {"UNSOUND", "CLOCK_OVER", "UNKNOWN_PATTERN", "CUT_PATTERN", "PATTERN_TOO_CLOSE"}
+        names |= {n for n in self.header if n.startswith("WRONG_")}
         self.assertEqual(sorted(self.header[name] for name in names), list(kernelstill.REFUSALS))
         self.assertEqual(self.header["OK"], 0)
 
@@ -241,15 +259,20 @@ class Cuts(unittest.TestCase):
 
 
 class Golden(unittest.TestCase):
+    def inputs(self, suffix):
+        """For each input of the programs that print such a file, its lines."""
+        paths = sorted((ROOT / "tests/golden").rglob(f"*{suffix}"))
+        self.assertTrue(paths)
+        for path in paths:
+            *lines, rest = path.with_suffix(".in").read_bytes().split(b"\n")
+            yield path, lines + [rest] if rest else lines
+
     def test_programs(self):
         """As the programs `station` and `model` do it."""
-        inputs = sorted((ROOT / "tests/golden").rglob("*.in"))
-        self.assertTrue(inputs)
-        for path in inputs:
+        for path, lines in self.inputs(".station"):
             with self.subTest(path.stem):
                 decoder, station, reading = Decoder(), "", ""
-                *lines, rest = path.read_bytes().split(b"\n")
-                for number, line in enumerate(lines + [rest] if rest else lines, 1):
+                for number, line in enumerate(lines, 1):
                     try:
                         records = decoder.take(hex_line(line))
                     except Refused as refused:
@@ -262,6 +285,23 @@ class Golden(unittest.TestCase):
                 self.assertEqual(station, path.with_suffix(".station").read_text())
                 self.assertEqual(reading, path.with_suffix(".reading").read_text())
                 self.assertEqual(model, path.with_suffix(".model").read_text())
+
+    def test_accept(self):
+        """As the program `accept` does it: what is wrong with a line is told
+        unless the lines before it have a fault that no bit behind can mend."""
+        for path, lines in self.inputs(".accept"):
+            with self.subTest(path.stem):
+                stream, printed = b"", ""
+                for number, line in enumerate(lines, 1):
+                    try:
+                        stream += hex_line(line)
+                    except Refused as refused:
+                        printed = f"!{refused.number:02X} {number:08X}\n"
+                        break
+                verdict = accept(stream)
+                if not verdict and (verdict.number != CUT or not printed):
+                    printed = f"!{verdict.number:02X} {verdict.place:012X}\n"
+                self.assertEqual(printed, path.read_text())
 
 
 class Refusals(unittest.TestCase):
@@ -724,6 +764,209 @@ class TooClose(unittest.TestCase):
             *_, record = decoder.take(*at_bit_0("00000", command))
             seen.add((record.time, record.kind))
         self.assertEqual(len(seen), len(self.COMMANDS))
+
+
+class Accepting(unittest.TestCase):
+    """A finished stream of trigger and fast commands."""
+
+    COMMANDS = (LV1, BCR, ECR, CAL, SYNC)
+    BEGINNINGS = {command[:n] for command in COMMANDS for n in range(1, len(command))}
+
+    def asked(self, first, second):
+        """The timing table."""
+        if second == LV1:
+            return 4 if first == SYNC else 0
+        return {BCR: 2, ECR: 1}.get(first, 0)
+
+    def judged(self, bits):
+        """The verdict, in another way: pattern by pattern, over the text."""
+        place, before = 0, None
+        while "1" in bits[place:]:
+            end, place = place, bits.index("1", place)
+            rest = bits[place:]
+            command = next((c for c in self.COMMANDS if rest.startswith(c)), None)
+            if command is None:
+                return CUT if rest in self.BEGINNINGS else UNKNOWN, place
+            if before is not None and place - end < self.asked(before, command):
+                return CLOSE, place
+            place, before = place + len(command), command
+        return 0, 0
+
+    def given(self, *parts):
+        verdict = accept(*at_bit_0(*parts))
+        self.assertEqual((verdict.accepted, bool(verdict)), (verdict.number == 0,) * 2)
+        return verdict
+
+    def test_verdict(self):
+        verdict = self.given("00000000", "11100")
+        self.assertEqual(verdict, (UNKNOWN, 8))
+        self.assertEqual((verdict.number, verdict.place, verdict.accepted), (UNKNOWN, 8, False))
+        self.assertEqual(repr(verdict), "Verdict(number=13, place=8)")
+        verdict = self.given(LV1)
+        self.assertEqual((verdict, verdict.accepted), (Verdict(0, 0), True))
+
+    def test_accepted(self):
+        for zeros in ("", "0", "0" * 100):
+            self.assertEqual(self.given(zeros), (0, 0))
+            for command in self.COMMANDS:
+                self.assertEqual(self.given(zeros, command), (0, 0))
+                self.assertEqual(self.given(zeros, command, zeros), (0, 0))
+
+    def test_each_pair(self):
+        for first in self.COMMANDS:
+            for second in self.COMMANDS:
+                for zeros in range(6):
+                    close = zeros < self.asked(first, second)
+                    place = 3 + len(first) + zeros
+                    expected = (CLOSE, place) if close else (0, 0)
+                    self.assertEqual(self.given("000", first, zeros * "0", second, "0"), expected)
+
+    def test_unknown(self):
+        # LV1s with flip, bad Fasts, the header of a Slow, Slows.
+        unknown = ("10101", "11001", "11111", "11100", "101100000", "101100011", "10110101")
+        for pattern in unknown + ("100", "1010", "10111", slow(8, 0), wr_register(5, 8)):
+            for behind in ("", "0" * 9, LV1):
+                self.assertEqual(self.given(pattern, behind), (UNKNOWN, 0), pattern)
+                self.assertEqual(self.given(LV1, "00", pattern, behind), (UNKNOWN, 7), pattern)
+        # It goes before too few zeros.
+        self.assertEqual(self.given(SYNC, "11100"), (UNKNOWN, 9))
+
+    def test_cut(self):
+        for pattern in self.BEGINNINGS:
+            self.assertEqual(self.given(pattern), (CUT, 0), pattern)
+            self.assertEqual(self.given("000", pattern), (CUT, 3), pattern)
+            # It goes before too few zeros.
+            self.assertEqual(self.given(BCR, pattern), (CUT, 9), pattern)
+        # A zero more completes an ECR, and makes no command of a BCR's eight.
+        self.assertEqual(self.given(ECR[:-1], "0"), (0, 0))
+        self.assertEqual(self.given(BCR[:-1], "0"), (UNKNOWN, 0))
+
+    def test_first_fault(self):
+        """The first pattern at fault is told, whatever comes behind it."""
+        self.assertEqual(self.given(BCR, "0", BCR, "1010"), (CLOSE, 10))
+        self.assertEqual(self.given("1010", BCR, BCR), (UNKNOWN, 0))
+        self.assertEqual(self.given(BCR, BCR, "1"), (CLOSE, 9))
+
+    def test_each_short_stream(self):
+        for length in range(13):
+            for number in range(1 << length):
+                bits = f"{number:0{length}b}" if length else ""
+                self.assertEqual(self.given(bits), self.judged(bits), bits)
+
+    def test_random_streams(self):
+        random_ = random.Random(8)
+        faults = set()
+        for _ in range(3000):
+            parts = random_.choices(self.COMMANDS + ("0", "00", "0000", "00000000"), k=8)
+            if random_.random() < 0.3:
+                parts.insert(random_.randrange(8), random_.choice(("1", "111", "1011", slow(8, 0))))
+            bits = "".join(parts)
+            verdict = self.given(bits)
+            self.assertEqual(verdict, self.judged(bits), bits)
+            faults.add(verdict.number)
+        self.assertEqual(faults, {0, UNKNOWN, CUT, CLOSE})
+
+    def test_as_a_decoder_reads(self):
+        """An accepted stream is read in RunMode as the commands that it was
+        made of, none too close."""
+        random_ = random.Random(9)
+        bits, sent = "", []
+        for command in random_.choices(self.COMMANDS, k=1000):
+            bits += random_.randrange(4, 7) * "0" + command
+            sent.append(self.COMMANDS.index(command))
+        self.assertTrue(self.given(bits))
+        records = Decoder().take(*at_bit_0(slow(8, 0), bits))[1:]
+        kinds = (0x01, 0x11, 0x12, 0x14, 0x18)
+        self.assertEqual([kinds.index(record.kind) for record in records], sent)
+        self.assertFalse(any(record.too_close or record.flip for record in records))
+
+    def test_range(self):
+        """Places count from the range's first bit; nothing ahead of it, or
+        behind it, is looked at."""
+        bits = "1111" + BCR + "0" + BCR + "1111"
+        data = packed(bits)
+        self.assertEqual(accept(data, 4, 19), (CLOSE, 10))
+        self.assertEqual(accept(data, 5, 18), (UNKNOWN, 1))
+        self.assertEqual(accept(data, 4, 18), (CUT, 10))
+        self.assertEqual(accept(data, 4, 10), (0, 0))
+        self.assertEqual(accept(data, 14, 9), (0, 0))
+        # To the end, with the zeros that fill up the last byte.
+        self.assertEqual(accept(data, 14), (UNKNOWN, 9))
+        self.assertEqual(accept(data, first=27), (0, 0))
+        self.assertEqual(accept(data), (UNKNOWN, 0))
+        self.assertEqual(accept(data, count=3), (CUT, 0))
+
+    def test_no_bits(self):
+        for data in (b"", b"\xff", bytes(INPUT_BYTES)):
+            for first in (0, 8 * len(data)):
+                self.assertEqual(accept(data, first, 0), (0, 0))
+            self.assertEqual(accept(data, 8 * len(data)), (0, 0))
+
+    def test_longest(self):
+        # A mebibyte: ten bits at a time, and the last command is cut at its end.
+        bits = (CAL + "0") * (8 * INPUT_BYTES // 10 + 1)
+        data = packed(bits)[:INPUT_BYTES]
+        place = 8 * INPUT_BYTES // 10 * 10
+        self.assertEqual(accept(data), (CUT, place))
+        self.assertEqual(accept(data, 0, place), (0, 0))
+
+    def test_refused(self):
+        """What is not fit has no verdict."""
+        full = bytes(INPUT_BYTES)
+        for arguments in (
+            (b"", 0, 1),
+            (b"", 1),
+            (b"", 1, 0),
+            (b"\xff", 0, 9),
+            (b"\xff", 8, 1),
+            (b"\xff", 9),
+            (b"\xff", 2**64 - 1, 2**64 - 1),
+            (b"\xff", 1, 2**64 - 1),
+            (b"\xff", 2**64, 0),
+            (b"\xff", 0, 10**30),
+            (full, 8 * INPUT_BYTES, 1),
+            (full + b"\0",),
+            (full + b"\0", 0, 0),
+        ):
+            with self.assertRaises(Refused) as caught:
+                accept(*arguments)
+            self.assertEqual(caught.exception.number, 5)
+
+    def test_wrong_arguments(self):
+        for wrong in (-1, -(2**64)):
+            self.assertRaises(ValueError, accept, b"\xff", wrong)
+            self.assertRaises(ValueError, accept, b"\xff", 0, wrong)
+        for wrong in (1.0, "1"):
+            self.assertRaises(TypeError, accept, b"\xff", wrong)
+            self.assertRaises(TypeError, accept, b"\xff", 0, wrong)
+        for wrong in (None, 5, "B5", [1]):
+            self.assertRaises(TypeError, accept, wrong)
+
+    def test_bytes_like(self):
+        stream = packed("0" * 7 + LV1 + BCR + "0" + BCR)
+        spread = bytes(byte for octet in stream for byte in (octet, 0xFF))
+        for data in (
+            stream,
+            bytearray(stream),
+            memoryview(stream),
+            memoryview(bytearray(stream)),
+            memoryview(spread)[::2],
+            array.array("B", stream),
+            array.array("H", stream),
+        ):
+            self.assertEqual(accept(data), (CLOSE, 22), type(data))
+            self.assertEqual(bytes(data), stream)
+        for nothing in (bytearray(), memoryview(b"")):
+            self.assertEqual(accept(nothing), (0, 0))
+
+    def test_buffer_is_given_back(self):
+        data = bytearray(b"\xe8")
+        self.assertTrue(accept(data))
+        try:
+            accept(data, 0, 9)
+        except Refused:
+            data.extend(b"\xe8")
+        self.assertEqual(len(data), 2)
 
 
 class States(unittest.TestCase):

@@ -73,7 +73,7 @@ fn read_pattern(pattern: u16) -> Reading
     }
     if ones == 4 {
         return Reading::Whole {
-            kind: KIND_FAST + (pattern % 16) as u8,
+            kind: KIND_FAST + (pattern & 15) as u8,
         };
     }
     Reading::Unknown

@@ -1,10 +1,25 @@
-// The programs `station`, `reading` and `model` by their words.
+// The programs `station`, `reading`, `model` and `accept` by their words.
 ghost use mathlib.Core.Path.{_≡_};
 ghost use Rattle.runs.specs.Status.{IsStatus};
 use libc::STDERR_FILENO;
 use libc::STDIN_FILENO;
 use libc::STDOUT_FILENO;
 use program::PrintOptions;
+
+// What a program does with its input: lists it, with what is printed beside the records, or tells whether its stream is accepted.
+enum Task {
+    List { prints: PrintOptions },
+    Accept,
+}
+
+fn run_input(name: &[u8], source: &[u8], fd: i32, task: Task) -> u8
+    ensures { λ r. ⌜ IsStatus r ⌝ }
+{
+    match task {
+        Task::List { prints } => runs::list_input(name, source, fd, prints),
+        Task::Accept => judge_runs::judge_input(name, source, fd),
+    }
+}
 
 fn usage(name: &[u8]) -> u8
     ensures { λ r. ⌜ r ≡ 2 ⌝ }
@@ -38,7 +53,8 @@ fn printed(name: &[u8], whole: bool) -> u8
     runs::WHOLE
 }
 
-fn help(name: &[u8], prints: &[u8]) -> u8
+// `prints` and `told` are what the program prints, and the exit status of an input that was read.
+fn help(name: &[u8], prints: &[u8], told: &[u8]) -> u8
     ensures { λ r. ⌜ IsStatus r ⌝ }
 {
     let usage = print(print(print(true, b"usage: "), name), b" [FILE]\n");
@@ -48,8 +64,8 @@ fn help(name: &[u8], prints: &[u8]) -> u8
     );
     let output = print(print(input, prints), b" to standard output.\n");
     let status = print(
-        output,
-        b"Exit status: 0 the whole input, 1 a line was refused, 2 wrong words, 3 the system failed.\n",
+        print(print(output, b"Exit status: "), told),
+        b", 2 wrong words, 3 the system failed.\n",
     );
     printed(name, status)
 }
@@ -69,14 +85,14 @@ fn is_option(word: &[u8]) -> bool {
 }
 
 // The program by its one word: an input's name or an option.
-fn run_word(name: &[u8], describes: &[u8], word: &[u8], prints: PrintOptions) -> u8
+fn run_word(name: &[u8], prints: &[u8], told: &[u8], word: &[u8], task: Task) -> u8
     ensures { λ r. ⌜ IsStatus r ⌝ }
 {
     if check::same(word, b"-") {
-        return runs::list_input(name, b"standard input", STDIN_FILENO, prints);
+        return run_input(name, b"standard input", STDIN_FILENO, task);
     }
     if check::same(word, b"--help") {
-        return help(name, describes);
+        return help(name, prints, told);
     }
     if check::same(word, b"--version") {
         return version(name);
@@ -89,19 +105,19 @@ fn run_word(name: &[u8], describes: &[u8], word: &[u8], prints: PrintOptions) ->
         posix::fail(name, word);
         return runs::FAILED;
     }
-    runs::list_input(name, word, fd, prints)
+    run_input(name, word, fd, task)
 }
 
 // The longest name of a file, without the 0 that C ends it with.
 const LONGEST_WORD: usize = libc::PATH_MAX - 1;
 
 // The program by its words.
-fn run(name: &[u8], describes: &[u8], prints: PrintOptions) -> u8
+fn run(name: &[u8], prints: &[u8], told: &[u8], task: Task) -> u8
     ensures { λ r. ⌜ IsStatus r ⌝ }
 {
     let words = os::arg_count();
     if words < 2 {
-        return runs::list_input(name, b"standard input", STDIN_FILENO, prints);
+        return run_input(name, b"standard input", STDIN_FILENO, task);
     }
     if 2 < words {
         return usage(name);
@@ -112,41 +128,69 @@ fn run(name: &[u8], describes: &[u8], prints: PrintOptions) -> u8
         posix::fail(name, b"argument");
         return runs::FAILED;
     }
-    run_word(name, describes, &word[..n], prints)
+    run_word(name, prints, told, &word[..n], task)
 }
 
 // `station`: one line per record and one per frame.
 #[no_mangle]
-pub extern "C" fn kernelstill_station() -> u8
+pub extern "C" fn kernelstill_run_station() -> u8
     ensures { λ r. ⌜ IsStatus r ⌝ }
 {
     let prints = PrintOptions {
         frames: true,
         state: false,
     };
-    run(b"station", b"a line per record and one per frame", prints)
+    run(
+        b"station",
+        b"a line per record and one per frame",
+        b"0 the whole input, 1 a line was refused",
+        Task::List { prints },
+    )
 }
 
 // `reading`: one line per record.
 #[no_mangle]
-pub extern "C" fn kernelstill_reading() -> u8
+pub extern "C" fn kernelstill_run_reading() -> u8
     ensures { λ r. ⌜ IsStatus r ⌝ }
 {
     let prints = PrintOptions {
         frames: false,
         state: false,
     };
-    run(b"reading", b"a line per record", prints)
+    run(
+        b"reading",
+        b"a line per record",
+        b"0 the whole input, 1 a line was refused",
+        Task::List { prints },
+    )
 }
 
 // `model`: one line per record, and at the end the controller as the commands left it.
 #[no_mangle]
-pub extern "C" fn kernelstill_model() -> u8
+pub extern "C" fn kernelstill_run_model() -> u8
     ensures { λ r. ⌜ IsStatus r ⌝ }
 {
     let prints = PrintOptions {
         frames: false,
         state: true,
     };
-    run(b"model", b"a line per record, then the state,", prints)
+    run(
+        b"model",
+        b"a line per record, then the state,",
+        b"0 the whole input, 1 a line was refused",
+        Task::List { prints },
+    )
+}
+
+// `accept`: a line for the first pattern at fault, if there is one.
+#[no_mangle]
+pub extern "C" fn kernelstill_run_accept() -> u8
+    ensures { λ r. ⌜ IsStatus r ⌝ }
+{
+    run(
+        b"accept",
+        b"a line for the first pattern at fault, if there is one,",
+        b"0 accepted, 1 refused",
+        Task::Accept,
+    )
 }

@@ -63,13 +63,13 @@ module _ {from : Judging} {input : List ℕ} where
         well-formed = l .well-formed;
         within = further;
         same = λ more.
-          let rest = drop (scanned .next) input ++ more in
-          let lines : readFrom (s .line) (drop next input ++ more) ≡ readSoFar (scanned .line) ∷ readFrom emptyLine rest =
-              rw e (scan-complete (s .line) input next more (rw e at complete)) in
-          l .same rest
-          ∙ ap (judgedLines (verdictOn (s .progress)) (s .bits) (s .lines)) (sym lines)
-          ∙ sym (going-judged s (drop next input ++ more) goes)
-          ∙ i .same more;
+            let rest = drop (scanned .next) input ++ more in
+            let lines : readFrom (s .line) (drop next input ++ more) ≡ readSoFar (scanned .line) ∷ readFrom emptyLine rest =
+            rw e (scan-complete (s .line) input next more (rw e at complete)) in
+            l .same rest
+            ∙ ap (judgedLines (verdictOn (s .progress)) (s .bits) (s .lines)) (sym lines)
+            ∙ sym (going-judged s (drop next input ++ more) goes)
+            ∙ i .same more;
       }
 
       pub line-open : scanned .complete ≡ false → Invariant from input (scanned .next) (withLine s (scanned .line))
@@ -77,14 +77,14 @@ module _ {from : Judging} {input : List ℕ} where
         well-formed = with-line-formed (i .well-formed) (scanned .line);
         within = further;
         same = λ more.
-          let o : scanOf (s .line) input next .complete ≡ false = rw e at incomplete in
-          let rest = drop (scanned .next) input ++ more in
-          let lines : readFrom (s .line) (drop next input ++ more) ≡ readFrom (scanned .line) rest =
-              rw (e, scan-to-end (s .line) input next o) (scan-incomplete (s .line) input next more o) in
-          going-judged (withLine s (scanned .line)) rest goes
-          ∙ ap (judgedLines (verdictOn (s .progress)) (s .bits) (s .lines)) (sym lines)
-          ∙ sym (going-judged s (drop next input ++ more) goes)
-          ∙ i .same more;
+            let o : scanOf (s .line) input next .complete ≡ false = rw e at incomplete in
+            let rest = drop (scanned .next) input ++ more in
+            let lines : readFrom (s .line) (drop next input ++ more) ≡ readFrom (scanned .line) rest =
+            rw (e, scan-to-end (s .line) input next o) (scan-incomplete (s .line) input next more o) in
+            going-judged (withLine s (scanned .line)) rest goes
+            ∙ ap (judgedLines (verdictOn (s .progress)) (s .bits) (s .lines)) (sym lines)
+            ∙ sym (going-judged s (drop next input ++ more) goes)
+            ∙ i .same more;
       }
 
     -- the block is read, or the run is over

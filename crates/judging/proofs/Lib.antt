@@ -1,2 +1,5 @@
 pub mod LineEnds
 pub mod BlockLoop
+pub mod Texts
+pub mod Standing
+pub mod Examples

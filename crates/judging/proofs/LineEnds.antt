@@ -80,7 +80,7 @@ module _ (s : Judging) (w : WellFormed s) (lines : ℕ) (counted : lines ≡ nex
       well-formed = refused-formed w emptyLine lines 6;
       fresh = λ e. clash refl e;
       same = λ characters.
-        rw (right, lt-leb (s .bits + length (lineBits (readSoFar (s .line)))) clockLimit (omega (arith, how-many, w .clock)), counted);
+          rw (right, lt-leb (s .bits + length (lineBits (readSoFar (s .line)))) clockLimit (omega (arith, how-many, w .clock)), counted);
     }
 
     -- its bits are judged
@@ -110,8 +110,8 @@ module _ (s : Judging) (w : WellFormed s) (lines : ℕ) (counted : lines ≡ nex
         well-formed = next-formed true;
         fresh = λ _. empty;
         same = λ characters.
-          let t : isFault (verdictOn (s .progress) bits) ≡ true = sym (ap isFault said) ∙ at-fault-tells p n in
-          rw (right, its-bits, goes-on, t) (ap byVerdict said);
+            let t : isFault (verdictOn (s .progress) bits) ≡ true = sym (ap isFault said) ∙ at-fault-tells p n in
+            rw (right, its-bits, goes-on, t) (ap byVerdict said);
       }
 
       line-judged : p .fault ≡ 0 → EndsLine s (next false)
@@ -120,10 +120,10 @@ module _ (s : Judging) (w : WellFormed s) (lines : ℕ) (counted : lines ≡ nex
         well-formed = next-formed false;
         fresh = λ _. empty;
         same = λ characters.
-          let t : isFault (verdictOn (s .progress) bits) ≡ false = sym (ap isFault said) ∙ going-tells p (a .fits) e (p .pattern) refl in
-          let many : 4 * s .line .digits ≡ length bits = sym (length-bits (s .line .bytes) 0 (4 * s .line .digits)) in
-          rw (right, its-bits, goes-on, t)
-          (λ i. judgedLines (λ rest. a .same rest i) (s .bits + many i) (counted i) (readFrom (empty i) characters));
+            let t : isFault (verdictOn (s .progress) bits) ≡ false = sym (ap isFault said) ∙ going-tells p (a .fits) e (p .pattern) refl in
+            let many : 4 * s .line .digits ≡ length bits = sym (length-bits (s .line .bytes) 0 (4 * s .line .digits)) in
+            rw (right, its-bits, goes-on, t)
+            (λ i. judgedLines (λ rest. a .same rest i) (s .bits + many i) (counted i) (readFrom (empty i) characters));
       }
 
       by-fault : (b : Bool) → eqb (p .fault) 0 ≡ b → EndsLine s (next (not (eqb (p .fault) 0)))

@@ -15,14 +15,9 @@ use Rattle.hexlines.specs.Notes.{noNotes}
 use Rattle.hexlines.specs.Lines.{LineRead, linesOf, linesRead}
 use Rattle.layout.specs.ListingLines.{refusedLine, faultLine}
 use Rattle.messages.specs.Sentences.{sentenceOf, faultSentence}
+use Rattle.judging.specs.declared.Judgement.{Judgement}
 
--- A refusal's number, 0 for none; the place of a pattern at fault; or the number and the notes of a line that was refused.
-pub record Judgement : Type 0 where
-  pub number : ℕ
-  pub place : ℕ
-  pub line : ℕ
-  pub notes : LineNotes
-
+-- By what is said of the bits, and by a line that was refused.
 abbrev pub byVerdict : Verdict → Judgement
 byVerdict v = record { number = verdictNumber v; place = verdictPlace v; line = 0; notes = noNotes }
 

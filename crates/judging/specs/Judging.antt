@@ -11,7 +11,8 @@ use Rattle.acceptance.specs.Progress.{verdictOn, reached, Fits}
 use Rattle.hexlines.specs.declared.LineSoFar.{LineSoFar}
 use Rattle.hexlines.specs.Lines.{emptyLine, readSoFar, readFrom}
 use Rattle.judging.specs.declared.Judging.{Judging}
-use Rattle.judging.specs.Judgement.{Judgement, byVerdict, byLine, judgedLines}
+use Rattle.judging.specs.declared.Judgement.{Judgement}
+use Rattle.judging.specs.Judgement.{byVerdict, byLine, judgedLines}
 
 abbrev pub start : Judging
 start = record { progress = progress.start; line = emptyLine; lines = 0; bits = 0; over = false; number = 0 }

@@ -42,8 +42,8 @@ unfolding acceptOf
 accept-near input first count =
     choice (λ (v : Verdict). verdictPlace v ≤ 8 * inputLimit) (rangeFits (length input) first count)
     (λ e.
-      let s = both (leb (length input) inputLimit) (leb (first + count) (8 * length input)) e in
-      let short = leb-true (length input) inputLimit (s .0) in
-      let inside = leb-true (first + count) (8 * length input) (s .1) in
-      omega (arith, near (bitsOf input first count) 0 0 0 0, length-bits input first count, short, inside))
+    let s = both (leb (length input) inputLimit) (leb (first + count) (8 * length input)) e in
+    let short = leb-true (length input) inputLimit (s .0) in
+    let inside = leb-true (first + count) (8 * length input) (s .1) in
+    omega (arith, near (bitsOf input first count) 0 0 0 0, length-bits input first count, short, inside))
     (λ _. omega arith)

@@ -56,26 +56,26 @@ damage d input first count r e =
     let bits = bitsOf input first count in
     let c = exactly bits .clean (bits-accepted input first count (rangeFits (length input) first count) refl e) in
     let s : Stream d (c .items) =
-        record { sound = r .sound; running = r .running; hunting = r .hunting; window = r .window; timing = c .timing } in
+    record { sound = r .sound; running = r .running; hunting = r .hunting; window = r .window; timing = c .timing } in
     let same = c .same in
     record {
       items = c .items;
       trailing = c .trailing;
       same = same;
       one = λ clean damaged k inside took hit.
-        third-demand d clean damaged (c .items) (c .trailing) k (record {
-          stream = s;
-          inside = subst (λ (l : List ℕ). k < length l) same inside;
-          took-clean = took ∙ same;
-          took-damaged = hit ∙ ap (inverted k) same;
-        });
+          third-demand d clean damaged (c .items) (c .trailing) k (record {
+            stream = s;
+            inside = subst (λ (l : List ℕ). k < length l) same inside;
+            took-clean = took ∙ same;
+            took-damaged = hit ∙ ap (inverted k) same;
+          });
       many = λ clean damaged hits apart took hit.
-        fourth-promise d clean damaged hits (c .items) (c .trailing) (record {
-          stream = s;
-          apart = apart;
-          took-clean = took ∙ same;
-          took-damaged = hit ∙ ap (invertedAt hits (d .next)) same;
-        });
+          fourth-promise d clean damaged hits (c .items) (c .trailing) (record {
+            stream = s;
+            apart = apart;
+            took-clean = took ∙ same;
+            took-damaged = hit ∙ ap (invertedAt hits (d .next)) same;
+          });
     }
 
 pub fifth-promise : FifthPromise

@@ -1,4 +1,4 @@
 // The program `reading`: hexadecimal lines in; one line per record out.
 fn main() {
-    commands::kernelstill_reading();
+    commands::kernelstill_run_reading();
 }

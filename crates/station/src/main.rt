@@ -1,4 +1,4 @@
 // The program `station`: hexadecimal lines in; one line per record and one per frame out.
 fn main() {
-    commands::kernelstill_station();
+    commands::kernelstill_run_station();
 }

@@ -5,12 +5,21 @@
 use std::fs;
 use std::path::{Path, PathBuf};
 
-/// The crates that find a bit of the input: the cursor, the loops that walk
-/// by it, and the taking call. No other crate names the cursor.
-const CRATES: [&str; 3] = ["bits", "stretches", "taking"];
+/// The crates that find a bit of the input: the check of a stream, the
+/// cursor, the loops that walk by it, and the taking call. No other crate
+/// names the cursor.
+const CRATES: [&str; 4] = ["acceptance", "bits", "stretches", "taking"];
 
 /// What these may hand the input to.
-const LENT_TO: [&str; 6] = ["read", "hunt_on", "body_on", "advance", "range_fits", "run"];
+const LENT_TO: [&str; 7] = [
+    "read",
+    "hunt_on",
+    "body_on",
+    "advance",
+    "range_fits",
+    "run",
+    "check",
+];
 
 fn crates() -> PathBuf {
     Path::new(env!("CARGO_MANIFEST_DIR")).join("../../crates")
@@ -117,9 +126,11 @@ fn no_function_that_finds_a_bit_divides() {
 fn a_call_finds_its_first_place_once() {
     let texts = CRATES.map(|name| code(&source(name)));
     let calls = |text: &String| text.matches("Cursor::at(").count();
-    assert_eq!(texts.each_ref().map(calls), [0, 0, 1]);
-    let (ahead, _) = texts[2].split_once("while ").expect("the call's loop");
-    assert!(ahead.contains("Cursor::at(first)"));
+    assert_eq!(texts.each_ref().map(calls), [1, 0, 0, 1]);
+    for text in [&texts[0], &texts[3]] {
+        let (ahead, _) = text.split_once("while ").expect("the call's loop");
+        assert!(ahead.contains("Cursor::at(first)"));
+    }
 }
 
 #[test]
@@ -140,7 +151,7 @@ fn the_input_is_read_under_the_cursor_alone() {
     assert!(all > 20);
     assert_eq!(cursors, CRATES);
     assert_eq!(code(&source("bits")).matches("input[").count(), 1);
-    for name in ["stretches", "taking"] {
+    for name in ["acceptance", "stretches", "taking"] {
         let code = code(&source(name));
         let lent = lent_to(&code);
         assert!(!lent.is_empty(), "{name}");

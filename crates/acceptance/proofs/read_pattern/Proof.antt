@@ -2,9 +2,10 @@
 -- Assumes nothing.
 use mathlib.Core.Path.{_≡_, _∙_, sym, subst}
 use Prim.Native.Nat.{ℕ, _+_, _/_, _%_, _^_}
+use native.Mathlib.Omega.{arith}
 use borrow.Author.Needs.{needs}
 use borrow.Author.Tests.{eq-eqb, ne-eqb, lt-ltb, le-ltb, le-leb, lt-leb}
-use lib.Bits.{and-mask}
+use lib.Bits.{bitAnd, and-mask}
 use Rattle.acceptance.specs.declared.Reading.{Reading}
 use Rattle.acceptance.specs.declared.Reading.the-variants.{Begun, Whole, Unknown}
 use Rattle.acceptance.specs.Progress.{Reads}
@@ -19,6 +20,10 @@ answer s r e = subst (Reads (s .args .pattern)) e (reads (s .args .pattern) (s .
 -- The bit of a pattern's own number.
 abbrev marked : tie.Start → ℕ
 marked s = 4212910 / 2 ^ s .args .pattern
+
+-- The lowest four bits.
+low : (s : tie.Start) → bitAnd (s .args .pattern) 15 ≡ s .args .pattern % 16
+low s = and-mask (s .args .pattern) 4
 
 returns : tie.Need-returns
 returns c = answer (c .before .before) (Whole 0x01) (simp (lt-ltb _ 32 (c .before .if1 .taken), eq-eqb _ _ (c .if2 .taken)))
@@ -51,17 +56,18 @@ returns-5 c =
     answer (l .before .before) Unknown (simp (le-ltb _ 32 (l .before .if1 .left), lt-ltb _ 256 (l .if4 .taken), lt-leb _ 4 (c .if5 .left)))
 
 cast-t10 : tie.Need-cast-t10
-cast-t10 c = search needs
+cast-t10 c = let e = low (c .before .before .before) in omega (arith, e)
 
 add-t11 : tie.Need-add-t11
-add-t11 c = search needs
+add-t11 c = let e = low (c .before .before .before) in omega (arith, e)
 
 returns-6 : tie.Need-returns-6
 returns-6 c =
     let l = c .before in
     let s = l .before .before in
-    answer s (Whole (0x10 + s .args .pattern % 16))
-    (simp (le-ltb _ 32 (l .before .if1 .left), le-ltb _ 256 (l .if4 .left), eq-eqb _ 4 (c .if6 .taken)))
+    subst (λ n. Reads (s .args .pattern) (Whole (0x10 + n))) (sym (low s))
+    (answer s (Whole (0x10 + s .args .pattern % 16))
+    (simp (le-ltb _ 32 (l .before .if1 .left), le-ltb _ 256 (l .if4 .left), eq-eqb _ 4 (c .if6 .taken))))
 
 returns-7 : tie.Need-returns-7
 returns-7 c =

@@ -29,8 +29,10 @@ ranged : (s : tie.Start) → rangeFits (length (s .args .self .line .bytes)) 0 (
 ranged s =
     let f = fit s .few in
     let l = long s in
-    simp (le-leb (length (s .args .self .line .bytes)) inputLimit (omega arith),
-      le-leb (0 + 4 * s .args .self .line .digits) (8 * length (s .args .self .line .bytes)) (omega arith))
+    simp (
+      le-leb (length (s .args .self .line .bytes)) inputLimit (omega arith),
+      le-leb (0 + 4 * s .args .self .line .digits) (8 * length (s .args .self .line .bytes)) (omega arith),
+    )
 
 -- The start, from where the bits are not too many.
 abbrev started : tie.Else1 → tie.Start

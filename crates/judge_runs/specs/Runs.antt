@@ -1,0 +1,17 @@
+-- What a run of `accept` leaves. No contract can name what the system reads: `characters` below are those that some reads would bring.
+-- Assumes nothing.
+use mathlib.Core.List.{List}
+use mathlib.Core.Logic.{_⊎_}
+use mathlib.Core.Path.{_≡_}
+use Prim.Native.Nat.{ℕ}
+use Rattle.runs.specs.Status.{failed, statusOf}
+use Rattle.judging.specs.Judgement.{judgedOf}
+
+-- The status is that of the refusal that the program's judgement on some characters has.
+pub record JudgedOn (status : ℕ) : Type 0 where
+  pub characters : List ℕ
+  pub told : status ≡ statusOf (judgedOf characters .number)
+
+-- Or the system failed.
+abbrev pub JudgedRun : ℕ → Type 0
+JudgedRun status = (status ≡ failed) ⊎ JudgedOn status

@@ -1,0 +1,15 @@
+-- The inputs of `accept`, computed.
+-- Assumes nothing.
+use mathlib.Core.Path.{refl}
+use Rattle.patterns.specs.Verdicts.{verdictFrom}
+use Rattle.hexlines.specs.Line.{lineMeaning}
+use Rattle.hexlines.specs.Lines.{linesFrom, linesRead}
+use Rattle.hexlines.specs.Notes.{withNote, withNotes}
+use Rattle.layout.specs.Digits.{charactersOf}
+use Rattle.layout.specs.ListingLines.{numbersLine}
+use Rattle.judging.specs.Judgement.{judgedLines, judgedOf, textOf}
+use Rattle.judging.specs.Examples.{JudgementExamples}
+
+pub judgement-examples : JudgementExamples
+unfolding verdictFrom lineMeaning linesFrom linesRead withNote withNotes charactersOf numbersLine judgedLines judgedOf textOf
+judgement-examples = record { accepted = refl; too-close = refl; unknown = refl; cut = refl; refused-first = refl; odd = refl }

@@ -1,0 +1,35 @@
+-- What a run of `accept` stands for: the characters read so far, whatever more follow.
+-- Assumes nothing.
+use mathlib.Core.Path.{_≡_, _∙_, refl, sym, ap}
+use mathlib.Core.List.{List, [], _++_, append-assoc, append-nil}
+use Prim.Native.Nat.{ℕ}
+use native.Mathlib.Omega.{arith}
+use Rattle.patterns.specs.Verdicts.{verdictOf}
+use Rattle.acceptance.specs.Progress as progress
+use Rattle.acceptance.proofs.Steps.{going, start-fits}
+use Rattle.hexlines.specs.Lines.{emptyLine, linesOf, linesRead, readFrom}
+use Rattle.hexlines.proofs.Blocks.{lines}
+use Rattle.judging.specs.declared.Judging.{Judging}
+use Rattle.judging.specs.Judgement.{judgedLines, judgedOf}
+use Rattle.judging.specs.Judging.{start, judgementOf, stillJudged, WellFormed, JudgesBlock, EndsInput}
+
+pub record Stands (characters : List ℕ) (s : Judging) : Type 0 where
+  pub well-formed : WellFormed s
+  pub same : (more : List ℕ) → judgedOf (characters ++ more) ≡ stillJudged s more
+
+pub start-stands : Stands [] start
+unfolding judgedOf stillJudged
+start-stands = record {
+  well-formed = record { fits = start-fits; near = omega arith; clock = omega arith; numbered = λ _. refl };
+  same = λ more. λ i. judgedLines (λ bits. sym (going progress.start bits refl) i) 0 0 (sym (lines more) i);
+}
+
+pub block-stands : {characters : List ℕ} {s r : Judging} {block : List ℕ} → Stands characters s → JudgesBlock s block r → Stands (characters ++ block) r
+block-stands {characters} {block = block} t j = record {
+  well-formed = j .well-formed;
+  same = λ more. ap judgedOf (append-assoc characters block more) ∙ t .same (block ++ more) ∙ sym (j .same more);
+}
+
+-- At the end, what is said is what is said of them all.
+pub end-stands : {characters : List ℕ} {s r : Judging} → Stands characters s → EndsInput s r → judgedOf characters ≡ judgementOf r
+end-stands {characters} t e = sym (ap judgedOf (append-nil characters)) ∙ t .same [] ∙ sym (e .same)
