@@ -85,7 +85,7 @@ __all__ = [
     "hex_line",
 ]
 
-__version__ = "1.7.1"
+__version__ = "1.8.0"
 
 # As kernelstill.h has them.
 CLOCK_LIMIT = 1 << 48

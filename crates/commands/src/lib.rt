@@ -73,7 +73,7 @@ fn help(name: &[u8], prints: &[u8], told: &[u8]) -> u8
 fn version(name: &[u8]) -> u8
     ensures { λ r. ⌜ IsStatus r ⌝ }
 {
-    let whole = print(print(true, name), b" (Kernelstill) 1.7.1\n");
+    let whole = print(print(true, name), b" (Kernelstill) 1.8.0\n");
     printed(name, whole)
 }
 

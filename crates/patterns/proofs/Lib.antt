@@ -2,5 +2,5 @@ pub mod PatternLaws
 pub mod VerdictSteps
 pub mod CleanEnds
 pub mod Verdicts
-pub mod VerdictExamples
-pub mod Places
+pub mod Examples
+pub mod WithinRange

@@ -15,7 +15,7 @@ use Rattle.patterns.specs.declared.Verdict.the-variants.{Accepted, WrongRange}
 use Rattle.patterns.specs.Verdicts.{verdictNumber, verdictOf, acceptOf}
 use Rattle.patterns.specs.Accepted.{Told}
 use Rattle.patterns.proofs.Verdicts.{told, clean-accepted}
-use Rattle.patterns.proofs.VerdictExamples.{verdict-examples}
+use Rattle.patterns.proofs.Examples.{verdict-examples}
 use Rattle.damage.specs.Inverted.{inverted}
 use Rattle.damage.specs.Hits.{invertedAt}
 use Rattle.promises.specs.Damage.{Stream}

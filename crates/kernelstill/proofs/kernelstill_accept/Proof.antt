@@ -5,7 +5,7 @@ use Prim.Native.Nat.{_+_, _*_, _≤_}
 use native.Mathlib.Omega.{arith}
 use borrow.Author.Needs.{needs}
 use Rattle.limits.specs.Limits.{inputLimit}
-use Rattle.patterns.proofs.Places.{accept-near}
+use Rattle.patterns.proofs.WithinRange.{accept-near}
 use Rattle.kernelstill.specs.Accept.{acceptWord}
 use Rattle.kernelstill.proofs.kernelstill_accept.Statement.{statement}
 use Rattle.kernelstill.proofs.kernelstill_accept.Tie as tie
