@@ -31,6 +31,14 @@ extern "C" {
         result: *mut u64,
         result_length: usize,
     ) -> u64;
+
+    fn kernelstill_accept(input: *const u8, input_length: usize, first: usize, count: usize)
+        -> u64;
+}
+
+/// Whether a stream is accepted: 0, or number and place in one word.
+pub fn accept(input: &[u8], first: usize, count: usize) -> u64 {
+    unsafe { kernelstill_accept(input.as_ptr(), input.len(), first, count) }
 }
 
 /// What a call is lent beside its input.

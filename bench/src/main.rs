@@ -1,6 +1,8 @@
 //! The proved taking call against plain Rust readers that go bit by bit: one
 //! mebibyte each of zeros and of dense commands in one call, and of long frames, in
-//! turns in one run. Prints nanoseconds a bit (the fastest turn of each) and the ratios.
+//! turns in one run. Then the check of a stream, on the dense commands, against the
+//! separate reader's and against the taking call. Prints nanoseconds a bit (the fastest
+//! turn of each) and the ratios.
 
 mod plain;
 mod streams;
@@ -75,8 +77,43 @@ fn inputs() -> [(&'static str, Vec<Vec<u8>>, usize); 4] {
     ]
 }
 
+/// The check of the commands behind the EnDataTake: each tells whether they are
+/// accepted; the taking call, whether it took them.
+const CHECKS: [(&str, fn(&[u8], &mut Buffers) -> bool); 3] = [
+    ("proved accept", |input, _| {
+        let first = streams::EN_DATA_TAKE;
+        bench::accept(input, first, 8 * input.len() - first) == 0
+    }),
+    ("separate reader's accept", |input, _| {
+        let first = streams::EN_DATA_TAKE as u64;
+        reader::accept(input, first, 8 * input.len() as u64 - first).is_ok()
+    }),
+    ("proved take", |input, b| is_whole(input, proved(input, b))),
+];
+
+fn measure_checks(buffers: &mut Buffers) {
+    let input = &streams::dense()[0];
+    let mut best = [f64::MAX; 3];
+    for _ in 0..TURNS {
+        for (k, (who, check)) in CHECKS.iter().enumerate() {
+            let began = Instant::now();
+            let passed = check(input, buffers);
+            best[k] = best[k].min(began.elapsed().as_secs_f64());
+            assert!(passed, "{who}");
+        }
+    }
+    let bits = 8.0 * input.len() as f64;
+    for (k, (who, _)) in CHECKS.iter().enumerate() {
+        println!("dense: {who}: {:.3} ns a bit", best[k] / bits * 1e9);
+    }
+    for (k, (who, _)) in CHECKS.iter().enumerate().skip(1) {
+        println!("dense: proved accept / {who}: {:.2}", best[0] / best[k]);
+    }
+}
+
 fn main() {
     let mut buffers = buffers(streams::BYTES);
+    measure_checks(&mut buffers);
     for (name, calls, readers) in inputs() {
         let readers = &READERS[..readers];
         let mut best = [f64::MAX; 3];

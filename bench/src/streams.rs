@@ -8,6 +8,9 @@ pub fn zeros() -> Vec<Vec<u8>> {
     vec![vec![0; BYTES]]
 }
 
+/// The bits of an EnDataTake.
+pub const EN_DATA_TAKE: usize = 17;
+
 /// One mebibyte of commands as dense as the timing table allows, in one call;
 /// it begins with an EnDataTake, so that they are acted on.
 pub fn dense() -> Vec<Vec<u8>> {

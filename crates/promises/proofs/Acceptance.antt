@@ -16,6 +16,7 @@ use Rattle.patterns.specs.Verdicts.{verdictNumber, verdictOf, acceptOf}
 use Rattle.patterns.specs.Accepted.{Told}
 use Rattle.patterns.proofs.Verdicts.{told, clean-accepted}
 use Rattle.patterns.proofs.Examples.{verdict-examples}
+use Rattle.judging.proofs.Examples.{judgement-examples}
 use Rattle.damage.specs.Inverted.{inverted}
 use Rattle.damage.specs.Hits.{invertedAt}
 use Rattle.promises.specs.Damage.{Stream}
@@ -84,5 +85,6 @@ fifth-promise = record {
   exactly = exactly;
   told = told;
   in-numbers = verdict-examples;
+  program = judgement-examples;
   damage = damage;
 }

@@ -18,6 +18,7 @@ use Rattle.patterns.specs.declared.Verdict.the-variants.{Accepted, WrongRange}
 use Rattle.patterns.specs.Verdicts.{verdictOf, acceptOf}
 use Rattle.patterns.specs.Accepted.{Clean, Told}
 use Rattle.patterns.specs.VerdictTable.{VerdictExamples}
+use Rattle.judging.specs.Examples.{JudgementExamples}
 use Rattle.damage.specs.Inverted.{inverted}
 use Rattle.damage.specs.Hits.{HitCycles, invertedAt, Apart}
 use Rattle.promises.specs.Refusals.{Row, row}
@@ -63,4 +64,5 @@ pub record FifthPromise : Type 0 where
   pub exactly : (bits : List ℕ) → Exactly bits
   pub told : (bits : List ℕ) → Told bits (verdictOf bits)
   pub in-numbers : VerdictExamples
+  pub program : JudgementExamples
   pub damage : AcceptedDamage
