@@ -17,7 +17,7 @@ use Rattle.acceptance.specs.declared.Progress.{Progress}
 use Rattle.acceptance.specs.declared.Reading.{Reading}
 use Rattle.acceptance.specs.declared.Reading.the-variants.{Begun, Whole, Unknown as Other}
 
--- The bits that a number of at most nine stands for, from its highest 1 on.
+-- The bits of a number that has at most nine, from its highest 1 on.
 abbrev bitsOnto : ℕ → ℕ → List ℕ → List ℕ
 bitsOnto zero n more = more
 bitsOnto (suc most) n more = cond (eqb n 0) more (bitsOnto most (n / 2) (n % 2 ∷ more))

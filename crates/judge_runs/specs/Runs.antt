@@ -7,7 +7,7 @@ use Prim.Native.Nat.{ℕ}
 use Rattle.runs.specs.Status.{failed, statusOf}
 use Rattle.judging.specs.Judgement.{judgedOf}
 
--- The status is that of the refusal that the program's judgement on some characters has.
+-- The status goes by the number of the judgement on some characters. In the proof these are the characters that the reads brought, one after the other.
 pub record JudgedOn (status : ℕ) : Type 0 where
   pub characters : List ℕ
   pub told : status ≡ statusOf (judgedOf characters .number)

@@ -1,7 +1,7 @@
 -- What a run of `accept` stands for: the characters read so far, whatever more follow.
 -- Assumes nothing.
-use mathlib.Core.Path.{_≡_, _∙_, refl, sym, ap}
-use mathlib.Core.List.{List, [], _++_, append-assoc, append-nil}
+use mathlib.Core.Path.{_≡_, _∙_, refl, sym, ap, subst}
+use mathlib.Core.List.{List, [], _∷_, _++_, append-assoc, append-nil}
 use Prim.Native.Nat.{ℕ}
 use native.Mathlib.Omega.{arith}
 use Rattle.patterns.specs.Verdicts.{verdictOf}
@@ -12,6 +12,7 @@ use Rattle.hexlines.proofs.Blocks.{lines}
 use Rattle.judging.specs.declared.Judging.{Judging}
 use Rattle.judging.specs.Judgement.{judgedLines, judgedOf}
 use Rattle.judging.specs.Judging.{start, judgementOf, stillJudged, WellFormed, JudgesBlock, EndsInput}
+use Rattle.judging.specs.Blocks.{BlocksJudged, joined, AsRead}
 
 pub record Stands (characters : List ℕ) (s : Judging) : Type 0 where
   pub well-formed : WellFormed s
@@ -33,3 +34,13 @@ block-stands {characters} {block = block} t j = record {
 -- At the end, what is said is what is said of them all.
 pub end-stands : {characters : List ℕ} {s r : Judging} → Stands characters s → EndsInput s r → judgedOf characters ≡ judgementOf r
 end-stands {characters} t e = sym (ap judgedOf (append-nil characters)) ∙ t .same [] ∙ sym (e .same)
+
+-- Blocks in a row.
+blocks-stand : (blocks : List (List ℕ)) {characters : List ℕ} {s r : Judging} → Stands characters s → BlocksJudged s blocks r
+    → Stands (characters ++ joined blocks) r
+blocks-stand [] {characters} {r = r} t e = subst (λ (l : List ℕ). Stands l r) (sym (append-nil characters)) (subst (Stands characters) e t)
+blocks-stand (block ∷ blocks) {characters} {r = r} t j =
+    subst (λ (l : List ℕ). Stands l r) (append-assoc characters block (joined blocks)) (blocks-stand blocks (block-stands t (j .1)) (j .2))
+
+pub as-read : AsRead
+as-read blocks r e j ends = sym (end-stands (blocks-stand blocks start-stands j) ends)

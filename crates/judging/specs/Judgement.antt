@@ -24,7 +24,7 @@ byVerdict v = record { number = verdictNumber v; place = verdictPlace v; line = 
 abbrev pub byLine : ℕ → ℕ → LineNotes → Judgement
 byLine number line notes = record { number = number; place = 0; line = line; notes = notes }
 
--- A pattern at fault whatever follows: all but one that the stream's end cuts.
+-- A pattern at fault that ends the run: all but one that the stream's end would cut, which may go on in the next line.
 abbrev pub isFault : Verdict → Bool
 isFault Accepted = false
 isFault WrongRange = false

@@ -1,3 +1,4 @@
 pub mod Judgement
 pub mod Judging
 pub mod Examples
+pub mod Blocks

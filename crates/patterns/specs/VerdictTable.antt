@@ -42,7 +42,7 @@ verdictTable =
     ∷ row (zeros 3 ++ lv1 ++ lv1 ++ bcr ++ lv1) 0 0
     ∷ row (bcr ++ zeros 2 ++ ecr ++ zeros 1 ++ cal ++ sync ++ zeros 4 ++ lv1) 0 0
     ∷ row (sync ++ bcr ++ lv1 ++ ecr ++ lv1 ++ zeros 2) 0 0
-    -- one zero fewer, and an ECR and a BCR straight after each other
+    -- one zero fewer
     ∷ row (bcr ++ zeros 1 ++ bcr) 15 10
     ∷ row (lv1 ++ bcr ++ zeros 1 ++ sync ++ zeros 9) 15 15
     ∷ row (ecr ++ cal) 15 9

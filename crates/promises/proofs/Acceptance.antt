@@ -17,6 +17,7 @@ use Rattle.patterns.specs.Accepted.{Told}
 use Rattle.patterns.proofs.Verdicts.{told, clean-accepted}
 use Rattle.patterns.proofs.Examples.{verdict-examples}
 use Rattle.judging.proofs.Examples.{judgement-examples}
+use Rattle.judging.proofs.Standing.{as-read}
 use Rattle.damage.specs.Inverted.{inverted}
 use Rattle.damage.specs.Hits.{invertedAt}
 use Rattle.promises.specs.Damage.{Stream}
@@ -60,9 +61,7 @@ damage d input first count r e =
     record { sound = r .sound; running = r .running; hunting = r .hunting; window = r .window; timing = c .timing } in
     let same = c .same in
     record {
-      items = c .items;
-      trailing = c .trailing;
-      same = same;
+      clean = c;
       one = λ clean damaged k inside took hit.
           third-demand d clean damaged (c .items) (c .trailing) k (record {
             stream = s;
@@ -86,5 +85,6 @@ fifth-promise = record {
   told = told;
   in-numbers = verdict-examples;
   program = judgement-examples;
+  as-read = as-read;
   damage = damage;
 }

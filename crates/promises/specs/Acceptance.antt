@@ -13,11 +13,11 @@ use Rattle.decoder.specs.declared.Decoder.{Decoder}
 use Rattle.decoder.specs.Sound.{soundOf}
 use Rattle.calls.specs.Take.{Call}
 use Rattle.calls.specs.Calls.{allBits, allWords}
-use Rattle.clean_streams.specs.CleanStreams.{Item, streamBits}
 use Rattle.patterns.specs.declared.Verdict.the-variants.{Accepted, WrongRange}
 use Rattle.patterns.specs.Verdicts.{verdictOf, acceptOf}
 use Rattle.patterns.specs.Accepted.{Clean, Told}
 use Rattle.patterns.specs.VerdictTable.{VerdictExamples}
+use Rattle.judging.specs.Blocks.{AsRead}
 use Rattle.judging.specs.Examples.{JudgementExamples}
 use Rattle.damage.specs.Inverted.{inverted}
 use Rattle.damage.specs.Hits.{HitCycles, invertedAt, Apart}
@@ -44,16 +44,15 @@ pub record Ready (d : Decoder) : Type 0 where
   pub hunting : d .recogniser .phase ≡ Hunt
   pub window : d .recogniser .shift ≡ 0
 
--- "Whoever wrote an accepted stream, the damage statement holds for it": its items, and two lists of calls that take its bits, clean and with one
+-- "Whoever wrote an accepted stream, the damage statement holds for it": it is a clean stream, with its items, and two lists of calls that take its bits, clean and with one
 -- inverted, or with any number of them far enough apart.
 pub record DamageHolds (d : Decoder) (bits : List ℕ) : Type 0 where
-  pub items : List Item
-  pub trailing : ℕ
-  pub same : bits ≡ streamBits items trailing
-  pub one : (clean damaged : List Call) (k : ℕ) → k < length bits → allBits d clean ≡ bits → allBits d damaged ≡ inverted k bits
-      → Wrote d (allWords d clean) (allWords d damaged) items k
-  pub many : (clean damaged : List Call) (hits : HitCycles) → Apart hits (d .next) items trailing
-      → allBits d clean ≡ bits → allBits d damaged ≡ invertedAt hits (d .next) bits → HitsWrote d (made d clean) (made d damaged) hits items
+  pub clean : Clean bits
+  pub one : (undamaged damaged : List Call) (k : ℕ) → k < length bits → allBits d undamaged ≡ bits → allBits d damaged ≡ inverted k bits
+      → Wrote d (allWords d undamaged) (allWords d damaged) (clean .items) k
+  pub many : (undamaged damaged : List Call) (hits : HitCycles) → Apart hits (d .next) (clean .items) (clean .trailing)
+      → allBits d undamaged ≡ bits → allBits d damaged ≡ invertedAt hits (d .next) bits
+      → HitsWrote d (made d undamaged) (made d damaged) hits (clean .items)
 
 abbrev pub AcceptedDamage : Type 0
 AcceptedDamage =
@@ -65,4 +64,5 @@ pub record FifthPromise : Type 0 where
   pub told : (bits : List ℕ) → Told bits (verdictOf bits)
   pub in-numbers : VerdictExamples
   pub program : JudgementExamples
+  pub as-read : AsRead
   pub damage : AcceptedDamage
