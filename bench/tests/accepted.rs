@@ -106,5 +106,8 @@ fn long_streams_clean_and_flawed() {
         assert!(!clean || answer == (0, 0), "stream {n}");
         numbers[answer.0 as usize] += 1;
     }
-    assert!([0, 13, 14, 15].iter().all(|&k| numbers[k] > 50), "{numbers:?}");
+    assert!(
+        [0, 13, 14, 15].iter().all(|&k| numbers[k] > 50),
+        "{numbers:?}"
+    );
 }
