@@ -1,8 +1,11 @@
 //! What the five-bit window means ("Hunting").
 
 /// The window of an exact LV1, and that of a header.
-const LV1: u8 = 0b11101;
-const HEADER: u8 = 0b10110;
+pub const LV1: u8 = 0b11101;
+pub const HEADER: u8 = 0b10110;
+
+/// Bits of the window.
+pub const WINDOW_BITS: u32 = 5;
 
 /// What is recognised when the window, after a new bit, has some contents.
 #[derive(Clone, Copy, Debug, PartialEq, Eq)]

@@ -1,0 +1,1 @@
+// A composed stream reads back as its orders. Theorems only.
