@@ -6,7 +6,7 @@ use Prim.Native.Nat.{ℕ, zero, suc, _+_, _*_, _-_, _/_, _^_}
 use lib.Dec.{ltb, leb, eqb}
 use lib.ListN.{length, getD, drop}
 use Rattle.windows.specs.Windows.{isFast}
-use Rattle.slow_fields.specs.Slow.{isSlow, isFrame, dataBits, controlBits, receiverBits}
+use Rattle.slow_fields.specs.Slow.{isSlow, dataBits, controlBits, receiverBits}
 use Rattle.records.specs.Records.{kindFast, kindSlow}
 use Rattle.timing.specs.Table.{isLv1Kind}
 use Rattle.orders.specs.declared.Order.{Order}
@@ -29,8 +29,9 @@ isKnown kind =
     isLv1Kind kind
     || cond (isSlowKind kind) (isSlow (field3 kind)) (leb (kindFast 0) kind && isFast (kind - kindFast 0))
 
+-- WrFrontEnd, RdFrontEnd and WrReceiver carry a frame.
 abbrev pub isFrameKind : ℕ → Bool
-isFrameKind kind = isSlowKind kind && isFrame (field3 kind)
+isFrameKind kind = leb (kindSlow 4) kind && leb kind (kindSlow 6)
 
 -- "Fields that neither the record nor the tray shows are unused": used are the address of WrRegister, RdRegister and RdFifo,
 abbrev pub usesAddress : ℕ → Bool

@@ -91,7 +91,7 @@ pub fn is_frame_kind(kind: u64) -> bool
 pub fn uses_address(kind: u64) -> bool
     ensures { λ r. ⌜ r ≡ usesAddress kind ⌝ }
 {
-    (kind == WR_REGISTER) | (kind == RD_REGISTER) | (kind == RD_FIFO)
+    (kind == WR_REGISTER) | ((kind == RD_REGISTER) | (kind == RD_FIFO))
 }
 
 // How many bits of Field 5 an order gives as a number; 0 where it gives none.
@@ -149,9 +149,9 @@ pub fn read_order(words: &[u64]) -> Order
 pub fn lent_from(frames: &[u8], frame: u64) -> &[u8]
     ensures { λ r. ⌜ now r ≡ drop frame (now (frames .entry)) ⌝ }
 {
-    let mut at = frame as usize;
+    let at = frame as usize;
     if frames.len() < at {
-        at = frames.len();
+        return &frames[..0];
     }
     &frames[at..]
 }
@@ -223,16 +223,19 @@ impl Context {
         requires { ⌜ orderFits (self .cnt) order bytes ≡ true ⌝ }
         ensures { λ r. ⌜ r ≡ contextAfter plan self order ⌝ }
     {
-        let mut cnt = self.cnt;
-        if (order.kind == WR_REGISTER) & (order.address == plan.cnt as u64) {
-            cnt = order.value as u16;
-        }
+        let last = order.kind as u8;
         if order.kind == GLOBAL_RESET_MCC {
-            cnt = 0;
+            return Context { last: last, cnt: 0 };
+        }
+        if (order.kind == WR_REGISTER) & (order.address == plan.cnt as u64) {
+            return Context {
+                last: last,
+                cnt: order.value as u16,
+            };
         }
         Context {
-            last: order.kind as u8,
-            cnt: cnt,
+            last: last,
+            cnt: self.cnt,
         }
     }
 }
