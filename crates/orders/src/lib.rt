@@ -193,7 +193,8 @@ impl Order {
     fn fits(self, cnt: u16, bytes: usize) -> bool
         ensures { λ r. ⌜ r ≡ orderFits cnt self bytes ⌝ }
     {
-        is_known(self.kind) & (self.address_fits() & (self.value_fits() & self.frame_fits(cnt, bytes)))
+        is_known(self.kind)
+            & (self.address_fits() & (self.value_fits() & self.frame_fits(cnt, bytes)))
     }
 }
 
