@@ -2,8 +2,8 @@
 -- Assumes nothing.
 use mathlib.Core.Bool.{Bool, true, false, cond, _&&_}
 use mathlib.Core.Logic.{⊎-elim}
-use mathlib.Core.Path.{_≡_, refl}
-use Prim.Native.Nat.{ℕ, _-_, _*_, _^_, _<_, _≤_}
+use mathlib.Core.Path.{_≡_, _∙_, refl, sym}
+use Prim.Native.Nat.{ℕ, _+_, _*_, _-_, _/_, _^_, _<_, _≤_}
 use native.Mathlib.Omega.{arith}
 use lib.Dec.{leb, ltb, eqb}
 use borrow.Author.Tests.{eq-eqb, ne-eqb, le-leb, lt-leb, leb-true, ltb-true, eqb-true, leb-false}
@@ -26,6 +26,13 @@ pub known-low : (kind : ℕ) → isKnown kind ≡ true → kind < 256
 known-low kind e =
     ⊎-elim (λ (t : leb 256 kind ≡ true). clash e (unknown-above kind (leb-true 256 kind t)))
     (λ (f : leb 256 kind ≡ false). leb-false 256 kind f) (cases (leb 256 kind))
+
+-- So many bits in so many bytes, without a product.
+pub by-bytes : (bits bytes : ℕ) → leb ((bits + 7) / 8) bytes ≡ leb bits (8 * bytes)
+by-bytes bits bytes =
+    ⊎-elim (λ (t : leb bits (8 * bytes) ≡ true). le-leb ((bits + 7) / 8) bytes (omega (arith, leb-true bits (8 * bytes) t)) ∙ sym t)
+    (λ (f : leb bits (8 * bytes) ≡ false). lt-leb ((bits + 7) / 8) bytes (omega (arith, leb-false bits (8 * bytes) f)) ∙ sym f)
+    (cases (leb bits (8 * bytes)))
 
 -- What a test asks only where another holds.
 under : (a : Bool) {b : Bool} → a ≡ true → cond a b true ≡ true → b ≡ true
@@ -50,6 +57,12 @@ fitting cnt o bytes e =
 module _ {cnt : ℕ} {o : Order} {bytes : ℕ} (f : Fitting cnt o bytes) where
   pub kind-low : o .kind < 256
   kind-low = known-low (o .kind) (f .known)
+
+  -- Of the kinds below the Slows', LV1's is the only one below the Fasts'.
+  pub fast-above : (o .kind ≡ 1 → ⊥) → o .kind < 32 → 16 ≤ o .kind
+  fast-above n h =
+      ⊎-elim (λ (t : leb 16 (o .kind) ≡ true). leb-true 16 (o .kind) t)
+      (λ (e : leb 16 (o .kind) ≡ false). clash (f .known) (simp (ne-eqb (o .kind) 1 n, lt-leb 32 (o .kind) h, e))) (cases (leb 16 (o .kind)))
 
   -- A value that WrRegister writes has sixteen bits.
   pub register-low : o .kind ≡ 32 → o .value < 65536

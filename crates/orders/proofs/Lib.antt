@@ -1,1 +1,2 @@
 pub mod FitOrders
+pub mod StreamBits

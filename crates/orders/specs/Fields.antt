@@ -37,6 +37,9 @@ isFrameKind kind = leb (kindSlow 4) kind && leb kind (kindSlow 6)
 abbrev pub usesAddress : ℕ → Bool
 usesAddress kind = eqb kind (kindSlow 0) || (eqb kind (kindSlow 1) || eqb kind (kindSlow 3))
 
+abbrev pub field4 : Order → ℕ
+field4 o = cond (usesAddress (o .kind)) (o .address) 0
+
 -- the bits of Field 5 of WrRegister, WrFifo and GlobalResetFE,
 abbrev pub valueWidth : ℕ → ℕ
 valueWidth kind = cond (eqb kind (kindSlow 0)) 16 (cond (eqb kind (kindSlow 2)) 27 (cond (eqb kind (kindSlow 10)) 4 0))

@@ -10,7 +10,7 @@ use Rattle.slow_fields.specs.Slow.{lengthOf}
 use Rattle.records.specs.Records.{kindFast, kindSlow}
 use Rattle.timing.specs.Table.{isLv1Kind}
 use Rattle.orders.specs.declared.Order.{Order}
-use Rattle.orders.specs.Fields.{Ordered, isSlowKind, isFrameKind, field3, usesAddress, usesValue, valueWidth}
+use Rattle.orders.specs.Fields.{Ordered, isSlowKind, isFrameKind, field3, field4, usesValue, valueWidth}
 
 -- A number in so many bits: "Numbers arrive highest bit first".
 abbrev pub numberBits : ℕ → ℕ → List ℕ
@@ -34,12 +34,15 @@ timesEach kind = cond (eqb kind (kindSlow 6)) 1 8
 
 -- Field 4 and Field 5. "Fields that neither the record nor the tray shows are unused and written as zeros".
 abbrev pub field4Bits : Order → List ℕ
-field4Bits o = numberBits 4 (cond (usesAddress (o .kind)) (o .address) 0)
+field4Bits o = numberBits 4 (field4 o)
+
+abbrev pub fieldFrame : Ordered → List ℕ
+fieldFrame x = repeated (timesEach (x .order .kind)) (frameOf x)
 
 abbrev pub field5Bits : Ordered → List ℕ
 field5Bits x =
     let o = x .order in
-    cond (isFrameKind (o .kind)) (repeated (timesEach (o .kind)) (frameOf x))
+    cond (isFrameKind (o .kind)) (fieldFrame x)
     (cond (usesValue (o .kind)) (numberBits (valueWidth (o .kind)) (o .value))
     (zeros (lengthOf (field3 (o .kind)) 0)))
 
@@ -53,12 +56,16 @@ headerBits = numberBits 5 0b10110
 abbrev pub slowBody : List ℕ
 slowBody = numberBits 4 0b1011
 
+-- Fields 3, 4 and 5 of a Slow.
+abbrev pub slowFields : Ordered → List ℕ
+slowFields x = numberBits 4 (field3 (x .order .kind)) ++ (field4Bits (x .order) ++ field5Bits x)
+
 -- A command's bits.
 unfoldable pub commandBits : Ordered → List ℕ
 commandBits x =
     let kind = x .order .kind in
     cond (isLv1Kind kind) lv1Bits
-    (cond (isSlowKind kind) (headerBits ++ (slowBody ++ (numberBits 4 (field3 kind) ++ (field4Bits (x .order) ++ field5Bits x))))
+    (cond (isSlowKind kind) (headerBits ++ (slowBody ++ slowFields x))
     (headerBits ++ numberBits 4 (kind - kindFast 0)))
 
 -- With the zeros ahead of it; and the whole stream.

@@ -3,7 +3,7 @@ ghost use mathlib.Core.Path.{_≡_};
 ghost use mathlib.Core.Bool.{true};
 ghost use Prim.Native.Nat.{_≤_};
 ghost use lib.ListN.{length, drop};
-ghost use Rattle.orders.specs.Fields.{isKnown, isFrameKind, usesAddress, valueWidth, frameCount, addressFits, valueFits, frameFits, orderFits, orderIn};
+ghost use Rattle.orders.specs.Fields.{isKnown, isFrameKind, usesAddress, field4, valueWidth, frameCount, addressFits, valueFits, frameFits, orderFits, orderIn};
 ghost use Rattle.orders.specs.Composing.{start, cntAfter, contextAfter, zerosFit, orderNumber};
 use records::KIND_FAST;
 use records::KIND_LV1;
@@ -92,6 +92,16 @@ pub fn uses_address(kind: u64) -> bool
     ensures { λ r. ⌜ r ≡ usesAddress kind ⌝ }
 {
     (kind == WR_REGISTER) | ((kind == RD_REGISTER) | (kind == RD_FIFO))
+}
+
+// Field 4: the address where the command uses it, else 0.
+pub fn field4(order: Order) -> u64
+    ensures { λ r. ⌜ r ≡ field4 order ⌝ }
+{
+    if uses_address(order.kind) {
+        return order.address;
+    }
+    0
 }
 
 // How many bits of Field 5 an order gives as a number; 0 where it gives none.

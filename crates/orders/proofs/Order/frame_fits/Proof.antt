@@ -1,23 +1,11 @@
 -- `Order::frame_fits`: the count that CNT asks, and as many bits lent.
 -- Assumes nothing.
-use mathlib.Core.Bool.{true, false}
-use mathlib.Core.Logic.{⊎-elim}
-use mathlib.Core.Path.{_≡_, _∙_, sym}
-use Prim.Native.Nat.{ℕ, _+_, _*_, _/_}
-use native.Mathlib.Omega.{arith}
-use lib.Dec.{leb}
+use mathlib.Core.Path.{_∙_, sym}
 use borrow.Author.Needs.{needs}
-use borrow.Author.Tests.{eq-eqb, ne-eqb, le-leb, lt-leb, leb-true, leb-false, not-true, not-false}
-use Rattle.bits.proofs.Truth.{cases}
+use borrow.Author.Tests.{eq-eqb, ne-eqb, not-true, not-false}
+use Rattle.orders.proofs.FitOrders.{by-bytes}
 use Rattle.orders.proofs.Order.frame_fits.Statement.{statement}
 use Rattle.orders.proofs.Order.frame_fits.Tie as tie
-
--- Bits lent, by bytes.
-by-bytes : (bits bytes : ℕ) → leb ((bits + 7) / 8) bytes ≡ leb bits (8 * bytes)
-by-bytes bits bytes =
-    ⊎-elim (λ (t : leb bits (8 * bytes) ≡ true). le-leb ((bits + 7) / 8) bytes (omega (arith, leb-true bits (8 * bytes) t)) ∙ sym t)
-    (λ (f : leb bits (8 * bytes) ≡ false). lt-leb ((bits + 7) / 8) bytes (omega (arith, leb-false bits (8 * bytes) f)) ∙ sym f)
-    (cases (leb bits (8 * bytes)))
 
 is-frame-kind-requires : tie.Need-is-frame-kind-requires
 is-frame-kind-requires c κs = search needs

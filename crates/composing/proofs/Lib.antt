@@ -1,0 +1,4 @@
+pub mod Rooms
+pub mod FitFields
+pub mod CommandParts
+pub mod Widths
