@@ -1,29 +1,18 @@
-// A stream composed from a list of orders. All orders are checked ahead of the first bit, so that a refusal writes nothing.
+// The bits of one order, written and counted.
 ghost use mathlib.Core.Path.{_≡_};
-ghost use mathlib.Core.List.{[]};
-ghost use Prim.Native.Nat.{_+_, _≤_};
+ghost use Prim.Native.Nat.{_+_};
 ghost use lib.ListN.{length};
-ghost use lib.Seq.{sets};
-ghost use Rattle.orders.specs.Fields.{ordersIn};
-ghost use Rattle.orders.specs.Streams.{fieldFrame, field5Bits, slowFields, commandBits, orderBits, streamOf, packed};
-ghost use Rattle.orders.specs.Composing.{start, refusalFrom, roomFits, composeResult, composeOf};
+ghost use Rattle.orders.specs.Streams.{fieldFrame, field5Bits, slowFields, commandBits, orderBits};
+ghost use Rattle.orders.specs.Composing.{roomFits};
 ghost use Rattle.stream_writer.specs.Writer.{Fits, Wrote};
-ghost use Rattle.composing.specs.Checked.{ordered, SomeFit, SlowFit, FrameFit, WidthOf, Room, capped, checkedOf};
-use orders::Composed;
-use orders::Context;
+ghost use Rattle.composing.specs.Checked.{ordered, SomeFit, SlowFit, FrameFit, WidthOf, Room, capped};
 use orders::Order;
 use records::KIND_FAST;
 use records::KIND_LV1;
 use records::KIND_SLOW;
-use registers::Plan;
 use stream_writer::Writer;
 
 const WR_RECEIVER: u64 = 0x26;
-
-// The refusal numbers of a plan and of a stream that is too long.
-const WRONG_PLAN: u8 = 1;
-
-const STREAM_TOO_LONG: u8 = 11;
 
 // A stream's bits are at most the clock's cycles.
 const BIT_LIMIT: u64 = 0x1_0000_0000_0000;

@@ -1,0 +1,4 @@
+pub mod OrderLists
+pub mod CheckLoop
+pub mod PutLoop
+pub mod Composed
