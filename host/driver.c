@@ -30,9 +30,13 @@ _Static_assert(KERNELSTILL_LV1_L1ID(UINT64_C(0x000512FE)) == 0x12, "the trigger 
 _Static_assert(KERNELSTILL_LV1_BUNCH(UINT64_C(0x000512FE)) == 0xFE, "the bunch number stands lowest");
 _Static_assert(KERNELSTILL_ACCEPT_NUMBER(UINT64_C(0x12340F)) == 0x0F, "the refusal number stands lowest");
 _Static_assert(KERNELSTILL_ACCEPT_PLACE(UINT64_C(0x12340F)) == 0x1234, "the place stands above it");
+_Static_assert(KERNELSTILL_COMPOSE_NUMBER(UINT64_C(0x12340A)) == 0x0A, "the refusal number stands lowest");
+_Static_assert(KERNELSTILL_COMPOSE_BITS(UINT64_C(0x123400)) == 0x1234, "the count of bits stands above it");
+_Static_assert(KERNELSTILL_COMPOSE_ORDER(UINT64_C(0x12340A)) == 0x1234, "the order's number stands above it");
+_Static_assert(sizeof(struct kernelstill_order) == KERNELSTILL_ORDER_WORDS * sizeof(uint64_t), "an order is six words");
 _Static_assert(__BYTE_ORDER__ == __ORDER_LITTLE_ENDIAN__, "words stand lowest byte first");
 
-enum function { OPEN = 1, TAKE, FRAME_BITS, FRAME_PART, HEX_LINE, RECORD_LINE, ACCEPT };
+enum function { OPEN = 1, TAKE, FRAME_BITS, FRAME_PART, HEX_LINE, RECORD_LINE, ACCEPT, COMPOSE };
 
 #define MOST_SLICES 6
 #define MOST_ELEMENTS (UINT64_C(1) << 22) /* a request beyond it is malformed */
@@ -283,6 +287,20 @@ static void accept_stream(struct call *call)
     finish(call, kernelstill_accept(input->data, input->length, first, count));
 }
 
+static void compose_stream(struct call *call)
+{
+    uint64_t mask = read_word(), csr = read_word();
+    uint64_t feen = read_word(), cnt = read_word();
+    struct slice *orders = lend_const(call, sizeof(uint64_t));
+    struct slice *frames = lend_const(call, sizeof(uint8_t));
+    struct slice *output = lend(call, sizeof(uint8_t));
+
+    finish(call, kernelstill_compose(mask, csr, feen, cnt,
+                                     (const uint64_t *)orders->data, orders->length,
+                                     frames->data, frames->length,
+                                     output->data, output->length));
+}
+
 static void serve(uint64_t function)
 {
     struct call call = {.count = 0};
@@ -295,6 +313,7 @@ static void serve(uint64_t function)
     case HEX_LINE: read_hex_line(&call); break;
     case RECORD_LINE: write_record_line(&call); break;
     case ACCEPT: accept_stream(&call); break;
+    case COMPOSE: compose_stream(&call); break;
     default: die("a request has an unknown function");
     }
 }

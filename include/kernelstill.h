@@ -3,7 +3,8 @@
  * controller chip of pixel-detector modules. For C and C++.
  *
  * kernelstill_open opens, kernelstill_take takes bits and writes records;
- * kernelstill_accept checks a finished stream of triggers and Fasts; the other
+ * kernelstill_accept checks a finished stream of triggers and Fasts;
+ * kernelstill_compose writes a stream from a list of orders; the other
  * functions help to read what was written. Each is proved to meet its
  * contract (crates/kernelstill) for every argument that keeps these rules,
  * which no function can check:
@@ -45,6 +46,7 @@ extern "C" {
 #define KERNELSTILL_RECORD_WORDS 2       /* a record in the list */
 #define KERNELSTILL_RECORD_LINE_BYTES 28 /* a record's line, with its line feed */
 #define KERNELSTILL_LINE_BYTES 32        /* the bytes of a hexadecimal line, at most */
+#define KERNELSTILL_ORDER_WORDS 6        /* an order in a list of orders */
 #define KERNELSTILL_CLOCK_LIMIT (UINT64_C(1) << 48) /* cycles are below it */
 
 /* The default register plan: addresses 0 to 10 exist. Where only 0 to 6 do,
@@ -64,6 +66,9 @@ extern "C" {
 #define KERNELSTILL_CLOCK_OVER 6      /* next cycle + count exceeds 2^48 */
 #define KERNELSTILL_WRONG_CHARACTER 7 /* a character of a hexadecimal line is not 0-9 or A-F */
 #define KERNELSTILL_WRONG_LENGTH 8    /* its digits are odd in number, or above 64 */
+#define KERNELSTILL_WRONG_ORDER 9        /* an order has an unknown command, or a used field of the wrong size */
+#define KERNELSTILL_TOO_FEW_ZEROS 10     /* an order has too few zeros ahead of its command */
+#define KERNELSTILL_STREAM_TOO_LONG 11   /* the output cannot hold the whole stream, or it passes 2^48 bits */
 #define KERNELSTILL_UNKNOWN_PATTERN 13   /* a pattern of a stream begins none of LV1, BCR, ECR, CAL and SYNC */
 #define KERNELSTILL_CUT_PATTERN 14       /* the stream ends inside a command */
 #define KERNELSTILL_PATTERN_TOO_CLOSE 15 /* too few zeros lie ahead of a command */
@@ -262,6 +267,56 @@ uint64_t kernelstill_accept(
 
 #define KERNELSTILL_ACCEPT_NUMBER(answer) ((answer) & 0xFF) /* the refusal number, 0 for an accepted stream */
 #define KERNELSTILL_ACCEPT_PLACE(answer) ((answer) >> 8)    /* the place, 0 for an accepted stream */
+
+/*
+ * An order: a command by the kind of its record, its fields, and the zeros
+ * ahead of it. What a field holds that the command does not use is not looked
+ * at, and such a field is sent as zeros. Six words, in this order, so that an
+ * array of orders is a slice of words.
+ */
+struct kernelstill_order {
+    uint64_t kind;    /* LV1, BCR, ECR, CAL, SYNC, or a Slow that is not bad */
+    uint64_t zeros;   /* the zeros ahead of it */
+    uint64_t address; /* of WR_REGISTER, RD_REGISTER and RD_FIFO: below 16 */
+    uint64_t value;   /* of WR_REGISTER below 2^16, WR_FIFO below 2^27, GLOBAL_RESET_FE (SyncW) below 16 */
+    uint64_t frame;   /* of the two FRONT_END kinds and WR_RECEIVER: the byte of `frames` with which their bits begin */
+    uint64_t bits;    /* and how many bits these are: as many as CNT asks */
+};
+
+/*
+ * Composes a stream from a list of orders, one after another, and writes it
+ * into the output's first bytes, the highest bit of byte 0 first. The last
+ * byte is filled up with zeros; the bytes beyond it are as they were. Front-end
+ * bits last eight cycles each.
+ *
+ * The four numbers are a register plan, as in kernelstill_open. CNT is
+ * followed as the orders write it: 0 at the start, then as WR_REGISTER to its
+ * address leaves it, and 0 again after GLOBAL_RESET_MCC. A front-end frame has
+ * CNT<15:3> data bits and CNT<2:0> x 8 control bits, a WR_RECEIVER CNT<12:0> x
+ * 8 bits; they stand in `frames` packed, highest bit first, each frame from a
+ * byte of its own on, and bits past its count are not looked at. Ahead of each
+ * order but the first lie at least the zeros that the timing table asks (see
+ * the flags of a record).
+ *
+ * Reading the stream from an opening at cycle 0 with the same plan gives one
+ * record an order, none of them with flip, unsteady or too close, and after
+ * each frame its bits.
+ *
+ * The answer is one word, which the macros take apart: number 0 and the count
+ * of bits; or a refusal, which writes nothing: WRONG_PLAN; then, order by
+ * order, WRONG_ORDER or TOO_FEW_ZEROS with the order's number, counted from 0;
+ * last of all STREAM_TOO_LONG. A last order of fewer than six words is
+ * WRONG_ORDER.
+ */
+uint64_t kernelstill_compose(
+    uint64_t mask, uint64_t csr, uint64_t feen, uint64_t cnt,
+    const uint64_t *orders, size_t orders_length,
+    const uint8_t *frames, size_t frames_length,
+    uint8_t *output, size_t output_length);
+
+#define KERNELSTILL_COMPOSE_NUMBER(answer) ((answer) & 0xFF) /* the refusal number, 0 for none */
+#define KERNELSTILL_COMPOSE_BITS(answer) ((answer) >> 8)     /* the count of bits, where the number is 0 */
+#define KERNELSTILL_COMPOSE_ORDER(answer) ((answer) >> 8)    /* the order's number, at WRONG_ORDER and TOO_FEW_ZEROS */
 
 /*
  * Reads a line of hexadecimal digits, given without its line feed, into the

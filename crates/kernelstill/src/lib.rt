@@ -12,10 +12,12 @@ ghost use Rattle.image_fields.specs.Image.{imageLength, stateOf};
 ghost use Rattle.kernelstill.specs.Open.{emptyPlan, planOf, openResult, openResultOf};
 ghost use Rattle.kernelstill.specs.Take.{endingCode, resultLength, resultWords, soundImage, takeResult, takeResultOf, Holds};
 ghost use Rattle.kernelstill.specs.Accept.{acceptWord};
+ghost use Rattle.kernelstill.specs.Compose.{composeWord, composeWords, composeWordsOf};
 ghost use Rattle.kernelstill.specs.Lines.{lineResult, hexResultOf, recordResultOf};
 use calls::Ending;
 use calls::Report;
 use decoder::Decoder;
+use orders::Composed;
 use registers::Plan;
 
 // The words of a taking call's result: bits taken, records written, ending.
@@ -25,6 +27,9 @@ const RESULT_WORDS: usize = 3;
 const UNSOUND: u64 = 3;
 
 const WRONG_BUFFERS: u64 = 4;
+
+// What stands above the number in the composing call's answer has 56 bits.
+const COMPOSE_LIMIT: u64 = 0x100_0000_0000_0000;
 
 // The plan without a register, which does not open.
 fn empty_plan() -> Plan
@@ -193,6 +198,35 @@ pub extern "C" fn kernelstill_accept(input: &[u8], first: usize, count: usize) -
 {
     let verdict = acceptance::accept(input, first, count);
     verdict.place() * 256 + verdict.number() as u64
+}
+
+// An answer in one word: the refusal number, and 256 times the count of bits or the number of the order that was refused.
+fn compose_word(answer: Composed) -> u64
+    ensures { λ r. ⌜ r ≡ composeWord answer ⌝ }
+{
+    if answer.number == 0 {
+        return answer.bits % COMPOSE_LIMIT * 256;
+    }
+    answer.order % COMPOSE_LIMIT * 256 + answer.number as u64
+}
+
+// The stream of a list of orders, six words each, in the output's first bytes. A refusal changes nothing.
+#[no_mangle]
+pub extern "C" fn kernelstill_compose(
+    mask: u64,
+    csr: u64,
+    feen: u64,
+    cnt: u64,
+    orders: &[u64],
+    frames: &[u8],
+    output: &mut [u8],
+) -> u64
+    ensures { λ r. ⌜ composeWords r (now (output .exit))
+        ≡ composeWordsOf mask csr feen cnt (now (orders .entry)) (now (frames .entry)) (now (output .entry)) ⌝ }
+{
+    let plan = plan_of(mask, csr, feen, cnt);
+    let answer = compose_calls::compose(plan, orders, frames, output);
+    compose_word(answer)
 }
 
 // A hexadecimal line's bytes, and the refusal number.
