@@ -57,14 +57,20 @@ moved f m = record { plan = m .plan; next = m .next + 1; model = m .model; earli
 abbrev recorded : Machine → Record → Machine
 recorded m r = record { plan = m .plan; next = m .next; model = m .model; earlier = earlierOf r; store = m .store; tray = m .tray }
 
+-- The machine behind a frame: its record is the earlier one, and the tray holds its bits.
+abbrev pub framed : Machine → Record → List ℕ → Machine
+framed m r tray = record { plan = m .plan; next = r .time + 1; model = m .model; earlier = earlierOf r; store = m .store; tray = tray }
+
 abbrev turned : System → Cycle → Turned System
 turned s c = record { state = s; cycle = c }
 
--- What the rest of Field 5 does: it stores bits from a place on, and writes the frame's record.
+-- What the rest of Field 5 does: it stores bits from a place on, writes the frame's record, and leaves the recogniser hunting.
 pub record FrameTaken (command place : ℕ) (stored : List ℕ) (unsteady : Bool) (bits : List ℕ) (s : System) : Type 0 where
   pub time : ℕ
   pub last-bit : time + 1 ≡ s .machine .next + length bits
-  pub tray : stateAfter turnOf s bits .machine .tray ≡ filledOf place (s .machine .tray) stored
+  pub left : stateAfter turnOf s bits
+      ≡ system idle
+      (framed (s .machine) (frameRecord (s .machine .earlier) time command unsteady (cntAt (s .machine))) (filledOf place (s .machine .tray) stored))
   pub words : wordsAfter turnOf s bits
       ≡ headOf (frameRecord (s .machine .earlier) time command unsteady (cntAt (s .machine))) ∷ frameValueOf command (cntAt (s .machine)) ∷ []
 
@@ -99,7 +105,7 @@ module _ (command address : ℕ) (frame : isFrame command ≡ true) (count group
       record {
         time = m .next;
         last-bit = refl;
-        tray = ap (λ (t : Turned System). t .state .machine .tray) e ∙ same;
+        left = ap (λ (t : Turned System). t .state) e ∙ ap (λ (tray : List ℕ). system idle (framed m written tray)) same;
         words = ap (λ (t : Turned System). wordsOf (t .cycle) ++ []) e;
       }
 
@@ -113,7 +119,8 @@ module _ (command address : ℕ) (frame : isFrame command ≡ true) (count group
       record {
         time = f .time;
         last-bit = omega (arith, f .last-bit);
-        tray = ap (λ (t : Turned System). stateAfter turnOf (t .state) bits .machine .tray) e ∙ f .tray ∙ same;
+        left = ap (λ (t : Turned System). stateAfter turnOf (t .state) bits) e ∙ f .left
+            ∙ ap (λ (tray : List ℕ). system idle (framed m (frameRecord (m .earlier) (f .time) command u (cntAt m)) tray)) same;
         words = ap (λ (t : Turned System). wordsOf (t .cycle) ++ wordsAfter turnOf (t .state) bits) e ∙ f .words;
       }
 

@@ -8,6 +8,7 @@ pub mod LoopInvariant
 pub mod SlowSteps
 pub mod SoundnessKept
 pub mod RecordsFit
+pub mod TurnsKept
 pub mod FrameTurns
 pub mod FrontEndTurns
 pub mod BitCalls

@@ -39,7 +39,7 @@ use Rattle.calls.proofs.RunFaithful.{run-faithful}
 use Rattle.calls.proofs.SlowSteps.{Steps, over, begins, goes-on, slow-steps}
 
 -- The start state of a plan that fits.
-opened-sound : (plan : Plan) (cycle : ℕ) → planFits plan ≡ true → cycle ≤ clockLimit → T (soundOf (openedAt plan cycle))
+pub opened-sound : (plan : Plan) (cycle : ℕ) → planFits plan ≡ true → cycle ≤ clockLimit → T (soundOf (openedAt plan cycle))
 opened-sound plan cycle p c = sound (openedAt plan cycle) (record {
   plan = p;
   next = c;

@@ -7,7 +7,7 @@ use native.Mathlib.Nat.{suc-inj}
 use native.Mathlib.Omega.{arith}
 use lib.ListN.{length, length-append}
 use Rattle.layout.specs.Digits.{charactersOf}
-use Rattle.layout.specs.ListingLines.{numbersLine, lineOf, numbersSize, recordLine, byteDigits, frameLine}
+use Rattle.layout.specs.ListingLines.{numbersLine, lineOf, numbersSize, recordLine, byteDigits, frameLine, bytesLine}
 use Rattle.layout.proofs.Digits.{digits-length}
 
 numbers-length : (ns ws : List ℕ) → length ns ≡ length ws → length (numbersLine ns ws) ≡ numbersSize ws
@@ -27,6 +27,9 @@ bytes-length (b ∷ bs) = omega (arith, bytes-length bs)
 
 pub frame-length : (bs : List ℕ) → length (frameLine bs) ≡ 2 * length bs + 2
 frame-length bs = simp length-append (omega (arith, bytes-length bs))
+
+pub bytes-line-length : (bs : List ℕ) → length (bytesLine bs) ≡ 2 * length bs + 1
+bytes-line-length bs = simp length-append (omega (arith, bytes-length bs))
 
 -- A record's line has 28 bytes.
 pub record-line-length : (head value : ℕ) → length (recordLine head value) ≡ 28

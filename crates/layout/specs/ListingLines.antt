@@ -50,3 +50,7 @@ byteDigits (b ∷ bs) = charactersOf b 2 ++ byteDigits bs
 -- A frame's line: ">" and "its bytes, two digits each, unspaced".
 abbrev pub frameLine : List ℕ → List ℕ
 frameLine bytes = ascii ">" ++ (byteDigits bytes ++ ascii "\n")
+
+-- A line of a composed stream (document 02, F-2): its bytes, two digits each.
+abbrev pub bytesLine : List ℕ → List ℕ
+bytesLine bytes = byteDigits bytes ++ ascii "\n"

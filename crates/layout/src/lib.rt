@@ -9,7 +9,7 @@ ghost use lib.Seq.{sets};
 ghost use Rattle.output.specs.Ascii.{lineFeed};
 ghost use Rattle.output.specs.Block.{block, putAll, putIfFits};
 ghost use Rattle.layout.specs.Digits.{characterOf, charactersOf};
-ghost use Rattle.layout.specs.ListingLines.{space, numbersLine, lineOf, numbersSize, recordLine, refusedLine, faultLine, byteDigits, frameLine};
+ghost use Rattle.layout.specs.ListingLines.{space, numbersLine, lineOf, numbersSize, recordLine, refusedLine, faultLine, byteDigits, frameLine, bytesLine};
 ghost use Rattle.layout.specs.StateLines.{registerLine, l1idLine, baseLine, runmodeLine, pointersLine, wordLine};
 
 const SPACE: u8 = b' ';
@@ -145,6 +145,21 @@ pub fn frame_line(out: &mut [u8], at: usize, bytes: &[u8]) -> usize
     }
     out[at] = b'>';
     let end = put_byte_digits(out, at + 1, bytes);
+    out[end] = output::LINE_FEED;
+    end + 1
+}
+
+// A line of bytes: their digits, two each, and a line feed. One byte more than the digits.
+pub fn bytes_line(out: &mut [u8], at: usize, bytes: &[u8]) -> usize
+    ensures { λ r. ⌜ block (now (out .exit)) r ≡ putIfFits (now (out .entry)) at (bytesLine (now (bytes .entry))) ⌝ }
+{
+    if out.len() < at {
+        return at;
+    }
+    if (out.len() - at + 1) / 2 <= bytes.len() {
+        return at;
+    }
+    let end = put_byte_digits(out, at, bytes);
     out[end] = output::LINE_FEED;
     end + 1
 }

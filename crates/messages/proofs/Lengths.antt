@@ -1,7 +1,7 @@
 -- How long a sentence can be.
 -- Assumes nothing.
 use mathlib.Core.Bool.{_&&_}
-use mathlib.Core.List.{List}
+use mathlib.Core.List.{List, []}
 use Prim.Native.Char.{code}
 use Prim.Native.Nat.{ℕ, _+_, _≤_}
 use native.Mathlib.Omega.{arith}
@@ -12,6 +12,7 @@ use Rattle.output.specs.Ascii.{ascii}
 use Rattle.hexlines.specs.declared.LineNotes.{LineNotes}
 use Rattle.hexlines.specs.Line.{digitLimit}
 use Rattle.messages.specs.Sentences.{labelled, characterText, wrongLength, reasonOf, sentenceOf, faultReason, faultSentence}
+use Rattle.messages.specs.Sentences.{askedAndGiven, orderNumbers, orderReason, orderSentence}
 use Rattle.messages.proofs.Decimal.{decimal-short}
 
 labelled-length : (label : List ℕ) (n : ℕ) (after : List ℕ) → length (labelled label n after) ≤ length label + 20 + length after
@@ -53,3 +54,25 @@ fault-reason-length number =
 
 pub fault-short : (number place : ℕ) → length (faultSentence number place) ≤ 120
 fault-short number place = rw length-append (omega (arith, labelled-length (ascii "bit ") place (ascii ": "), fault-reason-length number))
+
+-- Two numbers between two texts.
+numbers-length : (label : List ℕ) (asked : ℕ) (between : List ℕ) (given : ℕ) → length (askedAndGiven label asked between given) ≤ length label + length between + 41
+numbers-length label asked between given =
+    rw length-append (omega (arith, labelled-length label asked between, labelled-length [] given (ascii "\n")))
+
+order-reason-length : (reason asked given : ℕ) → Short 120 (orderReason reason asked given)
+unfolding orderReason orderNumbers
+order-reason-length reason asked given =
+    choice (Short 120) (eqb reason 1) (λ _. omega arith)
+    (λ _. choice (Short 120) (eqb reason 2) (λ _. omega arith)
+    (λ _. choice (Short 120) (eqb reason 3) (λ _. omega arith)
+    (λ _. choice (Short 120) (eqb reason 5) (λ _. omega arith)
+    (λ _. choice (Short 120) (eqb reason 4)
+    (λ _. omega (arith, numbers-length (ascii "CNT asks for ") asked (ascii " frame bits, and the line gives ") given))
+    (λ _. omega (arith, numbers-length (ascii "the timing table asks for ") asked (ascii " zeros ahead of this command, and the line gives ") given))))))
+
+pub order-short : (reason line asked given : ℕ) → length (orderSentence reason line asked given) ≤ 150
+unfolding orderSentence
+order-short reason line asked given =
+    choice (Short 150) (eqb reason 7) (λ _. omega arith)
+    (λ _. rw length-append (omega (arith, labelled-length (ascii "line ") line (ascii ": "), order-reason-length reason asked given)))

@@ -1,3 +1,4 @@
 pub mod Decimal
 pub mod Lengths
 pub mod Example
+pub mod OrderReasons

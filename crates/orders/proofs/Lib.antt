@@ -1,2 +1,4 @@
 pub mod FitOrders
 pub mod StreamBits
+pub mod Packing
+pub mod Examples

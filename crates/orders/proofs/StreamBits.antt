@@ -1,22 +1,20 @@
 -- The stream of any orders is of bits, each 0 or 1.
 -- Assumes nothing.
-use mathlib.Core.Bool.{cond}
 use mathlib.Core.List.{List, [], _∷_, _++_}
-use mathlib.Core.Path.{_≡_, _∙_, refl, subst}
+use mathlib.Core.Path.{_≡_, _∙_, subst}
 use Prim.Native.Nat.{ℕ, zero, suc, _+_, _*_, _-_, _/_, _%_, _^_, _<_}
 use native.Mathlib.Nat.{suc-mul}
 use native.Mathlib.Omega.{arith}
-use lib.Dec.{T, ltb, eqb, ltb→lt, lt→ltb}
-use lib.ListN.{length, take, replicate, length-append, length-replicate}
+use lib.Dec.{T, ltb, ltb→lt, lt→ltb}
+use lib.ListN.{length, replicate, length-append, length-replicate}
 use lib.Seq.{take-length}
-use Rattle.bits.specs.Bits.{bitsOf}
 use Rattle.bits.proofs.Truth.{and-both, and-left, and-right, choice}
 use Rattle.bits.proofs.BitRanges.{binary, binary-append, bits-binary, length-bits}
 use Rattle.slow_fields.specs.Slow.{lengthOf}
 use Rattle.records.specs.Records.{kindFast}
 use Rattle.timing.specs.Table.{isLv1Kind}
 use Rattle.orders.specs.Fields.{Ordered, isSlowKind, isFrameKind, field3, field4, usesValue, valueWidth}
-use Rattle.orders.specs.Streams.{numberBits, zeros, repeated, frameOf, timesEach, field4Bits, field5Bits, headerBits, slowBody, lv1Bits}
+use Rattle.orders.specs.Streams.{numberBits, zeros, repeated, frameOf, timesEach, field4Bits, field5Bits}
 use Rattle.orders.specs.Streams.{commandBits, orderBits, streamOf}
 
 pub number-binary : (width n : ℕ) → T (binary (numberBits width n))

@@ -1,3 +1,4 @@
 pub mod Fields
 pub mod Streams
 pub mod Composing
+pub mod ComposeTable

@@ -7,7 +7,7 @@ use Prim.Native.Nat.{ℕ, _+_, _*_, _/_, _^_, _<_, _≤_}
 use native.Mathlib.Nat.{zero-add}
 use native.Mathlib.Omega.{arith}
 use lib.Dec.{eqb, leb, T}
-use lib.ListN.{length, length-append, length-set, take, replicate}
+use lib.ListN.{length, length-append, take, replicate}
 use borrow.Author.Tests.{eqb-true, eqb-false, leb-true, lt-leb, le-leb, ne-eqb}
 use Rattle.limits.specs.Limits.{storeLength, trayLength}
 use Rattle.bits.proofs.Truth.{both, cond-most, choice}
@@ -17,20 +17,17 @@ use Rattle.groups.specs.Vote.{voteOf}
 use Rattle.groups.proofs.GroupLists.{votes-binary, votes-length}
 use Rattle.recogniser.specs.declared.Phase.the-variants.{Field5}
 use Rattle.recogniser.specs.declared.Recogniser.{Recogniser}
-use Rattle.recogniser.specs.declared.FrameBit.{FrameBit}
-use Rattle.recogniser.specs.declared.FrameBit.the-variants.{None, At}
 use Rattle.recogniser.specs.Parts.{startOf}
 use Rattle.slow_fields.specs.Slow.{isFrame, lengthOf, dataBits, controlBits}
-use Rattle.frames.specs.Tray.{trayOf, partOf}
+use Rattle.frames.specs.Tray.{partOf}
 use Rattle.frames.proofs.FrameFill.{filledOf, PartHolds, part-holds}
 use Rattle.decoder.specs.Sound.{soundOf}
 use Rattle.records.specs.Records.{headOf, kindOf, kindSlow, flagUnsteady, frameBitsOf}
 use Rattle.controller.specs.Commands.{frameValueOf}
 use Rattle.controller.specs.Widths.{ModelFits}
-use Rattle.controller.proofs.EffectKeeps.{model-fits}
 use Rattle.timing.specs.TooClose.{tooClose, flagTooClose}
 use Rattle.calls.specs.Run.{stateAfter, wordsAfter}
-use Rattle.calls.specs.Turn.{System, decoderOf, cntAt, transitionOf, turnOf}
+use Rattle.calls.specs.Turn.{System, decoderOf, cntAt, turnOf}
 use Rattle.calls.specs.Take.{CallResult, offered}
 use Rattle.calls.specs.Calls.{Part, callOf, resultOf, systemAfter, carriedBits, carriedWords, carriedSystem}
 use Rattle.calls.proofs.RunFaithful.{state-append, words-append}
@@ -38,6 +35,7 @@ use Rattle.calls.proofs.Refusals.{unsound, wrong-buffers}
 use Rattle.calls.proofs.Refusals as refusals
 use Rattle.calls.proofs.CallLists.{carried-words, carried-system}
 use Rattle.calls.proofs.BitCalls.{carried-binary}
+use Rattle.calls.proofs.TurnsKept.{Kept, kept}
 use Rattle.calls.proofs.FrameTurns.{FrameTaken, frameRecord, receiver-taken}
 use Rattle.calls.proofs.FrontEndTurns.{front-end-taken}
 use Rattle.promises.specs.Frames.{cyclesEach, frameBitsIn, unsteadyIn, countOf, handedBack, Receives, HandsBack, Frames, SteadyVote, EmptyFrame}
@@ -80,33 +78,8 @@ frame-fits command count field whole b false e =
     let groups : length field / 8 ≡ count = omega arith in
     record { long = rw e (votes-length _ _ ∙ groups); bits = rw e (votes-binary (length field / 8) field b) }
 
--- What any bits keep: the clock goes on with each, and widths and the tray's length stay.
-tray-kept : (tray : List ℕ) (f : FrameBit) → length (trayOf tray f) ≡ length tray
-unfolding trayOf
-tray-kept tray None = refl
-tray-kept tray (At place bit) = length-set tray (place / 8) _
-
-record Kept (s : System) (bits : List ℕ) : Type 0 where
-  next : stateAfter turnOf s bits .machine .next ≡ s .machine .next + length bits
-  tray : length (stateAfter turnOf s bits .machine .tray) ≡ length (s .machine .tray)
-  model : ModelFits (s .machine .model) → ModelFits (stateAfter turnOf s bits .machine .model)
-
-kept : (bits : List ℕ) (s : System) → Kept s bits
-unfolding turnOf
-kept [] s = record { next = omega arith; tray = refl; model = λ f. f }
-kept (bit ∷ bits) s =
-    let m = s .machine in
-    let t = transitionOf s bit .event in
-    let k = kept bits (turnOf s bit .state) in
-    let on = k .next in
-    record {
-      next = omega arith;
-      tray = k .tray ∙ tray-kept (m .tray) (t .frame);
-      model = λ f. k .model (model-fits (m .plan) (m .model) (t .request) (m .next) (m .store) f);
-    }
-
 -- Where a list of calls takes bits, some call is not refused: so the tray has its length.
-abbrev Long : System → List ℕ → Type 0
+abbrev pub Long : System → List ℕ → Type 0
 Long s bits = 0 < length bits → length (s .machine .tray) ≡ trayLength
 
 abbrev taking : System → Part → List Part → CallResult → List ℕ
@@ -121,7 +94,7 @@ module _ (s : System) (p : Part) (ps : List Part) (later : Long s (carriedBits s
       let rest = both (eqb (length (s .machine .store)) storeLength) (tray && leb (p .free) (length (p .list))) f .1 in
       eqb-true _ _ (both tray (leb (p .free) (length (p .list))) rest .0)
 
-tray-fits : (ps : List Part) (s : System) → Long s (carriedBits s ps)
+pub tray-fits : (ps : List Part) (s : System) → Long s (carriedBits s ps)
 unfolding carriedBits
 tray-fits [] s = λ some. absurd (omega arith)
 tray-fits (p ∷ ps) s = part-long s p ps (tray-fits ps s) (soundOf (decoderOf s)) (refusals.buffers (callOf s p)) refl refl
@@ -197,7 +170,7 @@ module _ (s : System) (ps : List Part) (command address : ℕ) (before field : L
   tray-is : tray ≡ filledOf 0 (here .machine .tray) (frameBitsIn command field)
   tray-is =
       ap (λ (u : System). u .machine .tray) (carried-system s ps ∙ ap (stateAfter turnOf s) (r .took) ∙ state-append turnOf s before field)
-      ∙ taken .tray
+      ∙ ap (λ (u : System). u .machine .tray) (taken .left)
 
   part-is : handedBack tray head value ≡ partOf (filledOf 0 (here .machine .tray) (frameBitsIn command field)) (length (frameBitsIn command field))
   part-is = λ i. partOf (tray-is i) (count-is i)

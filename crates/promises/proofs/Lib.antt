@@ -7,6 +7,8 @@ pub mod Records
 pub mod ManyHits
 pub mod Damage
 pub mod Acceptance
+pub mod OrderRows
+pub mod Composing
 pub mod Hosts
 pub mod HostCalls
 pub mod HostDemands

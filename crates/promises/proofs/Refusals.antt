@@ -50,7 +50,7 @@ plan-by true true true true y z = refl
 plan-by true true true false true z = refl
 plan-by true true true false false z = refl
 
-plan-row : (plan : Plan) → planFits plan ≡ (threeInMask plan && threeDiffer plan)
+pub plan-row : (plan : Plan) → planFits plan ≡ (threeInMask plan && threeDiffer plan)
 unfolding planFits
 plan-row plan =
     plan-by (existsAt plan (plan .csr)) (existsAt plan (plan .feen)) (existsAt plan (plan .cnt))

@@ -4,6 +4,7 @@ pub mod Records
 pub mod Damage
 pub mod ManyHits
 pub mod Acceptance
+pub mod Composing
 pub mod Hosts
 pub mod HostCalls
 pub mod Programs

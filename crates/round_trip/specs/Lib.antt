@@ -1,1 +1,4 @@
 pub mod ReadBack
+pub mod Bytes
+pub mod Acceptance
+pub mod CallsReadBack

@@ -3,12 +3,12 @@
 use mathlib.Core.Path.{_≡_}
 use mathlib.Core.Bool.{true, cond}
 use mathlib.Core.List.{List, [], _∷_, _++_}
-use Prim.Native.Nat.{ℕ, _+_, _*_, _/_, _%_, _^_, _≤_}
-use lib.Dec.{T, ltb, eqb}
+use Prim.Native.Nat.{ℕ, _+_, _/_, _%_, _^_}
+use lib.Dec.{eqb}
 use lib.ListN.{length}
 use Rattle.limits.specs.Limits.{trayLength}
 use Rattle.records.specs.declared.Record.{Record}
-use Rattle.records.specs.Records.{kindLv1, kindSlow, recordWords, frameBitsOf}
+use Rattle.records.specs.Records.{kindSlow, recordWords, frameBitsOf}
 use Rattle.registers.specs.declared.Plan.{Plan}
 use Rattle.registers.specs.Plan.{planFits}
 use Rattle.decoder.specs.Opening.{openedAt}

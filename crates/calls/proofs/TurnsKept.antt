@@ -1,0 +1,59 @@
+-- What any bits keep: the clock goes on with each, and the plan, the widths, the count of registers and the tray's length stay.
+-- Assumes nothing.
+use mathlib.Core.List.{List, [], _∷_}
+use mathlib.Core.Path.{_≡_, refl, _∙_}
+use Prim.Native.Nat.{ℕ, _+_, _/_}
+use native.Mathlib.Omega.{arith}
+use lib.ListN.{length, length-set}
+use Rattle.recogniser.specs.declared.Request.{Request}
+use Rattle.recogniser.specs.declared.FrameBit.{FrameBit}
+use Rattle.recogniser.specs.declared.FrameBit.the-variants.{None, At}
+use Rattle.frames.specs.Tray.{trayOf}
+use Rattle.registers.specs.declared.Plan.{Plan}
+use Rattle.registers.specs.declared.Model.{Model}
+use Rattle.controller.specs.Widths.{ModelFits}
+use Rattle.controller.proofs.EffectCases.{act-keeps}
+use Rattle.controller.proofs.EffectKeeps.{after, model-fits}
+use Rattle.calls.specs.Run.{stateAfter}
+use Rattle.calls.specs.Turn.{System, transitionOf, turnOf}
+
+tray-kept : (tray : List ℕ) (f : FrameBit) → length (trayOf tray f) ≡ length tray
+unfolding trayOf
+tray-kept tray None = refl
+tray-kept tray (At place bit) = length-set tray (place / 8) _
+
+registers-long : (plan : Plan) (m : Model) (q : Request) (time : ℕ) (store : List ℕ) → length (m .registers) ≡ 16
+    → length (after plan m q time store .registers) ≡ 16
+registers-long plan m q time store f = act-keeps (λ r p c b. length r ≡ 16) plan m time store q (record {
+  now = f;
+  lv1 = f;
+  fast = λ _. f;
+  write = λ address _ _ _ _. length-set (m .registers) address _ ∙ f;
+  push = λ _ _. f;
+  pop = λ _. f;
+  reset = λ _. refl;
+  run = λ _ _. f;
+})
+
+pub record Kept (s : System) (bits : List ℕ) : Type 0 where
+  pub plan : stateAfter turnOf s bits .machine .plan ≡ s .machine .plan
+  pub next : stateAfter turnOf s bits .machine .next ≡ s .machine .next + length bits
+  pub tray : length (stateAfter turnOf s bits .machine .tray) ≡ length (s .machine .tray)
+  pub model : ModelFits (s .machine .model) → ModelFits (stateAfter turnOf s bits .machine .model)
+  pub registers : length (s .machine .model .registers) ≡ 16 → length (stateAfter turnOf s bits .machine .model .registers) ≡ 16
+
+pub kept : (bits : List ℕ) (s : System) → Kept s bits
+unfolding turnOf
+kept [] s = record { plan = refl; next = omega arith; tray = refl; model = λ f. f; registers = λ f. f }
+kept (bit ∷ bits) s =
+    let m = s .machine in
+    let t = transitionOf s bit .event in
+    let k = kept bits (turnOf s bit .state) in
+    let on = k .next in
+    record {
+      plan = k .plan;
+      next = omega arith;
+      tray = k .tray ∙ tray-kept (m .tray) (t .frame);
+      model = λ f. k .model (model-fits (m .plan) (m .model) (t .request) (m .next) (m .store) f);
+      registers = λ f. k .registers (registers-long (m .plan) (m .model) (t .request) (m .next) (m .store) f);
+    }

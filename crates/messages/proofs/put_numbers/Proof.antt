@@ -1,0 +1,49 @@
+-- `put_numbers` meets its contract: one labelled number after the other.
+-- Assumes nothing.
+use mathlib.Core.List.{List, []}
+use mathlib.Core.Path.{_∙_}
+use Prim.Native.Nat.{ℕ}
+use native.Mathlib.Omega.{arith}
+use lib.ListN.{length-append}
+use Rattle.output.specs.Ascii.{ascii}
+use Rattle.output.proofs.Pieces.{put-append, put-room}
+use Rattle.messages.specs.Sentences.{labelled}
+use borrow.Author.Needs.{needs}
+use Rattle.messages.proofs.put_numbers.Statement.{statement}
+use Rattle.messages.proofs.put_numbers.Tie as tie
+
+-- The two pieces.
+abbrev first : tie.Start → List ℕ
+first s = labelled (s .args .label .now) (s .args .asked) (s .args .between .now)
+
+abbrev second : tie.Start → List ℕ
+second s = labelled [] (s .args .given) (ascii "\n")
+
+put-labelled-requires : tie.Need-put-labelled-requires
+put-labelled-requires c κs = let s = (c .before .before .before .before) in omega (arith, s, length-append (first s) (second s))
+
+slice-aggregate-put-labelled : tie.Need-slice-aggregate-put-labelled
+slice-aggregate-put-labelled c = search needs
+
+slice-aggregate-put-labelled-2 : tie.Need-slice-aggregate-put-labelled-2
+slice-aggregate-put-labelled-2 c = search needs
+
+put-labelled-requires-2 : tie.Need-put-labelled-requires-2
+put-labelled-requires-2 c κs = let s = (c .before .before .before .before .before .before .before .before .before .before) in put-room _ (first s) (second s) _ _ _ (c .before .before .before .before .before .put-labelled .ensures) (s .pre)
+
+same-length : tie.Need-same-length
+same-length c = search needs
+
+returns : tie.Need-returns
+returns c = let s = (c .before .before .before .before .before .before .before .before .before .before .before .before .before) in c .before .before .put-labelled2 .ensures ∙ put-append _ (first s) (second s) _ _ _ (c .before .before .before .before .before .before .before .before .put-labelled .ensures)
+
+pub put-numbers-spec : {M : Type 1} → statement M
+put-numbers-spec =
+    tie.close
+    (tie.spec
+    put-labelled-requires
+    slice-aggregate-put-labelled
+    slice-aggregate-put-labelled-2
+    put-labelled-requires-2
+    same-length
+    returns)

@@ -1,0 +1,80 @@
+-- `put_order` meets its contract: that the stream is too long, or the line's number and why it is refused.
+-- Assumes nothing.
+use mathlib.Core.List.{List, _++_}
+use mathlib.Core.Path.{_≡_, _∙_}
+use Prim.Native.Nat.{ℕ, _+_, _≤_}
+use native.Mathlib.Omega.{arith}
+use lib.ListN.{length, length-append}
+use Rattle.output.specs.Ascii.{ascii}
+use Rattle.output.proofs.Pieces.{put-append, put-room}
+use Rattle.messages.specs.Sentences.{labelled, orderReason, orderSentence}
+use Rattle.messages.proofs.OrderReasons.{long-stream, refused-line}
+use borrow.Author.Needs.{needs}
+use Rattle.messages.proofs.put_order.Statement.{statement}
+use Rattle.messages.proofs.put_order.Tie as tie
+
+-- The two pieces.
+abbrev first : tie.Start → List ℕ
+first s = labelled (ascii "line ") (s .args .line) (ascii ": ")
+
+abbrev second : tie.Start → List ℕ
+second s = orderReason (s .args .reason) (s .args .asked) (s .args .given)
+
+-- there is room for it
+room : (s : tie.Start) (text : List ℕ) → orderSentence (s .args .reason) (s .args .line) (s .args .asked) (s .args .given) ≡ text
+    → s .args .at + length text ≤ length (s .args .out .now)
+room s text e = rw e at (s .pre)
+
+slice-aggregate-put-bytes : tie.Need-slice-aggregate-put-bytes
+slice-aggregate-put-bytes c = search needs
+
+put-bytes-requires : tie.Need-put-bytes-requires
+put-bytes-requires c κs = let s = (c .before .before .before .before) in room s _ (long-stream _ (s .args .asked) (s .args .given) (s .args .line) (c .before .before .if1 .taken))
+
+same-length : tie.Need-same-length
+same-length c = search needs
+
+returns : tie.Need-returns
+returns c = let s = (c .before .before .before .before .before .before .before) in rw (long-stream _ (s .args .asked) (s .args .given) (s .args .line) (c .before .before .before .before .before .if1 .taken)) (c .before .before .put-bytes .ensures)
+
+slice-aggregate-put-labelled : tie.Need-slice-aggregate-put-labelled
+slice-aggregate-put-labelled c = search needs
+
+slice-aggregate-put-labelled-2 : tie.Need-slice-aggregate-put-labelled-2
+slice-aggregate-put-labelled-2 c = search needs
+
+put-labelled-requires : tie.Need-put-labelled-requires
+put-labelled-requires c κs =
+    let s = (c .before .before .before .before .before) in
+    let r = room s (first s ++ second s) (refused-line _ (s .args .asked) (s .args .given) (s .args .line) (c .before .before .before .if1 .left)) in
+    omega (arith, r, length-append (first s) (second s))
+
+put-order-reason-requires : tie.Need-put-order-reason-requires
+put-order-reason-requires c κs =
+    let s = (c .before .before .before .before .before .before .before .before .before) in
+    put-room _ (first s) (second s) _ _ _ (c .before .before .before .put-labelled .ensures)
+    (room s _ (refused-line _ (s .args .asked) (s .args .given) (s .args .line) (c .before .before .before .before .before .before .before .if1 .left)))
+
+same-length-2 : tie.Need-same-length-2
+same-length-2 c = search needs
+
+returns-2 : tie.Need-returns-2
+returns-2 c =
+    let s = (c .before .before .before .before .before .before .before .before .before .before .before .before) in
+    rw (refused-line _ (s .args .asked) (s .args .given) (s .args .line) (c .before .before .before .before .before .before .before .before .before .before .if1 .left))
+    (c .before .before .put-order-reason .ensures ∙ put-append _ (first s) (second s) _ _ _ (c .before .before .before .before .before .before .put-labelled .ensures))
+
+pub put-order-spec : {M : Type 1} → statement M
+put-order-spec =
+    tie.close
+    (tie.spec
+    slice-aggregate-put-bytes
+    put-bytes-requires
+    same-length
+    returns
+    slice-aggregate-put-labelled
+    slice-aggregate-put-labelled-2
+    put-labelled-requires
+    put-order-reason-requires
+    same-length-2
+    returns-2)

@@ -1,0 +1,55 @@
+-- `put_order_numbers` meets its contract: the frame bits, or the zeros.
+-- Assumes nothing.
+use mathlib.Core.Path.{_≡_}
+use lib.ListN.{length}
+use Prim.Native.Nat.{_+_, _≤_}
+use Rattle.output.specs.Block.{putAll}
+use Rattle.messages.proofs.OrderReasons.{frame-numbers, zeros-numbers}
+use borrow.Author.Needs.{needs}
+use Rattle.messages.proofs.put_order_numbers.Statement.{statement}
+use Rattle.messages.proofs.put_order_numbers.Tie as tie
+
+slice-aggregate-put-numbers : tie.Need-slice-aggregate-put-numbers
+slice-aggregate-put-numbers c = search needs
+
+slice-aggregate-put-numbers-2 : tie.Need-slice-aggregate-put-numbers-2
+slice-aggregate-put-numbers-2 c = search needs
+
+put-numbers-requires : tie.Need-put-numbers-requires
+put-numbers-requires c κs = let s = (c .before .before .before .before .before) in rw (frame-numbers _ (s .args .asked) (s .args .given) (c .before .before .before .if1 .taken)) at (s .pre)
+
+same-length : tie.Need-same-length
+same-length c = search needs
+
+returns : tie.Need-returns
+returns c = let s = (c .before .before .before .before .before .before .before .before) in rw (frame-numbers _ (s .args .asked) (s .args .given) (c .before .before .before .before .before .before .if1 .taken)) (c .before .before .put-numbers .ensures)
+
+slice-aggregate-put-numbers-3 : tie.Need-slice-aggregate-put-numbers-3
+slice-aggregate-put-numbers-3 c = search needs
+
+slice-aggregate-put-numbers-4 : tie.Need-slice-aggregate-put-numbers-4
+slice-aggregate-put-numbers-4 c = search needs
+
+put-numbers-requires-2 : tie.Need-put-numbers-requires-2
+put-numbers-requires-2 c κs = let s = (c .before .before .before .before .before) in rw (zeros-numbers _ (s .args .asked) (s .args .given) (c .before .before .before .if1 .left)) at (s .pre)
+
+same-length-2 : tie.Need-same-length-2
+same-length-2 c = search needs
+
+returns-2 : tie.Need-returns-2
+returns-2 c = let s = (c .before .before .before .before .before .before .before .before) in rw (zeros-numbers _ (s .args .asked) (s .args .given) (c .before .before .before .before .before .before .if1 .left)) (c .before .before .put-numbers2 .ensures)
+
+pub put-order-numbers-spec : {M : Type 1} → statement M
+put-order-numbers-spec =
+    tie.close
+    (tie.spec
+    slice-aggregate-put-numbers
+    slice-aggregate-put-numbers-2
+    put-numbers-requires
+    same-length
+    returns
+    slice-aggregate-put-numbers-3
+    slice-aggregate-put-numbers-4
+    put-numbers-requires-2
+    same-length-2
+    returns-2)

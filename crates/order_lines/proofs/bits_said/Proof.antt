@@ -1,0 +1,52 @@
+-- `bits_said` meets its contract: by the number behind a colon, or by the digits.
+-- Assumes nothing.
+use mathlib.Core.Path.{_≡_, _∙_, sym, ap}
+use mathlib.Core.List.{List}
+use Prim.Native.Nat.{ℕ, _+_}
+use native.Mathlib.Omega.{arith}
+use Rattle.order_lines.specs.Numbers.{decimal}
+use Rattle.order_lines.proofs.Words.{part-rest}
+use Rattle.order_lines.proofs.Frames.{colon-within, said-behind, said-by-digits}
+use borrow.Author.Needs.{needs}
+use Rattle.order_lines.proofs.bits_said.Statement.{statement}
+use Rattle.order_lines.proofs.bits_said.Tie as tie
+
+add-behind : tie.Need-add-behind
+add-behind c = search needs
+
+sub-read-number : tie.Need-sub-read-number
+sub-read-number c = search needs
+
+part-read-number-start : tie.Need-part-read-number-start
+part-read-number-start c = search needs
+
+part-read-number-end : tie.Need-part-read-number-end
+part-read-number-end c = search needs
+
+read-number-requires : tie.Need-read-number-requires
+read-number-requires c κs = search needs
+
+returns : tie.Need-returns
+returns c =
+    let s = (c .before .before .before .before) in
+    c .read-number .ensures ∙ ap decimal (part-rest (s .args .word .now) (s .args .digits + 1))
+    ∙ sym (said-behind (s .args .word .now) (s .args .digits) (s .pre .0) (c .before .before .if1 .taken))
+
+mul-t11 : tie.Need-mul-t11
+mul-t11 c = omega (arith, c .before .before .pre .0, colon-within (c .before .before .args .word .now), c .before .before .pre .1)
+
+returns-2 : tie.Need-returns-2
+returns-2 c = sym (said-by-digits (c .before .before .args .word .now) (c .before .before .args .digits) (c .before .before .pre .0) (c .if1 .left))
+
+pub bits-said-spec : {M : Type 1} → statement M
+bits-said-spec =
+    tie.close
+    (tie.spec
+    add-behind
+    sub-read-number
+    part-read-number-start
+    part-read-number-end
+    read-number-requires
+    returns
+    mul-t11
+    returns-2)

@@ -1,0 +1,26 @@
+-- `is_named` meets its contract: the name by its place in the text of all of them.
+-- Assumes nothing.
+use mathlib.Core.Path.{_≡_, _∙_, sym, ap}
+use mathlib.Core.List.{List}
+use Prim.Native.Nat.{ℕ}
+use Rattle.order_lines.specs.Words.{sameWord}
+use Rattle.order_lines.proofs.Words.{compared}
+use Rattle.order_lines.proofs.Names.{name-told}
+use borrow.Author.Needs.{needs}
+use Rattle.order_lines.proofs.is_named.Statement.{statement}
+use Rattle.order_lines.proofs.is_named.Tie as tie
+
+word-requires : tie.Need-word-requires
+word-requires c κs = search needs
+
+same-requires : tie.Need-same-requires
+same-requires c κs = search needs
+
+returns : tie.Need-returns
+returns c =
+    let s = (c .before .before .before .before .before) in
+    compared _ _ _ (c .same .ensures .0) (c .same .ensures .1)
+    ∙ ap (sameWord (s .args .name .now)) (c .before .word .ensures ∙ name-told (s .args .place))
+
+pub is-named-spec : {M : Type 1} → statement M
+is-named-spec = tie.close (tie.spec word-requires same-requires returns)

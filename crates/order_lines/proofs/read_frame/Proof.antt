@@ -1,0 +1,81 @@
+-- `read_frame` meets its contract: no digits, a count that is none or too large, or a frame.
+-- Assumes nothing.
+use mathlib.Core.Path.{_≡_, _∙_, refl, sym, ap}
+use mathlib.Core.List.{List}
+use Prim.Native.Nat.{ℕ, _≤_}
+use native.Mathlib.Omega.{arith}
+use lib.ListN.{length, take}
+use lib.Seq.{length-take-le}
+use borrow.Author.Tests.{not-true, not-false}
+use Rattle.output.specs.Block.{putAll}
+use Rattle.order_lines.specs.Frames.{upToColon, areDigits, bytesOf}
+use Rattle.order_lines.proofs.Frames.{colon-within, colon-take, bytes-few, no-digits, wrong-bits, right-bits}
+use Rattle.order_lines.proofs.Lines.{frame-wrong, frame-put}
+use borrow.Author.Needs.{needs}
+use Rattle.order_lines.proofs.read_frame.Statement.{statement}
+use Rattle.order_lines.proofs.read_frame.Tie as tie
+
+-- the digits are those ahead of the colon
+ahead : (c : tie.After-colon-place) → take (c .colon-place .result) (c .before .before .before .args .word .now) ≡ upToColon (c .before .before .before .args .word .now)
+ahead c =
+    let word = c .before .before .before .args .word .now in
+    ap (λ (n : ℕ). take n word) (c .colon-place .ensures) ∙ colon-take word
+
+within : (c : tie.After-colon-place) → c .colon-place .result ≤ length (c .before .before .before .args .word .now)
+within c = omega (arith, c .colon-place .ensures, colon-within (c .before .before .before .args .word .now))
+
+colon-place-requires : tie.Need-colon-place-requires
+colon-place-requires c κs = search needs
+
+bits-said-requires : tie.Need-bits-said-requires
+bits-said-requires c κs = search needs
+
+slice-aggregate-digits : tie.Need-slice-aggregate-digits
+slice-aggregate-digits c = sym (length-take-le _ _ (within (c .before .before)))
+
+are-digits-requires : tie.Need-are-digits-requires
+are-digits-requires c κs = search needs
+
+returns : tie.Need-returns
+returns c = frame-wrong _ (no-digits _ (sym (ap areDigits (ahead (c .before .before .before .before))) ∙ sym (c .before .are-digits .ensures) ∙ not-true _ (c .if1 .taken)))
+
+mul-if2 : tie.Need-mul-if2
+mul-if2 c = omega (arith, within (c .before .before .before .before .before), c .before .before .before .before .before .before .before .before .pre .0)
+
+returns-2 : tie.Need-returns-2
+returns-2 c =
+    let d = sym (ap areDigits (ahead (c .before .before .before .before .before .before .before))) ∙ sym (c .before .before .before .before .are-digits .ensures) ∙ not-false _ (c .before .before .before .if1 .left) in
+    frame-wrong _ (wrong-bits _ d _ _ (c .before .before .before .before .before .before .bits-said .ensures) (c .before .before .before .before .before .before .before .colon-place .ensures) (c .if2 .taken))
+
+put-digits-requires : tie.Need-put-digits-requires
+put-digits-requires c κs =
+    let short = length-take-le (c .before .before .before .before .before .before .before .before .colon-place .result) (c .before .before .before .before .before .before .before .before .before .before .before .args .word .now) (within (c .before .before .before .before .before .before .before .before)) in
+    (omega (arith, short, within (c .before .before .before .before .before .before .before .before), c .before .before .before .before .before .before .before .before .before .before .before .pre .0), c .before .before .before .before .before .before .before .before .before .before .before .pre .1)
+
+same-length : tie.Need-same-length
+same-length c = search needs
+
+returns-3 : tie.Need-returns-3
+returns-3 c =
+    let k = (c .before .before .before .before .before .before .before .before .before .before .before) in
+    let s = (c .before .before .before .before .before .before .before .before .before .before .before .before .before .before) in
+    let word = s .args .word .now in
+    let d = sym (ap areDigits (ahead k)) ∙ sym (c .before .before .before .before .before .before .before .before .are-digits .ensures) ∙ not-false _ (c .before .before .before .before .before .before .before .if1 .left) in
+    frame-put (s .args .bytes .now) (upToColon word) _ _ _ (c .before .before .put-digits .ensures ∙ ap (λ (l : List ℕ). putAll (s .args .bytes .now) 0 (bytesOf l)) (ahead k))
+    (omega (arith, bytes-few (upToColon word), colon-within word, s .pre))
+    (right-bits word d _ _ (c .before .before .before .before .before .before .before .before .before .before .bits-said .ensures) (k .colon-place .ensures) (c .before .before .before .before .if2 .left))
+
+pub read-frame-spec : {M : Type 1} → statement M
+read-frame-spec =
+    tie.close
+    (tie.spec
+    colon-place-requires
+    bits-said-requires
+    slice-aggregate-digits
+    are-digits-requires
+    returns
+    mul-if2
+    returns-2
+    put-digits-requires
+    same-length
+    returns-3)

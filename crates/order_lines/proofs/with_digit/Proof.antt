@@ -1,0 +1,24 @@
+-- `with_digit` meets its contract: below 2^56 there is room for a digit more.
+-- Assumes nothing.
+use native.Mathlib.Omega.{arith}
+use borrow.Author.Tests.{lt-ltb, le-ltb}
+use Rattle.order_lines.specs.Numbers.{numberLimit}
+use Rattle.order_lines.proofs.Numbers.{digit-room}
+use borrow.Author.Needs.{needs}
+use Rattle.order_lines.proofs.with_digit.Statement.{statement}
+use Rattle.order_lines.proofs.with_digit.Tie as tie
+
+mul-result : tie.Need-mul-result
+mul-result c = omega (arith, digit-room (c .before .args .base) (c .before .args .number) (c .before .args .digit) (c .before .pre .0) (c .if1 .taken) (c .before .pre .1))
+
+add-result : tie.Need-add-result
+add-result c = omega (arith, digit-room (c .before .args .base) (c .before .args .number) (c .before .args .digit) (c .before .pre .0) (c .if1 .taken) (c .before .pre .1))
+
+returns : tie.Need-returns
+returns c = simp (lt-ltb (c .before .args .number) numberLimit (c .if1 .taken))
+
+returns-2 : tie.Need-returns-2
+returns-2 c = simp (le-ltb (c .before .args .number) numberLimit (c .if1 .left))
+
+pub with-digit-spec : {M : Type 1} → statement M
+with-digit-spec = tie.close (tie.spec mul-result add-result returns returns-2)

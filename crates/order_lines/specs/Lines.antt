@@ -1,0 +1,105 @@
+-- What a line of a text of orders means: nothing, an order, or why it is none (document 02, F-2; the text is ours).
+-- Assumes nothing.
+use mathlib.Core.Bool.{Bool, true, false, cond, _&&_, _||_}
+use mathlib.Core.List.{List, [], _∷_}
+use mathlib.Core.Path.{_≡_}
+use Prim.Native.Nat.{ℕ, _+_, _≤_}
+use lib.Dec.{ltb, eqb}
+use lib.ListN.{length, getD, take}
+use Rattle.orders.specs.declared.Order.{Order}
+use Rattle.orders.specs.Fields.{usesAddress, usesValue, valueWidth, isFrameKind, order}
+use Rattle.order_lines.specs.declared.Number.{Number}
+use Rattle.order_lines.specs.declared.OrderLine.{OrderLine}
+use Rattle.order_lines.specs.Words.{wordsIn, wordsOf}
+use Rattle.order_lines.specs.Numbers.{number, hexadecimal, decimal, sized}
+use Rattle.order_lines.specs.Names.{kindNamed, oneIf, fieldCount}
+use Rattle.order_lines.specs.Frames.{Frame, frame, frameOf}
+
+-- The most characters of a line, and the bytes that the digits of its frame fill.
+abbrev pub lineLimit : ℕ
+lineLimit = 32768
+
+abbrev pub frameLimit : ℕ
+frameLimit = 16384
+
+-- A line without words; the reason why one is no order, 0 for none; its order, whose frame is the bytes lent here.
+pub record LineMeaning : Type 0 where
+  pub blank : Bool
+  pub reason : ℕ
+  pub order : Order
+  pub lent : List ℕ
+
+abbrev pub noOrder : Order
+noOrder = order 0 0 0 0 0 0
+
+abbrev pub blankLine : LineMeaning
+blankLine = record { blank = true; reason = 0; order = noOrder; lent = [] }
+
+abbrev pub wrongLine : ℕ → LineMeaning
+wrongLine reason = record { blank = false; reason = reason; order = noOrder; lent = [] }
+
+-- The reasons, in the order in which they are looked for.
+abbrev pub unknownName : ℕ
+unknownName = 1
+
+abbrev pub otherCount : ℕ
+otherCount = 2
+
+abbrev pub wrongField : ℕ
+wrongField = 3
+
+-- The fields by the line's words, the name being word 0; one that the command does not use is 0.
+abbrev pub addressField : ℕ → List (List ℕ) → Number
+addressField kind words = cond (usesAddress kind) (sized 4 (hexadecimal (getD words 1 []))) (number 0)
+
+abbrev pub valueField : ℕ → List (List ℕ) → Number
+valueField kind words =
+    cond (usesValue kind) (sized (valueWidth kind) (hexadecimal (getD words (1 + oneIf (usesAddress kind)) []))) (number 0)
+
+abbrev pub frameField : ℕ → List (List ℕ) → Frame
+frameField kind words = cond (isFrameKind kind) (frameOf (getD words 1 [])) (frame true 0 [])
+
+-- "ZEROS: .. 0 if the word is not there", behind the name and so many fields.
+abbrev pub zerosField : ℕ → List (List ℕ) → Number
+zerosField fields words = cond (ltb (1 + fields) (length words)) (decimal (getD words (1 + fields) [])) (number 0)
+
+abbrev pub orderLine : ℕ → Number → Number → Number → Frame → LineMeaning
+orderLine kind zeros address value frame =
+    cond (zeros .right && (address .right && (value .right && frame .right)))
+    (record { blank = false; reason = 0; order = order kind (zeros .value) (address .value) (value .value) 0 (frame .bits); lent = frame .bytes })
+    (wrongLine wrongField)
+
+unfoldable pub fieldsMeaning : ℕ → List (List ℕ) → LineMeaning
+fieldsMeaning kind words =
+    orderLine kind (zerosField (fieldCount kind) words) (addressField kind words) (valueField kind words) (frameField kind words)
+
+-- "neither name + fields nor one more" is another count.
+abbrev pub countFits : ℕ → ℕ → Bool
+countFits fields count = eqb count (1 + fields) || eqb count (2 + fields)
+
+unfoldable pub wordsMeaning : List (List ℕ) → LineMeaning
+wordsMeaning words =
+    let kind = kindNamed (getD words 0 []) in
+    cond (eqb (length words) 0) blankLine
+    (cond (eqb kind 0) (wrongLine unknownName)
+    (cond (countFits (fieldCount kind) (length words)) (fieldsMeaning kind words) (wrongLine otherCount)))
+
+abbrev pub lineMeaning : List ℕ → LineMeaning
+lineMeaning line = wordsMeaning (wordsOf line)
+
+-- What a call that reads a line answers, with the bytes that it then lends.
+abbrev pub meant : OrderLine → List ℕ → LineMeaning
+meant r buffer = record { blank = r .blank; reason = r .reason; order = r .order; lent = take (r .bytes) buffer }
+
+pub record ReadAs (meaning : LineMeaning) (buffer : List ℕ) (r : OrderLine) : Type 0 where
+  pub same : meant r buffer ≡ meaning
+  pub within : r .bytes ≤ frameLimit
+  pub long : length buffer ≡ frameLimit
+
+-- What reading the fields asks: a kind with its count of fields, and the count of words.
+pub record FieldsAsked (text : List ℕ) (kind fields count : ℕ) (buffer : List ℕ) : Type 0 where
+  pub fields-told : fields ≡ fieldCount kind
+  pub few : fields ≤ 3
+  pub counted : count ≡ length (wordsIn text)
+  pub short : length text ≤ lineLimit
+  pub long : length buffer ≡ frameLimit

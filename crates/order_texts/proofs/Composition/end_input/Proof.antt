@@ -1,0 +1,33 @@
+-- `Composition::end_input` ends a line that has begun.
+-- Assumes nothing.
+use mathlib.Core.Path.{_≡_, _∙_, refl, sym, ap}
+use mathlib.Core.Bool.{Bool, _||_}
+use lib.Dec.{eqb}
+use Rattle.order_texts.proofs.Ends.{ends-here, ends-line}
+use borrow.Author.Needs.{needs}
+use Rattle.order_texts.proofs.Composition.end_input.Statement.{statement}
+use Rattle.order_texts.proofs.Composition.end_input.Tie as tie
+
+is-over-requires : tie.Need-is-over-requires
+is-over-requires c κs = search needs
+
+returns : tie.Need-returns
+returns c =
+    let s = (c .before .before .before .before .before .before) in
+    ends-here (s .pre .0) (s .pre .1) (ap (λ (b : Bool). b || eqb (s .args .self .line .length) 0) (sym (c .before .before .is-over .ensures)) ∙ c .if1 .taken)
+
+end-line-requires : tie.Need-end-line-requires
+end-line-requires c κs = c .before .before .before .before .before .before .before .before .pre
+
+same-length : tie.Need-same-length
+same-length c = search needs
+
+returns-2 : tie.Need-returns-2
+returns-2 c =
+    let s = (c .before .before .before .before .before .before .before .before .before .before .before) in
+    ends-line (s .pre .0) (s .pre .1) (ap (λ (b : Bool). b || eqb (s .args .self .line .length) 0) (sym (c .before .before .before .before .before .before .before .is-over .ensures)) ∙ c .before .before .before .before .before .if1 .left)
+    _ _ (c .before .before .end-line .ensures)
+
+pub end-input-spec : {M : Type 1} → statement M
+end-input-spec =
+    tie.close (tie.spec is-over-requires returns end-line-requires same-length returns-2)

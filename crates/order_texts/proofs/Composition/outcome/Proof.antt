@@ -1,0 +1,46 @@
+-- `Composition::outcome` meets its contract: a refusal, a stream that is too long, or its bytes.
+-- Assumes nothing.
+use mathlib.Core.Path.{_≡_, _∙_, refl, sym, ap}
+use mathlib.Core.Bool.{true, false}
+use native.Mathlib.Omega.{arith}
+use borrow.Author.Tests.{not-true, not-false}
+use Rattle.orders.specs.Composing.{roomFits}
+use Rattle.order_texts.specs.Composed.{outputLimit}
+use Rattle.order_texts.proofs.Rooms.{has-room}
+use Rattle.order_texts.proofs.Ends.{outcome-refused, outcome-long, outcome-whole}
+use borrow.Author.Needs.{needs}
+use Rattle.order_texts.proofs.Composition.outcome.Statement.{statement}
+use Rattle.order_texts.proofs.Composition.outcome.Tie as tie
+
+-- there is room
+room : (e : tie.Else2) → roomFits (e .before .before .before .before .before .args .self .bits) outputLimit ≡ true
+room e = sym (e .before .room-fits .ensures) ∙ not-false _ (e .if2 .left)
+
+returns : tie.Need-returns
+returns c = outcome-refused _ _ (c .before .before .before .pre) (c .if1 .taken)
+
+room-fits-requires : tie.Need-room-fits-requires
+room-fits-requires c κs = search needs
+
+returns-2 : tie.Need-returns-2
+returns-2 c = outcome-long _ _ (c .before .before .before .before .before .pre) (c .before .before .if1 .left) (sym (c .before .room-fits .ensures) ∙ not-true _ (c .if2 .taken))
+
+finish-requires : tie.Need-finish-requires
+finish-requires c κs =
+    let w = c .before .before .before .before .before .before .before .pre in
+    let r = room (c .before .before) in
+    (w .fits, omega (arith, w .placed r, has-room (c .before .before .before .before .before .before .before .args .self .bits) r, w .whole))
+
+none-requires : tie.Need-none-requires
+none-requires c κs = search needs
+
+add-t12 : tie.Need-add-t12
+add-t12 c = omega (arith, has-room (c .before .before .before .before .before .before .before .before .before .before .args .self .bits) (room (c .before .before .before .before .before)))
+
+returns-3 : tie.Need-returns-3
+returns-3 c = outcome-whole _ _ (c .before .before .before .before .before .before .before .before .before .before .pre) (c .before .before .before .before .before .before .before .if1 .left) (room (c .before .before .before .before .before)) _ (c .before .before .finish .ensures) _ (c .before .none .ensures)
+
+pub outcome-spec : {M : Type 1} → statement M
+outcome-spec =
+    tie.close
+    (tie.spec returns room-fits-requires returns-2 finish-requires none-requires add-t12 returns-3)

@@ -1,0 +1,116 @@
+-- `Composition::with_order` meets its contract: the order is refused, its bits are written, or there is no room for them.
+-- Assumes nothing.
+use mathlib.Core.Path.{_≡_, _∙_, refl, sym, ap}
+use mathlib.Core.Bool.{true, false}
+use mathlib.Core.List.{List}
+use Prim.Native.Nat.{ℕ, _<_}
+use native.Mathlib.Omega.{arith}
+use lib.ListN.{length}
+use Rattle.registers.specs.declared.Plan.{Plan}
+use Rattle.orders.specs.Composing.{contextAfter, roomFits}
+use Rattle.composing.specs.Checked.{SomeFit}
+use Rattle.order_texts.specs.declared.Refusal.{Refusal}
+use Rattle.order_texts.specs.Composed.{outputLimit}
+use Rattle.order_texts.proofs.Orders.{unrefused-fits, order-refused, room-for, order-written, order-beyond}
+use borrow.Author.Needs.{needs}
+use Rattle.order_texts.proofs.Composition.with_order.Statement.{statement}
+use Rattle.order_texts.proofs.Composition.with_order.Tie as tie
+
+-- The start, by the branch in which the order is not refused, and that branch by the test of the room.
+abbrev start : tie.Else1 → tie.Start
+start e = e .before .before .before .before .before
+
+abbrev unrefused : tie.After-room-fits → tie.Else1
+unrefused c = c .before .before .before .before .before .before .before .before
+
+narrow : (s : tie.Start) → s .args .self .context .cnt < 65536
+narrow s = omega arith
+
+abbrev fit : (e : tie.Else1) → SomeFit (start e .args .order) (length (start e .args .lent .now))
+fit e =
+    let a = start e .args in
+    record {
+      cnt = a .self .context .cnt;
+      narrow = narrow (start e);
+      fits = unrefused-fits (a .self .context) (a .lines) (a .order) (length (a .lent .now))
+          (sym (ap (λ (r : Refusal). r .number) (e .before .before .of-order .ensures)) ∙ e .if1 .left);
+    }
+
+of-order-requires : tie.Need-of-order-requires
+of-order-requires c κs = search needs
+
+passed-requires : tie.Need-passed-requires
+passed-requires c κs = search needs
+
+returns : tie.Need-returns
+returns c = order-refused _ _ (c .before .before .before .before .before .before .pre) _ _ _ _ (c .before .before .before .of-order .ensures) (c .before .if1 .taken) _ (c .passed .ensures)
+
+command-width-requires : tie.Need-command-width-requires
+command-width-requires c κs = fit c
+
+add-bits-requires : tie.Need-add-bits-requires
+add-bits-requires c κs = search needs
+
+add-bits-requires-2 : tie.Need-add-bits-requires-2
+add-bits-requires-2 c κs = search needs
+
+default-plan-requires : tie.Need-default-plan-requires
+default-plan-requires c κs = search needs
+
+after-requires : tie.Need-after-requires
+after-requires c κs = fit (c .before .before .before .before) .fits
+
+empty-requires : tie.Need-empty-requires
+empty-requires c κs = search needs
+
+room-fits-requires : tie.Need-room-fits-requires
+room-fits-requires c κs = search needs
+
+put-order-requires : tie.Need-put-order-requires
+put-order-requires c κs =
+    let k = (c .before .before) in
+    let e = unrefused k in
+    let s = start e in
+    (s .pre .fits, fit e,
+      room-for (s .args .self) _ (s .pre) (s .args .lines) (s .args .order) (s .args .lent .now) _ (e .before .before .of-order .ensures) (e .if1 .left) _ _ _
+      (c .before .before .before .before .before .before .before .before .before .command-width .ensures) (c .before .before .before .before .before .before .before .before .add-bits .ensures) (c .before .before .before .before .before .before .before .add-bits2 .ensures) _
+      (c .before .before .before .before .before .after .ensures ∙ ap (λ (p : Plan). contextAfter p (s .args .self .context) (s .args .order)) (c .before .before .before .before .before .before .default-plan .ensures))
+      _ (c .before .before .before .empty .ensures) (sym (k .room-fits .ensures) ∙ c .before .if2 .taken))
+
+returns-2 : tie.Need-returns-2
+returns-2 c =
+    let k = (c .before .before .before) in
+    let e = unrefused k in
+    let s = start e in
+    order-written (s .args .self) _ (s .pre) (s .args .lines) (s .args .order) (s .args .lent .now) _ (e .before .before .of-order .ensures) (e .if1 .left) _ _ _
+    (c .before .before .before .before .before .before .before .before .before .before .command-width .ensures) (c .before .before .before .before .before .before .before .before .before .add-bits .ensures) (c .before .before .before .before .before .before .before .before .add-bits2 .ensures) _
+    (c .before .before .before .before .before .before .after .ensures ∙ ap (λ (p : Plan). contextAfter p (s .args .self .context) (s .args .order)) (c .before .before .before .before .before .before .before .default-plan .ensures))
+    _ (c .before .before .before .before .empty .ensures) (sym (k .room-fits .ensures) ∙ c .before .before .if2 .taken) _ _ (c .put-order .ensures)
+
+returns-3 : tie.Need-returns-3
+returns-3 c =
+    let k = (c .before) in
+    let e = unrefused k in
+    let s = start e in
+    order-beyond (s .args .self) _ (s .pre) (s .args .lines) (s .args .order) (s .args .lent .now) _ (e .before .before .of-order .ensures) (e .if1 .left) _ _ _
+    (c .before .before .before .before .before .before .before .before .command-width .ensures) (c .before .before .before .before .before .before .before .add-bits .ensures) (c .before .before .before .before .before .before .add-bits2 .ensures) _
+    (c .before .before .before .before .after .ensures ∙ ap (λ (p : Plan). contextAfter p (s .args .self .context) (s .args .order)) (c .before .before .before .before .before .default-plan .ensures))
+    _ (c .before .before .empty .ensures) (sym (k .room-fits .ensures) ∙ c .if2 .left)
+
+pub with-order-spec : {M : Type 1} → statement M
+with-order-spec =
+    tie.close
+    (tie.spec
+    of-order-requires
+    passed-requires
+    returns
+    command-width-requires
+    add-bits-requires
+    add-bits-requires-2
+    default-plan-requires
+    after-requires
+    empty-requires
+    room-fits-requires
+    put-order-requires
+    returns-2
+    returns-3)

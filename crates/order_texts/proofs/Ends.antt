@@ -1,0 +1,87 @@
+-- The input's end, and the outcome of a run.
+-- Assumes nothing.
+use mathlib.Core.Bool.{Bool, true, false, cond, not, _&&_, _||_}
+use mathlib.Core.List.{List, [], _∷_, _++_}
+use mathlib.Core.Path.{_≡_, _∙_, refl, sym, ap}
+use Prim.Native.Nat.{ℕ, zero, suc, _+_, _*_, _/_, _≤_, _<_}
+use native.Mathlib.Nat.{add-zero}
+use native.Mathlib.Omega.{arith}
+use lib.Dec.{eqb}
+use lib.ListN.{length, take}
+use lib.Seq.{sets, length-take-le}
+use borrow.Author.Tests.{eq-eqb, ne-eqb, eqb-true, eqb-false, not-true, not-false}
+use Rattle.bits.proofs.Truth.{clash}
+use Rattle.orders.specs.Streams.{streamOf, packedFrom}
+use Rattle.orders.specs.Composing.{roomFits}
+use Rattle.hexlines.specs.Lines.{isEmpty}
+use Rattle.order_lines.specs.Lines.{lineLimit}
+use Rattle.order_texts.specs.declared.Refusal.{Refusal}
+use Rattle.order_texts.specs.declared.Composition.{Composition}
+use Rattle.order_texts.specs.declared.Outcome.{Outcome}
+use Rattle.order_texts.specs.Refusals.{refusal, noRefusal, longStream, LineText, refusalIn, ordersIn}
+use Rattle.order_texts.specs.Composed.{outputLimit, Composed, composed, refusedWith, tooLong}
+use Rattle.order_texts.specs.Running.{textSoFar, textsFrom, endOf, endWith, unlessRefused, withLines, stillLines, stillComposed, compositionOf}
+use Rattle.order_texts.specs.Running.{WellFormed, Lent, EndsLine, EndsInput, Finishes}
+use Rattle.order_texts.proofs.Rooms.{has-room}
+use Rattle.order_texts.proofs.BlockLoop.{over}
+
+-- No lines more.
+no-more : (s : Composition) (out : List ℕ) → stillLines s out [] ≡ compositionOf s out
+unfolding stillLines withLines refusalIn ordersIn streamOf compositionOf
+no-more s out = refl
+
+-- Whether the present line has characters.
+has-none : (n : ℕ) (buffer : List ℕ) → n ≡ 0 → isEmpty (take n buffer) ≡ true
+has-none n buffer e = rw e
+
+has-some : (n : ℕ) (buffer : List ℕ) → n ≤ length buffer → (n ≡ 0 → ⊥) → isEmpty (take n buffer) ≡ false
+has-some zero buffer h n = absurd (n refl)
+has-some (suc n) [] h m = absurd (omega arith)
+has-some (suc n) (c ∷ cs) h m = refl
+
+module _ {s : Composition} {buffer out frame : List ℕ} (w : WellFormed s out) (l : Lent buffer frame) where
+  here : (a b : Bool) → over s ≡ a → eqb (s .line .length) 0 ≡ b → (a || b) ≡ true → compositionOf s out ≡ stillComposed s buffer out []
+  unfolding compositionOf stillLines textsFrom
+  here true b o z e = simp (not-true (eqb (s .refusal .number) 0) o)
+  here false b o z e =
+      sym (no-more s out)
+      ∙ ap (stillLines s out) (sym (ap (λ (t : Bool). cond t [] (textSoFar (s .line) buffer ∷ [])) (has-none (s .line .length) buffer (eqb-true (s .line .length) 0 (z ∙ e)))))
+
+  pub ends-here : (over s || eqb (s .line .length) 0) ≡ true → EndsInput s buffer out s out
+  ends-here e = record { well-formed = w; same = here (over s) (eqb (s .line .length) 0) refl refl e }
+
+  neither : (a b : Bool) → (a || b) ≡ false → (a ≡ false) × (b ≡ false)
+  neither true b e = clash refl e
+  neither false b e = (refl, e)
+
+  pub ends-line : (over s || eqb (s .line .length) 0) ≡ false → (r : Composition) (now : List ℕ) → EndsLine s buffer out r now → EndsInput s buffer out r now
+  unfolding textsFrom stillLines
+  ends-line e r now ended =
+      let n = neither (over s) (eqb (s .line .length) 0) e in
+      let some : isEmpty (take (s .line .length) buffer) ≡ false =
+      has-some (s .line .length) buffer (omega (arith, w .short, l .line-long)) (eqb-false (s .line .length) 0 (n .1)) in
+      record {
+        well-formed = ended .well-formed;
+        same = sym (no-more r now) ∙ ended .same [] ∙ sym (simp (not-false (eqb (s .refusal .number) 0) (n .0), some));
+      }
+
+-- ---- the outcome
+
+module _ (s : Composition) (out : List ℕ) (w : WellFormed s out) where
+  pub outcome-refused : (s .refusal .number ≡ 0 → ⊥) → Finishes s out (record { refusal = s .refusal; bytes = 0 }) out
+  unfolding compositionOf
+  outcome-refused n = record { same = simp (ne-eqb (s .refusal .number) 0 n); within = omega arith }
+
+  module _ (z : s .refusal .number ≡ 0) where
+    pub outcome-long : roomFits (s .bits) outputLimit ≡ false → Finishes s out (record { refusal = refusal 11 0 longStream 0 0; bytes = 0 }) out
+    unfolding compositionOf
+    outcome-long r = record { same = simp (eq-eqb (s .refusal .number) 0 z, add-zero, r); within = omega arith }
+
+    pub outcome-whole : roomFits (s .bits) outputLimit ≡ true → (now : List ℕ)
+        → now ≡ sets out (s .writer .at) (packedFrom (s .writer .held) (s .writer .filled) [])
+        → (none : Refusal) → none ≡ noRefusal → Finishes s out (record { refusal = none; bytes = (s .bits + 7) / 8 }) now
+    unfolding compositionOf
+    outcome-whole r now e none f = record {
+      same = simp (eq-eqb (s .refusal .number) 0 z, add-zero, r) (rw (e, f));
+      within = omega (arith, has-room (s .bits) r);
+    }

@@ -1,0 +1,5 @@
+pub mod Refusals
+pub mod Composed
+pub mod Running
+pub mod Printing
+pub mod Examples

@@ -1,0 +1,2 @@
+-- The sixth promise, proved.
+-- Assumes nothing.

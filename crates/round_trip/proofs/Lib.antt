@@ -1,0 +1,16 @@
+pub mod Cycles
+pub mod Heads
+pub mod KeptFields
+pub mod KnownKinds
+pub mod CommandRead
+pub mod TriggersRead
+pub mod CntWritten
+pub mod SlowsRead
+pub mod FrameFields
+pub mod FramesRead
+pub mod Orders
+pub mod RoundTrip
+pub mod FrameRoundTrip
+pub mod Bytes
+pub mod Acceptance
+pub mod CallsRoundTrip
