@@ -53,8 +53,13 @@ module _ (line : List ℕ) (c : ℕ) where
   within : length line < lineLimit → record { long = ltb lineLimit (length line); text = take lineLimit line ++ (c ∷ []) } ≡ one-more
   within h =
       let l : length (line ++ (c ∷ [])) ≡ length line + 1 = length-append line (c ∷ []) in
-      rw (take-all lineLimit line (omega arith), take-all lineLimit (line ++ (c ∷ [])) (omega (arith, l)), l,
-        le-ltb lineLimit (length line) (omega arith), le-ltb lineLimit (length line + 1) (omega arith))
+      rw (
+        take-all lineLimit line (omega arith),
+        take-all lineLimit (line ++ (c ∷ [])) (omega (arith, l)),
+        l,
+        le-ltb lineLimit (length line) (omega arith),
+        le-ltb lineLimit (length line + 1) (omega arith),
+      )
 
   past : lineLimit ≤ length line → record { long = true; text = take lineLimit line } ≡ one-more
   past h =
@@ -67,7 +72,7 @@ module _ (line : List ℕ) (c : ℕ) (cs : List ℕ) where
 
   gathered-on : (b : Bool) → ltb (length (take lineLimit line)) lineLimit ≡ b
       → cond b (textsFrom (record { long = ltb lineLimit (length line); text = take lineLimit line ++ (c ∷ []) }) cs)
-        (textsFrom (record { long = true; text = take lineLimit line }) cs)
+      (textsFrom (record { long = true; text = take lineLimit line }) cs)
       ≡ textsFrom (lineText (line ++ (c ∷ []))) cs
   gathered-on true e = ap (λ (t : LineText). textsFrom t cs) (within line c (omega (arith, short, ltb-true (length (take lineLimit line)) lineLimit e)))
   gathered-on false e = ap (λ (t : LineText). textsFrom t cs) (past line c (omega (arith, short, ltb-false (length (take lineLimit line)) lineLimit e)))

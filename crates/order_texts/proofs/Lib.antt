@@ -5,4 +5,5 @@ pub mod Gathering
 pub mod BlockLoop
 pub mod Ends
 pub mod Parts
+pub mod Standing
 pub mod Examples

@@ -38,8 +38,8 @@ module _ (s : Composition) (buffer out : List ℕ) (w : WellFormed s out) (lines
   -- the line and those behind it
   by-line : (texts : List LineText) → withLines s out (text ∷ texts)
       ≡ unlessRefused (lineRefusal (s .context) lines text)
-        (unlessRefused (refusalIn (meaningContext (s .context) (lineMeaning (text .text))) lines texts)
-        (endWith s out (streamOf (meaningOrders (lineMeaning (text .text)) (ordersIn texts)))))
+      (unlessRefused (refusalIn (meaningContext (s .context) (lineMeaning (text .text))) lines texts)
+      (endWith s out (streamOf (meaningOrders (lineMeaning (text .text)) (ordersIn texts)))))
   unfolding withLines refusalIn ordersIn
   by-line texts =
       rw (← counted)

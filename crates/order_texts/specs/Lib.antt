@@ -3,3 +3,4 @@ pub mod Composed
 pub mod Running
 pub mod Printing
 pub mod Examples
+pub mod Blocks

@@ -1,2 +1,287 @@
 -- The sixth promise, proved.
 -- Assumes nothing.
+use mathlib.Core.Path.{_≡_, _∙_, refl, sym, ap, ap₂, subst}
+use mathlib.Core.Bool.{Bool, true, false, cond, not, _&&_, _||_}
+use mathlib.Core.List.{List, [], _∷_, _++_, append-assoc}
+use mathlib.Core.Logic.{⊎-elim}
+use Prim.Native.Nat.{ℕ, zero, suc, _+_, _*_, _≤_, _<_}
+use native.Mathlib.Nat.{zero-add, add-zero}
+use native.Mathlib.Numerals.{add-one}
+use native.Mathlib.Omega.{arith}
+use lib.Dec.{ltb, leb, eqb}
+use lib.ListN.{length, take, length-append}
+use lib.Seq.{sets}
+use borrow.Author.Tests.{eqb-false, leb-true, le-leb}
+use Rattle.limits.specs.Limits.{clockLimit, inputLimit}
+use Rattle.bits.specs.Bits.{bitsOf}
+use Rattle.bits.specs.Range.{rangeFits}
+use Rattle.bits.proofs.Truth.{clash, choice, both}
+use Rattle.registers.specs.declared.Plan.{Plan}
+use Rattle.registers.specs.Plan.{planFits}
+use Rattle.timing.specs.Table.{isLv1Kind}
+use Rattle.orders.specs.declared.Context.{Context}
+use Rattle.orders.specs.declared.Composed.{Composed}
+use Rattle.orders.specs.Fields.{Ordered, isSlowKind}
+use Rattle.orders.specs.Streams.{zeros, commandBits, orderBits, streamOf, packed}
+use Rattle.orders.specs.Composing.{start, composed, contextAfter, orderNumber, refusalFrom, roomFits, ComposeResult, composeResult, writtenOf, composeOf}
+use Rattle.patterns.specs.Verdicts.{verdictOf, acceptOf}
+use Rattle.decoder.specs.Opening.{openedAt}
+use Rattle.calls.specs.Calls.{carriedBits}
+use Rattle.calls.proofs.SoundnessKept.{opened-sound}
+use Rattle.calls.proofs.BitCalls.{callsFor, calls-take}
+use Rattle.orders.proofs.StreamBits.{stream-binary}
+use Rattle.orders.proofs.Examples.{compose-examples}
+use Rattle.round_trip.specs.ReadBack.{opened, Fit}
+use Rattle.round_trip.specs.Bytes.{ComposedBytes}
+use Rattle.round_trip.proofs.Bytes.{bytes}
+use Rattle.round_trip.proofs.CallsRoundTrip.{calls-round-trip, calls-frame-round-trip}
+use Rattle.round_trip.proofs.Acceptance.{composed-accepted}
+use Rattle.promises.specs.Refusals.{Row, row, firstOf, threeInMask, threeDiffer}
+use Rattle.promises.specs.Composing.{isWrong, hasFewZeros, orderRows, rowsFrom, composingRows, NamesFirst, Composes, Writes, Accepts, ReadsBack, FrameBack, Taken, AcceptedBack, SixthPromise}
+use Rattle.promises.proofs.Refusals.{not-leb, not-and, plan-row}
+use Rattle.promises.proofs.Frames.{tray-fits}
+use Rattle.promises.proofs.OrderRows.{order-rows}
+
+-- The rows of an order ahead of others.
+first-two : (a b : Bool) (rest : List Row)
+    → firstOf ((row 9 a ∷ row 10 b ∷ []) ++ rest) ≡ cond (eqb (firstOf (row 9 a ∷ row 10 b ∷ [])) 0) (firstOf rest) (firstOf (row 9 a ∷ row 10 b ∷ []))
+first-two true b rest = refl
+first-two false true rest = refl
+first-two false false rest = refl
+
+first-order : (c : Context) (x : Ordered) (rest : List Row)
+    → firstOf (orderRows c x ++ rest)
+    ≡ cond (eqb (orderNumber c (x .order) (length (x .lent))) 0) (firstOf rest) (orderNumber c (x .order) (length (x .lent)))
+first-order c x rest =
+    first-two (isWrong c x) (hasFewZeros c x) rest ∙ ap (λ (n : ℕ). cond (eqb n 0) (firstOf rest) n) (order-rows c x)
+
+-- The rows of all orders, ahead of others.
+ahead-of-all : (number n f last : ℕ) (later : Composed) (none : Bool) → eqb number 0 ≡ none → f ≡ cond (eqb (later .number) 0) last (later .number)
+    → cond (eqb number 0) f number
+    ≡ cond (eqb (cond (eqb number 0) later (composed number n 0) .number) 0) last (cond (eqb number 0) later (composed number n 0) .number)
+ahead-of-all number n f last later true e same = rw e same
+ahead-of-all number n f last later false e same = rw e (rw e)
+
+rows-number : (plan : Plan) (c : Context) (n : ℕ) (xs : List Ordered) (rest : List Row)
+    → firstOf (rowsFrom plan c xs ++ rest) ≡ cond (eqb (refusalFrom plan c n xs .number) 0) (firstOf rest) (refusalFrom plan c n xs .number)
+unfolding rowsFrom refusalFrom
+rows-number plan c n [] rest = refl
+rows-number plan c n (x ∷ xs) rest =
+    let next = contextAfter plan c (x .order) in
+    let number = orderNumber c (x .order) (length (x .lent)) in
+    ap firstOf (append-assoc (orderRows c x) (rowsFrom plan next xs) rest)
+    ∙ first-order c x (rowsFrom plan next xs ++ rest)
+    ∙ ahead-of-all number n (firstOf (rowsFrom plan next xs ++ rest)) (firstOf rest) (refusalFrom plan next (n + 1) xs) (eqb number 0) refl
+    (rows-number plan next (n + 1) xs rest)
+
+-- The first refusal, by its order.
+record Named (plan : Plan) (c : Context) (n : ℕ) (xs : List Ordered) (refusal : Composed) : Type 0 where
+  k : ℕ
+  order : refusal .order ≡ n + k
+  ahead : firstOf (rowsFrom plan c (take k xs)) ≡ 0
+  this : firstOf (rowsFrom plan c (take (k + 1) xs)) ≡ refusal .number
+
+module _ (plan : Plan) (c : Context) (n : ℕ) (x : Ordered) (xs : List Ordered) where
+  abbrev next : Context
+  next = contextAfter plan c (x .order)
+
+  abbrev number : ℕ
+  number = orderNumber c (x .order) (length (x .lent))
+
+  named-here : eqb number 0 ≡ false → Named plan c n (x ∷ xs) (composed number n 0)
+  unfolding rowsFrom
+  named-here e = record {
+    k = 0;
+    order = sym (add-zero n);
+    ahead = refl;
+    this = first-order c x [] ∙ rw e;
+  }
+
+  named-later : eqb number 0 ≡ true → (refusal : Composed) → Named plan next (n + 1) xs refusal → Named plan c n (x ∷ xs) refusal
+  unfolding rowsFrom
+  named-later e refusal later =
+      let one-on : suc (later .k) + 1 ≡ suc (later .k + 1) = omega arith in
+      record {
+        k = suc (later .k);
+        order = omega (arith, later .order);
+        ahead = first-order c x (rowsFrom plan next (take (later .k) xs)) ∙ rw e (later .ahead);
+        this = ap (λ (m : ℕ). firstOf (rowsFrom plan c (take m (x ∷ xs)))) one-on
+            ∙ first-order c x (rowsFrom plan next (take (later .k + 1) xs)) ∙ rw e (later .this);
+      }
+
+  named-by : (none : Bool) → eqb number 0 ≡ none
+      → ((refusalFrom plan next (n + 1) xs .number ≡ 0 → ⊥) → Named plan next (n + 1) xs (refusalFrom plan next (n + 1) xs))
+      → (cond none (refusalFrom plan next (n + 1) xs) (composed number n 0) .number ≡ 0 → ⊥)
+      → Named plan c n (x ∷ xs) (cond none (refusalFrom plan next (n + 1) xs) (composed number n 0))
+  named-by true e later some = named-later e (refusalFrom plan next (n + 1) xs) (later some)
+  named-by false e later some = named-here e
+
+named : (plan : Plan) (c : Context) (n : ℕ) (xs : List Ordered) → (refusalFrom plan c n xs .number ≡ 0 → ⊥) → Named plan c n xs (refusalFrom plan c n xs)
+unfolding refusalFrom
+named plan c n [] some = absurd (some refl)
+named plan c n (x ∷ xs) some =
+    named-by plan c n x xs (eqb (orderNumber c (x .order) (length (x .lent))) 0) refl
+    (named plan (contextAfter plan c (x .order)) (n + 1) xs) some
+
+-- Every command has bits.
+command-some : (x : Ordered) → 0 < length (commandBits x)
+unfolding commandBits
+command-some x =
+    choice (λ (bits : List ℕ). 0 < length bits) (isLv1Kind (x .order .kind)) (λ _. omega arith)
+    (λ _. choice (λ (bits : List ℕ). 0 < length bits) (isSlowKind (x .order .kind)) (λ _. omega arith) (λ _. omega arith))
+
+stream-some : (before : List Ordered) (x : Ordered) → 0 < length (streamOf (before ++ (x ∷ [])))
+unfolding streamOf
+stream-some [] x =
+    omega (arith, length-append (orderBits x) [], length-append (zeros (x .order .zeros)) (commandBits x), command-some x)
+stream-some (y ∷ before) x = omega (arith, length-append (orderBits y) (streamOf (before ++ (x ∷ []))), stream-some before x)
+
+-- A refusal has no bits.
+no-bits : (plan : Plan) (c : Context) (n : ℕ) (xs : List Ordered) → refusalFrom plan c n xs .bits ≡ 0
+unfolding refusalFrom
+no-bits plan c n [] = refl
+no-bits plan c n (x ∷ xs) =
+    choice (λ (r : Composed). r .bits ≡ 0) (eqb (orderNumber c (x .order) (length (x .lent))) 0)
+    (λ _. no-bits plan (contextAfter plan c (x .order)) (n + 1) xs) (λ _. refl)
+
+module _ (plan : Plan) (xs : List Ordered) (output : List ℕ) where
+  abbrev refusal : Composed
+  refusal = refusalFrom plan start 0 xs
+
+  abbrev room : Bool
+  room = roomFits (length (streamOf xs)) (length output)
+
+  abbrev tooLong : Bool
+  tooLong = ltb clockLimit (length (streamOf xs)) || ltb (8 * length output) (length (streamOf xs))
+
+  long-row : tooLong ≡ not room
+  long-row =
+      (λ i. sym (not-leb (length (streamOf xs)) clockLimit) i || sym (not-leb (length (streamOf xs)) (8 * length output)) i)
+      ∙ sym (not-and (leb (length (streamOf xs)) clockLimit) (leb (length (streamOf xs)) (8 * length output)))
+
+  -- The answer and the output, by the plan, the first refusal and the room.
+  abbrev byTests : Bool → Bool → Bool → ComposeResult
+  byTests fits none enough =
+      cond (not fits) (composeResult (composed 1 0 0) output)
+      (cond none
+      (cond enough (composeResult (composed 0 0 (length (streamOf xs))) (sets output 0 (packed (streamOf xs)))) (composeResult (composed 11 0 0) output))
+      (composeResult refusal output))
+
+  result-by : composeOf plan xs output ≡ byTests (planFits plan) (eqb (refusal .number) 0) room
+  unfolding composeOf
+  result-by = refl
+
+  abbrev numberBy : Bool → Bool → Bool → ℕ
+  numberBy fits none enough = cond (not fits) 1 (cond none (cond (not enough) 11 0) (refusal .number))
+
+  number-by : (fits none enough : Bool) → byTests fits none enough .answer .number ≡ numberBy fits none enough
+  number-by false none enough = refl
+  number-by true false enough = refl
+  number-by true true true = refl
+  number-by true true false = refl
+
+  rows-by : firstOf (composingRows plan xs (length output)) ≡ numberBy (planFits plan) (eqb (refusal .number) 0) room
+  rows-by =
+      (λ i. cond (not (sym (plan-row plan) i)) 1 (rows-number plan start 0 xs (row 11 tooLong ∷ []) i))
+      ∙ ap (λ (l : Bool). cond (not (planFits plan)) 1 (cond (eqb (refusal .number) 0) (cond l 11 0) (refusal .number))) long-row
+
+  unchanged-by : (fits none enough : Bool) → (byTests fits none enough .answer .number ≡ 0 → ⊥)
+      → (byTests fits none enough .output ≡ output) × (byTests fits none enough .answer .bits ≡ 0)
+  unchanged-by false none enough some = (refl, refl)
+  unchanged-by true false enough some = (refl, no-bits plan start 0 xs)
+  unchanged-by true true true some = absurd (some refl)
+  unchanged-by true true false some = (refl, refl)
+
+  -- the order that it names
+  names-first : (refusal .number ≡ 0 → ⊥) → NamesFirst plan xs refusal
+  names-first some =
+      let n = named plan start 0 xs some in
+      let same : n .k ≡ refusal .order = sym (n .order ∙ zero-add (n .k)) in
+      record {
+        ahead = ap (λ (k : ℕ). firstOf (rowsFrom plan start (take k xs))) (sym same) ∙ n .ahead;
+        this = ap (λ (k : ℕ). firstOf (rowsFrom plan start (take (k + 1) xs))) (sym same) ∙ n .this;
+      }
+
+  abbrev ofOrder : ℕ → Bool
+  ofOrder number = eqb number 9 || eqb number 10
+
+  first-by : (fits none enough : Bool) → eqb (refusal .number) 0 ≡ none → ofOrder (byTests fits none enough .answer .number) ≡ true
+      → NamesFirst plan xs (byTests fits none enough .answer)
+  first-by false none enough e h = clash h refl
+  first-by true false enough e h = names-first (eqb-false (refusal .number) 0 e)
+  first-by true true true e h = clash h refl
+  first-by true true false e h = clash h refl
+
+  pub composes : Composes plan xs output
+  composes =
+      let fits = planFits plan in
+      let none = eqb (refusal .number) 0 in
+      record {
+        number = ap (λ (r : ComposeResult). r .answer .number) result-by ∙ number-by fits none room ∙ sym rows-by;
+        unchanged = subst (λ (r : ComposeResult). (r .answer .number ≡ 0 → ⊥) → (r .output ≡ output) × (r .answer .bits ≡ 0)) (sym result-by)
+            (unchanged-by fits none room);
+        named = subst (λ (r : ComposeResult). ofOrder (r .answer .number) ≡ true → NamesFirst plan xs (r .answer)) (sym result-by)
+            (first-by fits none room refl);
+      }
+
+  enough-by : (fits none enough : Bool) → eqb (refusal .number) 0 ≡ none → byTests fits none enough .answer .number ≡ 0 → enough ≡ true
+  enough-by false none enough e h = absurd (omega (arith, h))
+  enough-by true false enough e h = absurd (eqb-false (refusal .number) 0 e h)
+  enough-by true true true e h = refl
+  enough-by true true false e h = absurd (omega (arith, h))
+
+  -- A call that is not refused.
+  module _ (accepts : Accepts plan xs output) where
+    written : ComposedBytes plan xs output
+    written = bytes plan xs output accepts
+
+    pub writes : Writes plan xs output
+    writes = record {
+      stream = ap (bitsOf (composeOf plan xs output .output) 0) (written .count) ∙ written .holds .read;
+      count = written .count;
+      clock = written .clock;
+      holds = written .holds;
+    }
+
+    pub reads-back : ReadsBack plan xs output
+    reads-back store tray ps took =
+        let r = calls-round-trip plan store tray xs ps (written .fit) (took ∙ writes .stream) in
+        record { records = r .records; written = r .words; shows = r .shows }
+
+    pub frame-back : FrameBack plan xs output
+    frame-back before x after parts carries store tray ps took =
+        let some : 0 < length (carriedBits (opened plan store tray) ps) = omega (arith, ap length took, stream-some before x) in
+        calls-frame-round-trip plan store tray before x after ps (subst (Fit plan) parts (written .fit)) carries
+        (tray-fits ps (opened plan store tray) some) took
+
+    pub met : Taken plan xs output
+    met = record {
+      calls = callsFor (streamOf xs);
+      took = calls-take (streamOf xs) (openedAt plan 0) (stream-binary xs) (opened-sound plan 0 (written .fit .plan-fits) (omega arith))
+          (omega (arith, written .clock))
+          ∙ sym (writes .stream);
+    }
+
+    pub accepted-back : AcceptedBack plan xs output
+    unfolding acceptOf
+    accepted-back only short =
+        let enough = enough-by (planFits plan) (eqb (refusal .number) 0) room refl (sym (ap (λ (r : ComposeResult). r .answer .number) result-by) ∙ accepts) in
+        let fits = leb-true (length (streamOf xs)) (8 * length output)
+        (both (leb (length (streamOf xs)) clockLimit) (leb (length (streamOf xs)) (8 * length output)) enough .1) in
+        let long = written .holds .long in
+        let after = composeOf plan xs output .output in
+        let count = composeOf plan xs output .answer .bits in
+        let range : rangeFits (length after) 0 count ≡ true =
+        simp (le-leb (length after) inputLimit (omega (arith, long, short)), le-leb (0 + count) (8 * length after) (omega (arith, long, fits, written .count))) in
+        rw range (ap verdictOf (writes .stream) ∙ composed-accepted plan xs (written .fit) only)
+
+pub sixth-promise : SixthPromise
+sixth-promise = record {
+  composes = composes;
+  writes = writes;
+  reads-back = reads-back;
+  frame-back = frame-back;
+  met = met;
+  accepted-back = accepted-back;
+  in-numbers = compose-examples;
+}

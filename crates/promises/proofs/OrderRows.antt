@@ -19,7 +19,7 @@ use Rattle.orders.specs.Composing.{zerosFit, orderNumber}
 use Rattle.orders.proofs.FitOrders.{unknown-above}
 use Rattle.round_trip.proofs.KnownKinds.{EachKind, known-case}
 use Rattle.promises.specs.Refusals.{firstOf}
-use Rattle.promises.specs.Composing.{orderKinds, wrongField, orderRows}
+use Rattle.promises.specs.Composing.{orderKinds, wrongField, isWrong, hasFewZeros, orderRows}
 use Rattle.promises.proofs.Refusals.{not-leb, not-and}
 
 -- The kinds, as a list and by their halves.
@@ -97,7 +97,7 @@ module _ (cnt zeros address value frame bits bytes : ℕ) where
 
 -- Two rows, by whether the fields fit.
 two-rows : (known fields : Bool) (zeros asked : ℕ)
-    → cond (not known || not fields) 9 (cond (ltb zeros asked) 10 0) ≡ cond (known && fields) (cond (leb asked zeros) 0 10) 9
+    → _≡_ {A = ℕ} (cond (not known || not fields) 9 (cond (ltb zeros asked) 10 0)) (cond (known && fields) (cond (leb asked zeros) 0 10) 9)
 two-rows true true zeros asked =
     ⊎-elim (λ (t : leb asked zeros ≡ true). rw (t, le-ltb zeros asked (leb-true asked zeros t)))
     (λ (f : leb asked zeros ≡ false). rw (f, lt-ltb zeros asked (leb-false asked zeros f))) (cases (leb asked zeros))
@@ -119,9 +119,9 @@ module _ (c : Context) (x : Ordered) where
   wrong false e = refl
 
   pub order-rows : firstOf (orderRows c x) ≡ orderNumber c o (length (x .lent))
-  unfolding orderFits
+  unfolding orderFits isWrong hasFewZeros
   order-rows =
       let asked = zerosAsked (c .last) (o .kind) in
-      ap (λ k. cond (not k || wrongField (c .cnt) o (length (x .lent))) 9 (cond (ltb (o .zeros) asked) 10 0)) (sym (same-kinds (o .kind)))
-      ∙ ap (λ w. cond w 9 (cond (ltb (o .zeros) asked) 10 0)) (wrong (isKnown (o .kind)) refl)
+      ap (λ (k : Bool). cond {A = ℕ} (not k || wrongField (c .cnt) o (length (x .lent))) 9 (cond (ltb (o .zeros) asked) 10 0)) (sym (same-kinds (o .kind)))
+      ∙ ap (λ (w : Bool). cond {A = ℕ} w 9 (cond (ltb (o .zeros) asked) 10 0)) (wrong (isKnown (o .kind)) refl)
       ∙ two-rows (isKnown (o .kind)) fields (o .zeros) asked

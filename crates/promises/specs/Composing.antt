@@ -48,12 +48,15 @@ wrongField cnt o bytes =
     || ((eqb (o .kind) 0x26 && not (eqb (o .bits) (cnt % 8192 * 8)))
     || (amongKinds (o .kind) (0x24 ∷ 0x25 ∷ 0x26 ∷ []) && ltb (8 * bytes) (o .bits)))))))
 
--- The rows of one order: "9 for an unknown command or a used field of the wrong size, 10 for too few zeros".
+-- "9 for an unknown command or a used field of the wrong size, 10 for too few zeros".
+unfoldable pub isWrong : Context → Ordered → Bool
+isWrong c x = not (amongKinds (x .order .kind) orderKinds) || wrongField (c .cnt) (x .order) (length (x .lent))
+
+unfoldable pub hasFewZeros : Context → Ordered → Bool
+hasFewZeros c x = ltb (x .order .zeros) (zerosAsked (c .last) (x .order .kind))
+
 abbrev pub orderRows : Context → Ordered → List Row
-orderRows c x =
-    row 9 (not (amongKinds (x .order .kind) orderKinds) || wrongField (c .cnt) (x .order) (length (x .lent)))
-    ∷ row 10 (ltb (x .order .zeros) (zerosAsked (c .last) (x .order .kind)))
-    ∷ []
+orderRows c x = row 9 (isWrong c x) ∷ row 10 (hasFewZeros c x) ∷ []
 
 -- "then, order by order".
 unfoldable pub rowsFrom : Plan → Context → List Ordered → List Row

@@ -70,12 +70,14 @@ put-order-requires : tie.Need-put-order-requires
 put-order-requires c κs =
     let k = (c .before .before) in
     let e = unrefused k in
-    let s = start e in
-    (s .pre .fits, fit e,
+    let s = start e in (
+      s .pre .fits,
+      fit e,
       room-for (s .args .self) _ (s .pre) (s .args .lines) (s .args .order) (s .args .lent .now) _ (e .before .before .of-order .ensures) (e .if1 .left) _ _ _
-      (c .before .before .before .before .before .before .before .before .before .command-width .ensures) (c .before .before .before .before .before .before .before .before .add-bits .ensures) (c .before .before .before .before .before .before .before .add-bits2 .ensures) _
-      (c .before .before .before .before .before .after .ensures ∙ ap (λ (p : Plan). contextAfter p (s .args .self .context) (s .args .order)) (c .before .before .before .before .before .before .default-plan .ensures))
-      _ (c .before .before .before .empty .ensures) (sym (k .room-fits .ensures) ∙ c .before .if2 .taken))
+          (c .before .before .before .before .before .before .before .before .before .command-width .ensures) (c .before .before .before .before .before .before .before .before .add-bits .ensures) (c .before .before .before .before .before .before .before .add-bits2 .ensures) _
+          (c .before .before .before .before .before .after .ensures ∙ ap (λ (p : Plan). contextAfter p (s .args .self .context) (s .args .order)) (c .before .before .before .before .before .before .default-plan .ensures))
+          _ (c .before .before .before .empty .ensures) (sym (k .room-fits .ensures) ∙ c .before .if2 .taken),
+    )
 
 returns-2 : tie.Need-returns-2
 returns-2 c =

@@ -1,0 +1,110 @@
+// A run of `compose` over an input: the loop that reads and has the characters composed, and what it prints and says in the end.
+ghost use mathlib.Core.Path.{_≡_};
+ghost use Prim.Native.Nat.{_+_, _≤_, min};
+ghost use lib.ListN.{length};
+ghost use Rattle.output.specs.Block.{blockLength};
+ghost use Rattle.runs.specs.Status.{IsStatus};
+ghost use Rattle.runs.specs.Runs.{Finished};
+ghost use Rattle.order_texts.specs.Printing.{partLimit};
+ghost use Rattle.compose_runs.specs.Runs.{ComposedRun};
+use libc::STDOUT_FILENO;
+use order_texts::Composition;
+use order_texts::Outcome;
+
+// Where a part of the stream ends that begins at a place: its text fills a block.
+fn part_end(length: usize, at: usize) -> usize
+    requires { ⌜ at ≤ length ⌝ }
+    ensures { λ r. ⌜ r ≡ min length (at + partLimit) ⌝ }
+{
+    if length - at < order_texts::PART_BYTES {
+        return length;
+    }
+    at + order_texts::PART_BYTES
+}
+
+// Writes the hexadecimal lines of the stream, part by part, and tells whether it could.
+fn write_stream(bytes: &[u8], text: &mut [u8]) -> bool
+    requires { ⌜ length (now text) ≡ blockLength ⌝ }
+{
+    let mut at: usize = 0;
+    while at < bytes.len() {
+        let end = part_end(bytes.len(), at);
+        let n = order_texts::put_stream(&bytes[at..end], text);
+        if !posix::write_whole(STDOUT_FILENO, &text[..n]) {
+            return false;
+        }
+        at = end;
+    }
+    true
+}
+
+// Writes what the outcome prints: the stream, or the line of a refusal.
+fn write_outcome(outcome: Outcome, stream: &[u8], text: &mut [u8]) -> bool
+    requires { ⌜ (outcome .bytes ≤ length (now stream)) × (length (now text) ≡ blockLength) ⌝ }
+{
+    let refusal = outcome.refusal;
+    if refusal.number == 0 {
+        let bytes = outcome.bytes;
+        return write_stream(&stream[..bytes], text);
+    }
+    let n = refusal.put_line(text);
+    posix::write_whole(STDOUT_FILENO, &text[..n])
+}
+
+// The end of a run: the stream or the line of a refusal, its message, the status.
+fn finish(name: &[u8], source: &[u8], outcome: Outcome, stream: &[u8], text: &mut [u8]) -> u8
+    requires { ⌜ (outcome .bytes ≤ length (now stream)) × (length (now text) ≡ blockLength) ⌝ }
+    ensures { λ r. ⌜ Finished (outcome .refusal .number) r ⌝ }
+{
+    if !write_outcome(outcome, stream, text) {
+        posix::fail_output(name);
+        return runs::FAILED;
+    }
+    if !posix::close_output() {
+        posix::fail_output(name);
+        return runs::FAILED;
+    }
+    let refusal = outcome.refusal;
+    if refusal.number == 0 {
+        return runs::WHOLE;
+    }
+    let message = refusal.put_message(text);
+    posix::tell(name, source, &text[..message]);
+    runs::REFUSED
+}
+
+// A run over an input that is open, up to its end or to a refusal. The lent buffers are here.
+fn compose(name: &[u8], source: &[u8], fd: i32) -> u8
+    ensures { λ r. ⌜ ComposedRun r ⌝ }
+{
+    let mut input = io::large_buffer();
+    let mut line = [0u8; order_lines::LINE_LIMIT];
+    let mut frame = [0u8; order_lines::FRAME_LIMIT];
+    let mut out = [0u8; order_texts::OUTPUT_LIMIT];
+    let mut state = Composition::start();
+    let mut ended = false;
+    let mut turns = posix::TURNS;
+    while (0 < turns) & !(state.is_over() | ended) {
+        turns -= 1;
+        let got = posix::read_input(fd, &mut input);
+        if got.failed {
+            posix::fail(name, source);
+            return runs::FAILED;
+        }
+        let count = got.count;
+        state = state.compose_block(&input[..count], &mut line, &mut frame, &mut out);
+        ended = count == 0;
+    }
+    if !(state.is_over() | ended) {
+        return runs::FAILED;
+    }
+    let last = state.end_input(&line, &mut frame, &mut out);
+    let outcome = last.outcome(&mut out);
+    finish(name, source, outcome, &out, &mut input)
+}
+
+pub fn compose_input(name: &[u8], source: &[u8], fd: i32) -> u8
+    ensures { λ r. ⌜ IsStatus r ⌝ }
+{
+    compose(name, source, fd)
+}
