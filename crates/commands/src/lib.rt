@@ -1,4 +1,4 @@
-// The programs `station`, `reading`, `model` and `accept` by their words.
+// The programs `station`, `reading`, `model`, `accept` and `compose` by their words.
 ghost use mathlib.Core.Path.{_≡_};
 ghost use Rattle.runs.specs.Status.{IsStatus};
 use libc::STDERR_FILENO;
@@ -6,10 +6,12 @@ use libc::STDIN_FILENO;
 use libc::STDOUT_FILENO;
 use program::PrintOptions;
 
-// What a program does with its input: lists it, with what is printed beside the records, or tells whether its stream is accepted.
+// What a program does with its input: lists it, with what is printed beside the records, tells whether its stream is accepted, or composes a stream from its
+// orders.
 enum Task {
     List { prints: PrintOptions },
     Accept,
+    Compose,
 }
 
 fn run_input(name: &[u8], source: &[u8], fd: i32, task: Task) -> u8
@@ -18,6 +20,7 @@ fn run_input(name: &[u8], source: &[u8], fd: i32, task: Task) -> u8
     match task {
         Task::List { prints } => runs::list_input(name, source, fd, prints),
         Task::Accept => judge_runs::judge_input(name, source, fd),
+        Task::Compose => compose_runs::compose_input(name, source, fd),
     }
 }
 
@@ -53,14 +56,14 @@ fn printed(name: &[u8], whole: bool) -> u8
     runs::WHOLE
 }
 
-// `prints` and `told` are what the program prints, and the exit status of an input that was read.
-fn help(name: &[u8], prints: &[u8], told: &[u8]) -> u8
+// `takes`, `prints` and `told` are what the program reads, what it prints, and the exit status of an input that was read.
+fn help(name: &[u8], takes: &[u8], prints: &[u8], told: &[u8]) -> u8
     ensures { λ r. ⌜ IsStatus r ⌝ }
 {
     let usage = print(print(print(true, b"usage: "), name), b" [FILE]\n");
     let input = print(
-        usage,
-        b"Hexadecimal lines from FILE, or from standard input if there is none or it is -; ",
+        print(usage, takes),
+        b" from FILE, or from standard input if there is none or it is -; ",
     );
     let output = print(print(input, prints), b" to standard output.\n");
     let status = print(
@@ -85,14 +88,14 @@ fn is_option(word: &[u8]) -> bool {
 }
 
 // The program by its one word: an input's name or an option.
-fn run_word(name: &[u8], prints: &[u8], told: &[u8], word: &[u8], task: Task) -> u8
+fn run_word(name: &[u8], takes: &[u8], prints: &[u8], told: &[u8], word: &[u8], task: Task) -> u8
     ensures { λ r. ⌜ IsStatus r ⌝ }
 {
     if check::same(word, b"-") {
         return run_input(name, b"standard input", STDIN_FILENO, task);
     }
     if check::same(word, b"--help") {
-        return help(name, prints, told);
+        return help(name, takes, prints, told);
     }
     if check::same(word, b"--version") {
         return version(name);
@@ -112,7 +115,7 @@ fn run_word(name: &[u8], prints: &[u8], told: &[u8], word: &[u8], task: Task) ->
 const LONGEST_WORD: usize = libc::PATH_MAX - 1;
 
 // The program by its words.
-fn run(name: &[u8], prints: &[u8], told: &[u8], task: Task) -> u8
+fn run(name: &[u8], takes: &[u8], prints: &[u8], told: &[u8], task: Task) -> u8
     ensures { λ r. ⌜ IsStatus r ⌝ }
 {
     let words = os::arg_count();
@@ -128,7 +131,7 @@ fn run(name: &[u8], prints: &[u8], told: &[u8], task: Task) -> u8
         posix::fail(name, b"argument");
         return runs::FAILED;
     }
-    run_word(name, prints, told, &word[..n], task)
+    run_word(name, takes, prints, told, &word[..n], task)
 }
 
 // `station`: one line per record and one per frame.
@@ -142,6 +145,7 @@ pub extern "C" fn kernelstill_run_station() -> u8
     };
     run(
         b"station",
+        b"Hexadecimal lines",
         b"a line per record and one per frame",
         b"0 the whole input, 1 a line was refused",
         Task::List { prints },
@@ -159,6 +163,7 @@ pub extern "C" fn kernelstill_run_reading() -> u8
     };
     run(
         b"reading",
+        b"Hexadecimal lines",
         b"a line per record",
         b"0 the whole input, 1 a line was refused",
         Task::List { prints },
@@ -176,6 +181,7 @@ pub extern "C" fn kernelstill_run_model() -> u8
     };
     run(
         b"model",
+        b"Hexadecimal lines",
         b"a line per record, then the state,",
         b"0 the whole input, 1 a line was refused",
         Task::List { prints },
@@ -189,8 +195,23 @@ pub extern "C" fn kernelstill_run_accept() -> u8
 {
     run(
         b"accept",
+        b"Hexadecimal lines",
         b"a line for the first pattern at fault, if there is one,",
         b"0 accepted, 1 refused",
         Task::Accept,
+    )
+}
+
+// `compose`: the stream that orders make.
+#[no_mangle]
+pub extern "C" fn kernelstill_run_compose() -> u8
+    ensures { λ r. ⌜ IsStatus r ⌝ }
+{
+    run(
+        b"compose",
+        b"Orders, one a line,",
+        b"hexadecimal lines of their stream",
+        b"0 the whole input, 1 a line was refused",
+        Task::Compose,
     )
 }

@@ -1,22 +1,21 @@
 -- A frame's word: its digits and their bytes, and the bits that it says.
 -- Assumes nothing.
 use mathlib.Core.Bool.{Bool, true, false, cond, not, _&&_, _||_}
-use mathlib.Core.List.{List, [], _∷_, _++_}
-use mathlib.Core.Path.{_≡_, _∙_, refl, sym, ap}
+use mathlib.Core.List.{List, [], _∷_}
+use mathlib.Core.Path.{_≡_, _∙_, refl, ap}
 use Prim.Native.Char.{code}
-use Prim.Native.Nat.{ℕ, zero, suc, _+_, _*_, _-_, _%_, _≤_, _<_}
+use Prim.Native.Nat.{ℕ, suc, _+_, _*_, _≤_, _<_}
 use native.Mathlib.Nat.{add-zero, zero-add}
 use native.Mathlib.Numerals.{add-one}
 use native.Mathlib.Omega.{arith}
 use lib.Dec.{ltb, leb, eqb, leb·suc-suc}
-use lib.ListN.{length, getD, set, take, drop, drop-of-length-le, length-drop, List·getD-eq-default}
-use lib.Seq.{sets, drop-cons, length-sets, sets-eq, take-at, getD-drop, drop-drop}
+use lib.ListN.{length, getD, take, drop, drop-of-length-le, length-drop}
+use lib.Seq.{drop-cons, getD-drop, drop-drop}
 use borrow.Author.Tests.{eq-eqb, ne-eqb, lt-ltb, le-ltb, le-leb, lt-leb, ltb-true, ltb-false}
 use Rattle.bits.proofs.Truth.{clash, choice, choice-under}
 use Rattle.order_lines.specs.declared.Number.{Number}
-use Rattle.order_lines.specs.declared.FrameRead.{FrameRead}
 use Rattle.order_lines.specs.Numbers.{digitOf, number, decimal}
-use Rattle.order_lines.specs.Frames.{Frame, frame, noFrame, upToColon, bitsSaid, areDigits, half, bytesOf, frameOf, FrameAs}
+use Rattle.order_lines.specs.Frames.{frame, noFrame, upToColon, bitsSaid, areDigits, half, bytesOf, frameOf}
 
 -- ---- the digits
 

@@ -1,6 +1,6 @@
 -- The words of a text, character by character: a word that has begun stands between two places of the text.
 -- Assumes nothing.
-use mathlib.Core.Bool.{Bool, true, false, cond, _&&_}
+use mathlib.Core.Bool.{Bool, true, false}
 use mathlib.Core.List.{List, [], _∷_, _++_}
 use mathlib.Core.Path.{_≡_, _∙_, refl, sym, ap}
 use Prim.Native.Char.{code}
@@ -10,7 +10,7 @@ use native.Mathlib.Numerals.{add-one}
 use native.Mathlib.Omega.{arith}
 use lib.Dec.{eqb}
 use lib.ListN.{length, getD, take, drop, length-append, length-drop, drop-of-length-le}
-use lib.Seq.{drop-cons, drop-nil, take-suc, take-all, getD-drop, length-take-le}
+use lib.Seq.{drop-cons, take-suc, take-all, getD-drop, length-take-le}
 use borrow.Author.Tests.{eq-eqb, ne-eqb, eqb-true}
 use Rattle.bits.proofs.Truth.{clash, choice, both}
 use Rattle.hexlines.specs.Lines.{isEmpty}

@@ -1,29 +1,24 @@
 -- What the loop over a block keeps, and the input's end.
 -- Assumes nothing.
-use mathlib.Core.Bool.{Bool, true, false, not, _&&_, _||_}
+use mathlib.Core.Bool.{Bool, true, false, not, _&&_}
 use mathlib.Core.List.{List, [], _∷_, _++_}
 use mathlib.Core.Logic.{⊎-elim}
 use mathlib.Core.Path.{_≡_, _∙_, refl, sym, ap}
-use Prim.Native.Nat.{ℕ, suc, _+_, _≤_, _<_}
-use native.Mathlib.Nat.{add-zero}
+use Prim.Native.Nat.{ℕ, _+_, _≤_, _<_}
 use native.Mathlib.Numerals.{add-one}
 use native.Mathlib.Omega.{arith}
 use lib.Dec.{ltb, eqb}
-use lib.ListN.{length, getD, take, drop, drop-of-length-le}
-use lib.Seq.{drop-cons, length-take-le}
-use borrow.Author.Tests.{eq-eqb, ne-eqb, eqb-true, ltb-true, ltb-false, not-true, not-false}
-use Rattle.bits.proofs.Truth.{clash, cases, both, not-other, true-holds}
-use Rattle.orders.specs.Streams.{streamOf}
+use lib.ListN.{length, getD, drop, drop-of-length-le}
+use lib.Seq.{drop-cons}
+use borrow.Author.Tests.{eq-eqb, ltb-true, ltb-false, not-true, not-false}
+use Rattle.bits.proofs.Truth.{cases, both, not-other, true-holds}
 use Rattle.output.specs.Ascii.{lineFeed}
-use Rattle.hexlines.specs.Lines.{isEmpty}
-use Rattle.order_lines.specs.Lines.{lineLimit}
 use Rattle.order_texts.specs.declared.Gathered.{Gathered}
-use Rattle.order_texts.specs.declared.Refusal.{Refusal}
 use Rattle.order_texts.specs.declared.Composition.{Composition}
-use Rattle.order_texts.specs.Refusals.{LineText, refusalIn, ordersIn}
-use Rattle.order_texts.specs.Composed.{Composed, refusedWith}
-use Rattle.order_texts.specs.Running.{emptyLine, textSoFar, textsFrom, endWith, unlessRefused, withLines, stillLines, stillComposed, compositionOf}
-use Rattle.order_texts.specs.Running.{WellFormed, Lent, Gathers, EndsLine, ComposesBlock, EndsInput}
+use Rattle.order_texts.specs.Refusals.{LineText}
+use Rattle.order_texts.specs.Composed.{refusedWith}
+use Rattle.order_texts.specs.Running.{textSoFar, textsFrom, withLines, stillLines, stillComposed}
+use Rattle.order_texts.specs.Running.{WellFormed, Lent, Gathers, EndsLine, ComposesBlock}
 
 -- Whether the run is over, as the code tests it.
 abbrev pub over : Composition → Bool

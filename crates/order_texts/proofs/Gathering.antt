@@ -2,8 +2,8 @@
 -- Assumes nothing.
 use mathlib.Core.Bool.{Bool, true, false, cond}
 use mathlib.Core.List.{List, [], _∷_, _++_}
-use mathlib.Core.Path.{_≡_, _∙_, refl, sym, ap}
-use Prim.Native.Nat.{ℕ, suc, _+_, _≤_, _<_, min}
+use mathlib.Core.Path.{_≡_, _∙_, refl, ap}
+use Prim.Native.Nat.{ℕ, _+_, _≤_, _<_, min}
 use native.Mathlib.Numerals.{add-one}
 use native.Mathlib.Omega.{arith}
 use lib.Dec.{ltb, eqb}
@@ -16,7 +16,7 @@ use Rattle.hexlines.specs.Lines.{isEmpty, linesFrom, linesOf}
 use Rattle.order_lines.specs.Lines.{lineLimit}
 use Rattle.order_texts.specs.declared.Gathered.{Gathered}
 use Rattle.order_texts.specs.Refusals.{LineText, lineText, lineTexts}
-use Rattle.order_texts.specs.Running.{textSoFar, textsFrom, Gathers}
+use Rattle.order_texts.specs.Running.{textsFrom, Gathers}
 
 module _ (g : Gathered) (buffer : List ℕ) (h : g .length ≤ lineLimit) (long : length buffer ≡ lineLimit) (c : ℕ) (n : c ≡ lineFeed → ⊥) where
   so-far : length (take (g .length) buffer) ≡ g .length

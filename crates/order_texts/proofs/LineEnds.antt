@@ -1,21 +1,20 @@
 -- The end of a line: it is too long, has a reason why it is no order, is blank, or is an order.
 -- Assumes nothing.
 use mathlib.Core.Bool.{Bool, true, false, cond}
-use mathlib.Core.List.{List, [], _∷_, _++_}
-use mathlib.Core.Path.{_≡_, _∙_, refl, sym, ap}
+use mathlib.Core.List.{List, _∷_}
+use mathlib.Core.Path.{_≡_, _∙_, refl, sym}
 use Prim.Native.Nat.{ℕ}
 use native.Mathlib.Omega.{arith}
 use lib.Dec.{eqb}
-use lib.ListN.{length, take}
 use borrow.Author.Tests.{eq-eqb, ne-eqb}
 use Rattle.orders.specs.Streams.{streamOf}
 use Rattle.order_lines.specs.Lines.{LineMeaning, lineMeaning}
 use Rattle.order_texts.specs.declared.Refusal.{Refusal}
 use Rattle.order_texts.specs.declared.Composition.{Composition}
-use Rattle.order_texts.specs.Refusals.{refusal, noRefusal, longLine, LineText, nextLineNumber, meaningContext, meaningOrders, ordered}
-use Rattle.order_texts.specs.Refusals.{orderRefusal, meaningRefusal, lineRefusal, refusalIn, ordersIn}
+use Rattle.order_texts.specs.Refusals.{refusal, noRefusal, longLine, LineText, nextLineNumber, meaningContext, meaningOrders}
+use Rattle.order_texts.specs.Refusals.{meaningRefusal, lineRefusal, refusalIn, ordersIn}
 use Rattle.order_texts.specs.Composed.{Composed, refusedWith}
-use Rattle.order_texts.specs.Running.{emptyLine, passedWith, textSoFar, endWith, unlessRefused, withLines, stillLines, orderAnd, WellFormed, AddsOrder, EndsLine}
+use Rattle.order_texts.specs.Running.{passedWith, textSoFar, endWith, unlessRefused, withLines, stillLines, orderAnd, WellFormed, AddsOrder, EndsLine}
 
 -- A refusal ahead of others.
 pub refused-ahead : (r : Refusal) (c : Composed) → (r .number ≡ 0 → ⊥) → unlessRefused r c ≡ refusedWith r

@@ -1,23 +1,20 @@
 -- An order on a line: it is refused, its bits are written, or there is no room for them.
 -- Assumes nothing.
-use mathlib.Core.Bool.{Bool, true, false, cond}
-use mathlib.Core.List.{List, [], _∷_, _++_}
-use mathlib.Core.Path.{_≡_, _∙_, refl, sym, ap}
-use Prim.Native.Nat.{ℕ, _+_, _*_, _≤_, _<_}
-use native.Mathlib.Nat.{add-assoc, add-zero}
+use mathlib.Core.Bool.{Bool, true, false}
+use mathlib.Core.List.{List, _++_}
+use mathlib.Core.Path.{_≡_, _∙_, refl, sym}
+use Prim.Native.Nat.{ℕ, _+_}
 use native.Mathlib.Omega.{arith}
-use lib.Dec.{leb, eqb}
 use lib.ListN.{length, length-append, length-replicate}
-use lib.Seq.{sets}
-use borrow.Author.Tests.{eq-eqb, ne-eqb, eqb-true}
-use Rattle.bits.proofs.Truth.{choice, clash}
+use borrow.Author.Tests.{eq-eqb, ne-eqb}
+use Rattle.bits.proofs.Truth.{clash}
 use Rattle.registers.specs.Plan.{defaultPlan}
 use Rattle.timing.specs.Table.{zerosAsked}
 use Rattle.orders.specs.declared.Order.{Order}
 use Rattle.orders.specs.declared.Context.{Context}
 use Rattle.orders.specs.Fields.{Ordered, orderFits, frameCount}
-use Rattle.orders.specs.Streams.{zeros, commandBits, orderBits, streamOf, packedFrom}
-use Rattle.orders.specs.Composing.{contextAfter, zerosFit, orderNumber, roomFits}
+use Rattle.orders.specs.Streams.{zeros, commandBits, orderBits, streamOf}
+use Rattle.orders.specs.Composing.{contextAfter, orderNumber, roomFits}
 use Rattle.stream_writer.specs.declared.Writer.{Writer}
 use Rattle.stream_writer.specs.Writer.{placeOf, Wrote}
 use Rattle.composing.specs.Checked.{WidthOf, Room, capped}
@@ -25,7 +22,7 @@ use Rattle.order_texts.specs.declared.Gathered.{Gathered}
 use Rattle.order_texts.specs.declared.Refusal.{Refusal}
 use Rattle.order_texts.specs.declared.Composition.{Composition}
 use Rattle.order_texts.specs.Refusals.{refusal, noRefusal, otherBits, fewZeros, LineText, ordered, orderRefusal, refusalIn, ordersIn}
-use Rattle.order_texts.specs.Composed.{outputLimit, Composed, tooLong}
+use Rattle.order_texts.specs.Composed.{outputLimit}
 use Rattle.order_texts.specs.Running.{emptyLine, passedWith, endOf, endWith, unlessRefused, withLines, stillLines, orderAnd, WellFormed, AddsOrder}
 use Rattle.order_texts.proofs.Rooms.{has-room, gives-room, no-room, beyond, capped-least, capped-whole}
 

@@ -1,18 +1,17 @@
 -- The output's room, and counts of bits that are cut off beyond the clock's.
 -- Assumes nothing.
-use mathlib.Core.Bool.{Bool, true, false, cond, _&&_}
-use mathlib.Core.List.{List, [], _∷_, _++_}
-use mathlib.Core.Path.{_≡_, _∙_, refl, sym, ap}
-use Prim.Native.Nat.{ℕ, _+_, _*_, _/_, _≤_, _<_}
+use mathlib.Core.Bool.{Bool, true, false}
+use mathlib.Core.List.{List}
+use mathlib.Core.Path.{_≡_, refl}
+use Prim.Native.Nat.{ℕ, _+_, _*_, _≤_, _<_}
 use native.Mathlib.Omega.{arith}
 use lib.Dec.{leb}
-use lib.ListN.{length}
-use borrow.Author.Tests.{le-leb, lt-leb, leb-true, leb-false}
+use borrow.Author.Tests.{le-leb, leb-true, leb-false}
 use Rattle.limits.specs.Limits.{clockLimit}
-use Rattle.bits.proofs.Truth.{both, clash, cases, choice}
+use Rattle.bits.proofs.Truth.{both, clash, choice}
 use Rattle.orders.specs.Composing.{roomFits}
 use Rattle.composing.specs.Checked.{capped}
-use Rattle.order_texts.specs.Composed.{outputLimit, Composed, tooLong}
+use Rattle.order_texts.specs.Composed.{outputLimit, tooLong}
 use Rattle.order_texts.specs.Running.{endOf}
 
 pub has-room : (n : ℕ) → roomFits n outputLimit ≡ true → n ≤ 8388608

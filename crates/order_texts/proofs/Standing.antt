@@ -3,7 +3,7 @@
 use mathlib.Core.Bool.{Bool, true, false, cond}
 use mathlib.Core.List.{List, [], _∷_, _++_, append-assoc, append-nil}
 use mathlib.Core.Path.{_≡_, _∙_, refl, sym, ap, subst}
-use Prim.Native.Nat.{ℕ, _+_, _*_, _/_, _^_, _≤_, _<_}
+use Prim.Native.Nat.{ℕ, _+_, _/_, _≤_}
 use native.Mathlib.Nat.{zero-add}
 use native.Mathlib.Omega.{arith}
 use lib.ListN.{length, take, drop}
@@ -11,15 +11,12 @@ use lib.Seq.{sets, sets-eq, take-at}
 use Rattle.orders.specs.Streams.{streamOf, packed}
 use Rattle.orders.specs.Composing.{roomFits}
 use Rattle.orders.proofs.Packing.{packed-length}
-use Rattle.stream_writer.specs.Writer as writer
-use Rattle.stream_writer.specs.Writer.{Fits}
 use Rattle.hexlines.specs.Lines.{linesOf}
 use Rattle.order_texts.specs.declared.Composition.{Composition}
-use Rattle.order_texts.specs.declared.Outcome.{Outcome}
-use Rattle.order_texts.specs.Refusals.{LineText, noRefusal, lineTexts, refusalIn, ordersIn}
-use Rattle.order_texts.specs.Composed.{outputLimit, Composed, composed, tooLong, writtenOf, composedOf}
+use Rattle.order_texts.specs.Refusals.{noRefusal, lineTexts, refusalIn, ordersIn}
+use Rattle.order_texts.specs.Composed.{outputLimit, composed, tooLong, writtenOf, composedOf}
 use Rattle.order_texts.specs.Running.{start, endWith, unlessRefused, withLines, stillLines, stillComposed, compositionOf, WellFormed}
-use Rattle.order_texts.specs.Running.{ComposesBlock, EndsInput, Finishes}
+use Rattle.order_texts.specs.Running.{ComposesBlock, EndsInput}
 use Rattle.order_texts.specs.Blocks.{Run, BlocksComposed, joined, AsRead}
 use Rattle.order_texts.proofs.Rooms.{has-room}
 use Rattle.order_texts.proofs.Gathering.{texts}

@@ -1,16 +1,15 @@
 -- What the program `compose` makes of the characters of its input, at once (document 02, F-2; the text of orders is ours).
 -- Assumes nothing.
 use mathlib.Core.Bool.{cond}
-use mathlib.Core.List.{List, [], _∷_}
+use mathlib.Core.List.{List, []}
 use Prim.Native.Nat.{ℕ}
 use lib.Dec.{eqb}
 use lib.ListN.{length}
-use Rattle.orders.specs.declared.Context.{Context}
 use Rattle.orders.specs.Streams.{streamOf, packed}
 use Rattle.orders.specs.Composing.{start, roomFits}
 use Rattle.hexlines.specs.Lines.{linesOf}
 use Rattle.order_texts.specs.declared.Refusal.{Refusal}
-use Rattle.order_texts.specs.Refusals.{refusal, noRefusal, longStream, LineText, lineTexts, refusalIn, ordersIn}
+use Rattle.order_texts.specs.Refusals.{refusal, noRefusal, longStream, lineTexts, refusalIn, ordersIn}
 
 -- The most bytes of a stream that the program composes.
 abbrev pub outputLimit : ℕ

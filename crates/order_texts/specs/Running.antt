@@ -1,7 +1,7 @@
 -- A run of `compose` under way: what is still composed, and what each step keeps.
 -- Assumes nothing.
 use mathlib.Core.Path.{_≡_}
-use mathlib.Core.Bool.{Bool, true, false, cond}
+use mathlib.Core.Bool.{true, false, cond}
 use mathlib.Core.List.{List, [], _∷_, _++_}
 use Prim.Native.Nat.{ℕ, _+_, _/_, _≤_}
 use lib.Dec.{ltb, eqb}
@@ -122,3 +122,4 @@ pub record EndsInput (s : Composition) (buffer out : List ℕ) (r : Composition)
 pub record Finishes (s : Composition) (out : List ℕ) (r : Outcome) (now : List ℕ) : Type 0 where
   pub same : composed (r .refusal) (take (r .bytes) now) ≡ compositionOf s out
   pub within : r .bytes ≤ outputLimit
+  pub long : length now ≡ outputLimit

@@ -1,128 +1,109 @@
+-- `compose_runs::compose` meets its contract: from read to read the run stands for the characters that were read; the measure is the turns that are left.
+-- Assumes nothing.
+use mathlib.Core.Bool.{not, _||_}
+use mathlib.Core.Logic.{inl}
+use mathlib.Core.Path.{refl, sym}
+use Prim.Native.Nat.{_<_}
+use native.Mathlib.Omega.{arith}
+use lib.Dec.{ltb}
+use lib.ListN.{replicate}
+use lib.Seq.{length-take-le}
+use borrow.Author.Tests.{ltb-true}
+use Rattle.bits.proofs.Truth.{both}
+use Rattle.compose_runs.proofs.Statuses.{UnderWay, zeros-long, started, after-block, composed-run}
+use borrow.Author.Needs.{needs}
 use Rattle.compose_runs.proofs.compose.Statement.{statement}
 use Rattle.compose_runs.proofs.compose.Tie as tie
-use Rattle.compose_runs.proofs.compose.Reads as reads
-use Rattle.compose_runs.proofs.compose.Lts as lts
-use Rattle.compose_runs.proofs.finish.Reads as finish-reads
-use Rattle.io.proofs.large_buffer.Reads as large-buffer-reads
-use Rattle.order_texts.proofs.Composition.compose_block.Reads as compose-block-reads
-use Rattle.order_texts.proofs.Composition.end_input.Reads as end-input-reads
-use Rattle.order_texts.proofs.Composition.is_over.Reads as is-over-reads
-use Rattle.order_texts.proofs.Composition.outcome.Reads as outcome-reads
-use Rattle.order_texts.proofs.Composition.start.Reads as start-reads
-use Rattle.posix.proofs.fail.Reads as fail-reads
-use Rattle.posix.proofs.read_input.Reads as read-input-reads
 
 abbrev Inv-loop : tie.InvT-loop
-Inv-loop name source fd input₀ line₀ frame₀ out₀ state₀ ended₀ turns₀ input line frame out state ended turns =
-    ?
+Inv-loop name source fd input₀ line₀ frame₀ out₀ state₀ ended₀ turns₀ input line frame out state ended turns = UnderWay input line frame out state
 
 abbrev μ-loop : tie.MeasureT-loop
-μ-loop name source fd input₀ line₀ frame₀ out₀ state₀ ended₀ turns₀ input line frame out state ended turns =
-    ?
+μ-loop name source fd input₀ line₀ frame₀ out₀ state₀ ended₀ turns₀ input line frame out state ended turns = turns
 
--- src/lib.rt:80:21
+-- a turn is left
+some : (c : tie.Then1 Inv-loop μ-loop) → 0 < c .before .before .loop .turns
+some c = let l = c .before .before .loop in ltb-true 0 _ (both (ltb 0 (l .turns)) (not (c .before .is-over .result || l .ended)) (c .if1 .taken) .0)
+
 large-buffer-requires : tie.Need-large-buffer-requires Inv-loop μ-loop
-large-buffer-requires c κs = ?
+large-buffer-requires c κs = search needs
 
--- src/lib.rt:84:9
 start-requires : tie.Need-start-requires Inv-loop μ-loop
-start-requires c κs = ?
+start-requires c κs = search needs
 
--- src/lib.rt:87:5
 loop-holds : tie.Need-loop-holds Inv-loop μ-loop
-loop-holds c = ?
+loop-holds c = started _ (replicate 32768 0) (replicate 16384 0) (replicate 1048576 0) (sym (c .before .large-buffer .ensures)) (zeros-long 32768) (zeros-long 16384) (zeros-long 1048576) _ (c .start .ensures)
 
--- src/lib.rt:87:27
 is-over-requires : tie.Need-is-over-requires Inv-loop μ-loop
-is-over-requires c κs = ?
+is-over-requires c κs = search needs
 
--- src/lib.rt:88:9
 sub-turns : tie.Need-sub-turns Inv-loop μ-loop
-sub-turns c = ?
+sub-turns c = some c
 
--- src/lib.rt:89:41
 slice-aggregate-read-input : tie.Need-slice-aggregate-read-input Inv-loop μ-loop
-slice-aggregate-read-input c = ?
+slice-aggregate-read-input c = sym (c .before .before .before .loop .inv .block)
 
--- src/lib.rt:89:13
 read-input-requires : tie.Need-read-input-requires Inv-loop μ-loop
-read-input-requires c κs = ?
+read-input-requires c κs = search needs
 
--- src/lib.rt:91:13
 fail-requires : tie.Need-fail-requires Inv-loop μ-loop
-fail-requires c κs = ?
+fail-requires c κs = search needs
 
--- src/lib.rt:92:13
 returns : tie.Need-returns Inv-loop μ-loop
-returns c = ?
+returns c = inl refl
 
--- src/lib.rt:95:37
 array-share-prefix-input : tie.Need-array-share-prefix-input Inv-loop μ-loop
-array-share-prefix-input c = ?
+array-share-prefix-input c = omega (arith, c .before .before .read-input .ensures, c .before .input2 .given)
 
--- src/lib.rt:95:37
 slice-aggregate-compose-block : tie.Need-slice-aggregate-compose-block Inv-loop μ-loop
-slice-aggregate-compose-block c = ?
+slice-aggregate-compose-block c = sym (length-take-le _ _ (array-share-prefix-input (c .before)))
 
--- src/lib.rt:95:54
 slice-aggregate-compose-block-2 : tie.Need-slice-aggregate-compose-block-2 Inv-loop μ-loop
-slice-aggregate-compose-block-2 c = ?
+slice-aggregate-compose-block-2 c = sym (c .before .before .before .before .before .before .before .before .loop .inv .lent .line-long)
 
--- src/lib.rt:95:65
 slice-aggregate-compose-block-3 : tie.Need-slice-aggregate-compose-block-3 Inv-loop μ-loop
-slice-aggregate-compose-block-3 c = ?
+slice-aggregate-compose-block-3 c = sym (c .before .before .before .before .before .before .before .before .before .loop .inv .lent .frame-long)
 
--- src/lib.rt:95:9
 compose-block-requires : tie.Need-compose-block-requires Inv-loop μ-loop
-compose-block-requires c κs = ?
+compose-block-requires c κs = let i = c .before .before .before .before .before .before .before .before .before .before .loop .inv in (i .stands .well-formed, i .lent)
 
--- src/lib.rt:87:5
 loop-less : tie.Need-loop-less Inv-loop μ-loop
-loop-less c = ?
+loop-less c = let h = some (c .before .before .before .before .before .before .before .before .before .before .before) in omega arith
 
--- src/lib.rt:87:5
 loop-again : tie.Need-loop-again Inv-loop μ-loop
-loop-again c = ?
+loop-again c = after-block (c .before .before .before .before .before .before .before .before .before .before .before .before .before .loop .inv) (c .before .before .before .before .before .before .before .before .input2 .given) (c .before .line2 .given) (c .frame2 .given) (c .before .before .compose-block .ensures)
 
--- src/lib.rt:98:10
 is-over-requires-2 : tie.Need-is-over-requires-2 Inv-loop μ-loop
-is-over-requires-2 c κs = ?
+is-over-requires-2 c κs = search needs
 
--- src/lib.rt:99:9
 returns-2 : tie.Need-returns-2 Inv-loop μ-loop
-returns-2 c = ?
+returns-2 c = inl refl
 
--- src/lib.rt:101:32
 slice-aggregate-end-input : tie.Need-slice-aggregate-end-input Inv-loop μ-loop
-slice-aggregate-end-input c = ?
+slice-aggregate-end-input c = sym (c .before .before .before .before .before .loop .inv .lent .line-long)
 
--- src/lib.rt:101:39
 slice-aggregate-end-input-2 : tie.Need-slice-aggregate-end-input-2 Inv-loop μ-loop
-slice-aggregate-end-input-2 c = ?
+slice-aggregate-end-input-2 c = sym (c .before .before .before .before .before .before .loop .inv .lent .frame-long)
 
--- src/lib.rt:101:9
 end-input-requires : tie.Need-end-input-requires Inv-loop μ-loop
-end-input-requires c κs = ?
+end-input-requires c κs = let i = c .before .before .before .before .before .before .before .loop .inv in (i .stands .well-formed, i .lent)
 
--- src/lib.rt:102:9
 outcome-requires : tie.Need-outcome-requires Inv-loop μ-loop
-outcome-requires c κs = ?
+outcome-requires c κs = c .before .before .end-input .ensures .well-formed
 
--- src/lib.rt:103:35
 slice-aggregate-finish : tie.Need-slice-aggregate-finish Inv-loop μ-loop
-slice-aggregate-finish c = ?
+slice-aggregate-finish c = sym (c .before .outcome .ensures .long)
 
--- src/lib.rt:103:41
 slice-aggregate-finish-2 : tie.Need-slice-aggregate-finish-2 Inv-loop μ-loop
-slice-aggregate-finish-2 c = ?
+slice-aggregate-finish-2 c = sym (c .before .before .before .before .before .before .before .before .before .before .before .before .before .loop .inv .block)
 
--- src/lib.rt:103:5
 finish-requires : tie.Need-finish-requires Inv-loop μ-loop
-finish-requires c κs = ?
+finish-requires c κs =
+    let f = c .before .before .outcome .ensures in
+    (omega (arith, f .within, f .long), c .before .before .before .before .before .before .before .before .before .before .before .before .before .loop .inv .block)
 
--- src/lib.rt:77:1
 returns-3 : tie.Need-returns-3 Inv-loop μ-loop
-returns-3 c = ?
+returns-3 c = composed-run (c .before .before .before .before .before .before .before .before .before .before .before .before .before .before .before .loop .inv .stands) (c .before .before .before .before .before .before .before .end-input .ensures) (c .before .before .before .before .outcome .ensures) (c .before .finish .ensures)
 
 pub compose-spec : {M : Type 1} → statement M
 compose-spec =

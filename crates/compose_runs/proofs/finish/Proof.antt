@@ -1,77 +1,68 @@
+-- `compose_runs::finish` meets its contract: the status is that of the refusal's number, unless a write failed.
+-- Assumes nothing.
+use mathlib.Core.Logic.{inl}
+use mathlib.Core.Path.{refl, sym}
+use native.Mathlib.Omega.{arith}
+use lib.Seq.{length-take-le}
+use Rattle.output.proofs.Pieces.{put-end-within}
+use Rattle.messages.proofs.Lengths.{order-short}
+use Rattle.order_texts.specs.Printing.{messageOf}
+use Rattle.compose_runs.proofs.Statuses.{whole-status, refused-status}
 use borrow.Author.Needs.{needs}
 use Rattle.compose_runs.proofs.finish.Statement.{statement}
 use Rattle.compose_runs.proofs.finish.Tie as tie
-use Rattle.compose_runs.proofs.finish.Reads as reads
-use Rattle.compose_runs.proofs.finish.Lts as lts
-use Rattle.compose_runs.proofs.write_outcome.Reads as write-outcome-reads
-use Rattle.order_texts.proofs.Refusal.put_message.Reads as put-message-reads
-use Rattle.posix.proofs.close_output.Reads as close-output-reads
-use Rattle.posix.proofs.fail_output.Reads as fail-output-reads
-use Rattle.posix.proofs.tell.Reads as tell-reads
 
--- src/lib.rt:59:9
 write-outcome-requires : tie.Need-write-outcome-requires
 write-outcome-requires c κs = search needs
 
--- src/lib.rt:60:9
 fail-output-requires : tie.Need-fail-output-requires
 fail-output-requires c κs = search needs
 
--- src/lib.rt:61:9
 same-length : tie.Need-same-length
 same-length c = search needs
 
--- src/lib.rt:61:9
 returns : tie.Need-returns
-returns c = ?
+returns c = inl refl
 
--- src/lib.rt:63:9
 close-output-requires : tie.Need-close-output-requires
 close-output-requires c κs = search needs
 
--- src/lib.rt:64:9
 fail-output-requires-2 : tie.Need-fail-output-requires-2
 fail-output-requires-2 c κs = search needs
 
--- src/lib.rt:65:9
 same-length-2 : tie.Need-same-length-2
 same-length-2 c = search needs
 
--- src/lib.rt:65:9
 returns-2 : tie.Need-returns-2
-returns-2 c = ?
+returns-2 c = inl refl
 
--- src/lib.rt:69:9
 same-length-3 : tie.Need-same-length-3
 same-length-3 c = search needs
 
--- src/lib.rt:69:9
 returns-3 : tie.Need-returns-3
-returns-3 c = ?
+returns-3 c = whole-status _ (c .if3 .taken)
 
--- src/lib.rt:71:9
 put-message-requires : tie.Need-put-message-requires
 put-message-requires c κs = search needs
 
--- src/lib.rt:72:31
 slice-reshare-prefix-tell : tie.Need-slice-reshare-prefix-tell
-slice-reshare-prefix-tell c = ?
+slice-reshare-prefix-tell c =
+    let s = (c .before .before .before .before .before .before .before .before .before .before .before .before .before .before .before .before .before .before) in
+    let r = s .args .outcome .refusal in
+    put-end-within _ (messageOf r) _ 0 _ (c .before .before .put-message .ensures)
+    (omega (arith, order-short (r .reason) (r .line) (r .asked) (r .given), c .before .before .before .before .before .before .before .before .before .before .before .text .given, s .pre .1))
 
--- src/lib.rt:72:31
 slice-aggregate-tell : tie.Need-slice-aggregate-tell
-slice-aggregate-tell c = ?
+slice-aggregate-tell c = sym (length-take-le _ _ (slice-reshare-prefix-tell (c .before)))
 
--- src/lib.rt:72:5
 tell-requires : tie.Need-tell-requires
 tell-requires c κs = search needs
 
--- src/lib.rt:55:1
 same-length-4 : tie.Need-same-length-4
 same-length-4 c = search needs
 
--- src/lib.rt:55:1
 returns-4 : tie.Need-returns-4
-returns-4 c = ?
+returns-4 c = refused-status _ (c .before .before .before .before .before .before .if3 .left)
 
 pub finish-spec : {M : Type 1} → statement M
 finish-spec =

@@ -1,49 +1,48 @@
+-- `write_outcome` meets its contract: the line of a refusal has room in the block.
+-- Assumes nothing.
+use mathlib.Core.List.{[], _∷_}
+use mathlib.Core.Path.{refl, sym}
+use native.Mathlib.Omega.{arith}
+use lib.Seq.{length-take-le}
+use Rattle.output.specs.Ascii.{ascii}
+use Rattle.output.proofs.Pieces.{put-end-within}
+use Rattle.layout.specs.ListingLines.{refusedLine}
+use Rattle.layout.proofs.LineLengths.{line-length}
 use borrow.Author.Needs.{needs}
 use Rattle.compose_runs.proofs.write_outcome.Statement.{statement}
 use Rattle.compose_runs.proofs.write_outcome.Tie as tie
-use Rattle.compose_runs.proofs.write_outcome.Reads as reads
-use Rattle.compose_runs.proofs.write_outcome.Lts as lts
-use Rattle.compose_runs.proofs.write_stream.Reads as write-stream-reads
-use Rattle.order_texts.proofs.Refusal.put_line.Reads as put-line-reads
-use Rattle.posix.proofs.write_whole.Reads as write-whole-reads
 
--- src/lib.rt:48:29
 slice-aggregate-write-stream : tie.Need-slice-aggregate-write-stream
-slice-aggregate-write-stream c = ?
+slice-aggregate-write-stream c = sym (length-take-le _ _ (c .before .before .before .before .before .before .pre .0))
 
--- src/lib.rt:48:9
 write-stream-requires : tie.Need-write-stream-requires
 write-stream-requires c κs = search needs
 
--- src/lib.rt:48:9
 same-length : tie.Need-same-length
 same-length c = search needs
 
--- src/lib.rt:48:9
 returns : tie.Need-returns
 returns c = search needs
 
--- src/lib.rt:50:9
 put-line-requires : tie.Need-put-line-requires
 put-line-requires c κs = search needs
 
--- src/lib.rt:51:39
 slice-reshare-prefix-write-whole : tie.Need-slice-reshare-prefix-write-whole
-slice-reshare-prefix-write-whole c = ?
+slice-reshare-prefix-write-whole c =
+    let s = (c .before .before .before .before .before .before .before .before .before) in
+    let r = s .args .outcome .refusal in
+    let few = line-length (ascii "!") (r .number ∷ r .line ∷ []) (2 ∷ 8 ∷ []) refl in
+    put-end-within (s .args .text .now) (refusedLine (r .number) (r .line)) _ 0 _ (c .before .before .put-line .ensures) (omega (arith, few, s .pre .1))
 
--- src/lib.rt:51:39
 slice-aggregate-write-whole : tie.Need-slice-aggregate-write-whole
-slice-aggregate-write-whole c = ?
+slice-aggregate-write-whole c = sym (length-take-le _ _ (slice-reshare-prefix-write-whole (c .before)))
 
--- src/lib.rt:51:5
 write-whole-requires : tie.Need-write-whole-requires
 write-whole-requires c κs = search needs
 
--- src/lib.rt:42:1
 same-length-2 : tie.Need-same-length-2
 same-length-2 c = search needs
 
--- src/lib.rt:42:1
 returns-2 : tie.Need-returns-2
 returns-2 c = search needs
 

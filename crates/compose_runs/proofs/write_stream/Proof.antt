@@ -1,76 +1,75 @@
+-- `write_stream` meets its contract: each part has room in the block.
+-- Assumes nothing.
+use mathlib.Core.Path.{_≡_, _∙_, sym}
+use Prim.Native.Nat.{_-_, _≤_}
+use native.Mathlib.Omega.{arith}
+use lib.ListN.{length, take, drop, length-take}
+use lib.Seq.{length-take-le}
+use Rattle.output.specs.Block.{blockLength}
+use Rattle.output.proofs.Pieces.{put-end-within}
+use Rattle.order_texts.specs.Printing.{streamText, partLimit}
+use Rattle.order_texts.proofs.Parts.{part-short}
+use borrow.Author.Needs.{needs}
 use Rattle.compose_runs.proofs.write_stream.Statement.{statement}
 use Rattle.compose_runs.proofs.write_stream.Tie as tie
-use Rattle.compose_runs.proofs.write_stream.Reads as reads
-use Rattle.compose_runs.proofs.write_stream.Lts as lts
-use Rattle.compose_runs.proofs.part_end.Reads as part-end-reads
-use Rattle.order_texts.proofs.put_stream.Reads as put-stream-reads
-use Rattle.posix.proofs.write_whole.Reads as write-whole-reads
 
 abbrev Inv-loop : tie.InvT-loop
-Inv-loop bytes text₀ at₀ text at = ?
+Inv-loop bytes text₀ at₀ text at = (at ≤ length bytes) × (length text ≡ blockLength)
 
 abbrev μ-loop : tie.MeasureT-loop
-μ-loop bytes text₀ at₀ text at = ?
+μ-loop bytes text₀ at₀ text at = length bytes - at
 
--- src/lib.rt:30:5
 loop-holds : tie.Need-loop-holds Inv-loop μ-loop
-loop-holds c = ?
+loop-holds c = (omega arith, c .before .before .pre)
 
--- src/lib.rt:31:13
 part-end-requires : tie.Need-part-end-requires Inv-loop μ-loop
-part-end-requires c κs = ?
+part-end-requires c κs = search needs
 
--- src/lib.rt:32:41
 sub-put-stream : tie.Need-sub-put-stream Inv-loop μ-loop
-sub-put-stream c = ?
+sub-put-stream c = let e = c .part-end .ensures in omega (arith, e)
 
--- src/lib.rt:32:41
 part-put-stream-start : tie.Need-part-put-stream-start Inv-loop μ-loop
-part-put-stream-start c = ?
+part-put-stream-start c = let e = c .part-end .ensures in omega (arith, e)
 
--- src/lib.rt:32:41
 part-put-stream-end : tie.Need-part-put-stream-end Inv-loop μ-loop
-part-put-stream-end c = ?
+part-put-stream-end c = let e = c .part-end .ensures in omega (arith, e)
 
--- src/lib.rt:32:13
 put-stream-requires : tie.Need-put-stream-requires Inv-loop μ-loop
-put-stream-requires c κs = ?
+put-stream-requires c κs =
+    let l = c .before .before .before .before .loop in
+    (omega (arith, c .before .before .part-end .ensures, length-take (c .before .before .part-end .result - l .at) (drop (l .at) (c .before .before .before .before .before .before .before .args .bytes .now))), l .inv .1)
 
--- src/lib.rt:33:47
 slice-reshare-prefix-write-whole : tie.Need-slice-reshare-prefix-write-whole Inv-loop μ-loop
-slice-reshare-prefix-write-whole c = ?
+slice-reshare-prefix-write-whole c =
+    let l = c .before .before .before .before .before .before .before .loop in
+    let k = c .before .before .before .before .before .part-end in
+    let part = take (k .result - l .at) (drop (l .at) (c .before .before .before .before .before .before .before .before .before .before .args .bytes .now)) in
+    let few : length part ≤ partLimit = omega (arith, k .ensures, length-take (k .result - l .at) (drop (l .at) (c .before .before .before .before .before .before .before .before .before .before .args .bytes .now))) in
+    put-end-within (l .text) (streamText part) _ 0 _ (c .before .before .put-stream .ensures) (omega (arith, part-short part few, l .inv .1))
 
--- src/lib.rt:33:47
 slice-aggregate-write-whole : tie.Need-slice-aggregate-write-whole Inv-loop μ-loop
-slice-aggregate-write-whole c = ?
+slice-aggregate-write-whole c = sym (length-take-le _ _ (slice-reshare-prefix-write-whole (c .before)))
 
--- src/lib.rt:33:13
 write-whole-requires : tie.Need-write-whole-requires Inv-loop μ-loop
-write-whole-requires c κs = ?
+write-whole-requires c κs = search needs
 
--- src/lib.rt:34:13
 same-length : tie.Need-same-length Inv-loop μ-loop
-same-length c = ?
+same-length c = c .before .before .before .before .text .given ∙ c .before .before .before .before .before .before .before .before .before .before .loop .inv .1 ∙ sym (c .before .before .before .before .before .before .before .before .before .before .before .before .before .pre)
 
--- src/lib.rt:34:13
 returns : tie.Need-returns Inv-loop μ-loop
-returns c = ?
+returns c = search needs
 
--- src/lib.rt:30:5
 loop-less : tie.Need-loop-less Inv-loop μ-loop
-loop-less c = ?
+loop-less c = let e = c .before .before .before .before .before .before .before .before .part-end .ensures in omega (arith, e)
 
--- src/lib.rt:30:5
 loop-again : tie.Need-loop-again Inv-loop μ-loop
-loop-again c = ?
+loop-again c = (omega (arith, c .before .before .before .before .before .before .before .before .part-end .ensures), c .before .before .before .before .text .given ∙ c .before .before .before .before .before .before .before .before .before .before .loop .inv .1)
 
--- src/lib.rt:26:1
 same-length-2 : tie.Need-same-length-2 Inv-loop μ-loop
-same-length-2 c = ?
+same-length-2 c = c .before .loop .inv .1 ∙ sym (c .before .before .before .before .pre)
 
--- src/lib.rt:26:1
 returns-2 : tie.Need-returns-2 Inv-loop μ-loop
-returns-2 c = ?
+returns-2 c = search needs
 
 pub write-stream-spec : {M : Type 1} → statement M
 write-stream-spec =

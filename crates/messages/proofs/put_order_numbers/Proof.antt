@@ -1,9 +1,5 @@
 -- `put_order_numbers` meets its contract: the frame bits, or the zeros.
 -- Assumes nothing.
-use mathlib.Core.Path.{_≡_}
-use lib.ListN.{length}
-use Prim.Native.Nat.{_+_, _≤_}
-use Rattle.output.specs.Block.{putAll}
 use Rattle.messages.proofs.OrderReasons.{frame-numbers, zeros-numbers}
 use borrow.Author.Needs.{needs}
 use Rattle.messages.proofs.put_order_numbers.Statement.{statement}

@@ -1,7 +1,7 @@
 -- `are_digits` meets its contract: what is left of the word says whether all of it are digits.
 -- Assumes nothing.
 use mathlib.Core.Path.{_≡_, _∙_, refl, sym}
-use Prim.Native.Nat.{_+_, _-_, _≤_}
+use Prim.Native.Nat.{_-_, _≤_}
 use native.Mathlib.Omega.{arith}
 use lib.ListN.{length, drop}
 use Rattle.order_lines.specs.Frames.{areDigits}

@@ -1,8 +1,7 @@
 -- `bits_said` meets its contract: by the number behind a colon, or by the digits.
 -- Assumes nothing.
-use mathlib.Core.Path.{_≡_, _∙_, sym, ap}
-use mathlib.Core.List.{List}
-use Prim.Native.Nat.{ℕ, _+_}
+use mathlib.Core.Path.{_∙_, sym, ap}
+use Prim.Native.Nat.{_+_}
 use native.Mathlib.Omega.{arith}
 use Rattle.order_lines.specs.Numbers.{decimal}
 use Rattle.order_lines.proofs.Words.{part-rest}

@@ -1,14 +1,11 @@
 -- `frame_field` meets its contract.
 -- Assumes nothing.
-use mathlib.Core.Path.{_≡_, _∙_, refl, sym, ap, subst}
+use mathlib.Core.Path.{_≡_, _∙_, sym, ap}
 use mathlib.Core.Bool.{true, false}
-use mathlib.Core.List.{List, []}
-use Prim.Native.Nat.{ℕ}
 use native.Mathlib.Omega.{arith}
 use lib.ListN.{length}
 use borrow.Author.Tests.{not-true, not-false}
 use Rattle.orders.specs.Fields.{isFrameKind}
-use Rattle.order_lines.specs.Frames.{FrameAs, frameOf}
 use Rattle.order_lines.proofs.Words.{word-short}
 use borrow.Author.Needs.{needs}
 use Rattle.order_lines.proofs.frame_field.Statement.{statement}

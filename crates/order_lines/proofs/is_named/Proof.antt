@@ -1,8 +1,6 @@
 -- `is_named` meets its contract: the name by its place in the text of all of them.
 -- Assumes nothing.
-use mathlib.Core.Path.{_≡_, _∙_, sym, ap}
-use mathlib.Core.List.{List}
-use Prim.Native.Nat.{ℕ}
+use mathlib.Core.Path.{_∙_, ap}
 use Rattle.order_lines.specs.Words.{sameWord}
 use Rattle.order_lines.proofs.Words.{compared}
 use Rattle.order_lines.proofs.Names.{name-told}

@@ -1,7 +1,7 @@
 -- `kind_named` meets its contract: from each place passed, the name has the same kind among the commands.
 -- Assumes nothing.
-use mathlib.Core.Path.{_≡_, _∙_, sym}
-use Prim.Native.Nat.{ℕ, _-_}
+use mathlib.Core.Path.{_∙_, sym}
+use Prim.Native.Nat.{_-_}
 use Rattle.order_lines.proofs.Names.{NameLeft, name-first, name-found, name-next, name-none}
 use borrow.Author.Needs.{needs}
 use Rattle.order_lines.proofs.kind_named.Statement.{statement}

@@ -1,8 +1,7 @@
 -- `put_digits` meets its contract: the bytes of the digits that are left, put at the present place, give what all of them give.
 -- Assumes nothing.
 use mathlib.Core.List.{[], _∷_}
-use mathlib.Core.Path.{_≡_, _∙_, refl, sym, ap}
-use Prim.Native.Nat.{ℕ, _+_, _*_, _-_, _≤_}
+use Prim.Native.Nat.{_+_, _*_, _-_, _≤_}
 use native.Mathlib.Omega.{arith}
 use lib.ListN.{length, drop}
 use Rattle.output.proofs.Pieces.{PartlyPut, none-put, next-put, next-fits, all-put}

@@ -1,8 +1,7 @@
 -- `read_fields` meets its contract: each field as it is read.
 -- Assumes nothing.
-use mathlib.Core.Path.{_≡_, _∙_, refl, sym, ap, subst}
+use mathlib.Core.Path.{_∙_, refl, ap}
 use Prim.Native.Nat.{ℕ}
-use native.Mathlib.Omega.{arith}
 use borrow.Author.Tests.{not-true, not-false}
 use Rattle.order_lines.specs.Words.{wordsIn}
 use Rattle.order_lines.specs.Lines.{zerosField}

@@ -1,7 +1,6 @@
 -- `read_number` meets its contract: what is left of the word stands for the number of all of it.
 -- Assumes nothing.
-use mathlib.Core.Path.{_≡_, _∙_, sym, ap, subst}
-use Prim.Native.Nat.{ℕ, _+_, _-_, _≤_, _<_}
+use Prim.Native.Nat.{_-_}
 use native.Mathlib.Omega.{arith}
 use lib.ListN.{length}
 use Rattle.order_lines.proofs.Numbers.{NumberLeft, number-first, number-none, number-wrong, number-next, number-done}

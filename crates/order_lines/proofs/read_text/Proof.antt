@@ -1,11 +1,9 @@
 -- `read_text` meets its contract: a blank line, an unknown name, another count, or the fields.
 -- Assumes nothing.
-use mathlib.Core.Path.{_≡_, _∙_, refl, sym, ap, subst}
+use mathlib.Core.Path.{_∙_, sym, ap}
 use mathlib.Core.Bool.{true, false}
-use mathlib.Core.List.{List, []}
 use Prim.Native.Nat.{ℕ}
-use native.Mathlib.Omega.{arith}
-use lib.ListN.{length, getD}
+use lib.ListN.{length}
 use Rattle.order_lines.specs.Words.{wordsIn}
 use Rattle.order_lines.specs.Names.{kindNamed}
 use Rattle.order_lines.specs.Lines.{countFits}

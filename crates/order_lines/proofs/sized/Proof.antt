@@ -1,8 +1,8 @@
 -- `sized` meets its contract: below two to its width.
 -- Assumes nothing.
-use mathlib.Core.Path.{_≡_, _∙_, sym, ap}
-use mathlib.Core.Bool.{Bool, true, false, _&&_}
-use Prim.Native.Nat.{ℕ, _^_}
+use mathlib.Core.Path.{_∙_, sym, ap}
+use mathlib.Core.Bool.{_&&_}
+use Prim.Native.Nat.{ℕ}
 use lib.Dec.{ltb}
 use Rattle.order_lines.proofs.Numbers.{two-to-width, sized-kept, sized-wrong}
 use borrow.Author.Needs.{needs}

@@ -4,7 +4,6 @@ use native.Mathlib.Omega.{arith}
 use borrow.Author.Tests.{lt-ltb, le-ltb}
 use Rattle.order_lines.specs.Numbers.{numberLimit}
 use Rattle.order_lines.proofs.Numbers.{digit-room}
-use borrow.Author.Needs.{needs}
 use Rattle.order_lines.proofs.with_digit.Statement.{statement}
 use Rattle.order_lines.proofs.with_digit.Tie as tie
 

@@ -1,12 +1,10 @@
 -- `put_stream` meets its contract: the lines that are left, put at the present place, give what all of them give.
 -- Assumes nothing.
-use mathlib.Core.List.{List, _++_}
-use mathlib.Core.Path.{_≡_, _∙_, refl, sym, ap}
-use Prim.Native.Nat.{ℕ, _-_, _≤_, min}
+use mathlib.Core.Path.{ap}
+use Prim.Native.Nat.{_-_, _≤_}
 use native.Mathlib.Omega.{arith}
-use lib.ListN.{length, take, drop, drop-of-length-le}
+use lib.ListN.{length, drop, drop-of-length-le}
 use Rattle.output.proofs.Pieces.{PartlyPut, none-put, next-put-if-fits, all-put}
-use Rattle.layout.specs.ListingLines.{bytesLine}
 use Rattle.order_texts.specs.Printing.{linesFrom, streamText}
 use Rattle.order_texts.proofs.Parts.{next-line, part-short}
 use borrow.Author.Needs.{needs}

@@ -1,6 +1,6 @@
 -- `Composition::end_input` ends a line that has begun.
 -- Assumes nothing.
-use mathlib.Core.Path.{_≡_, _∙_, refl, sym, ap}
+use mathlib.Core.Path.{_∙_, sym, ap}
 use mathlib.Core.Bool.{Bool, _||_}
 use lib.Dec.{eqb}
 use Rattle.order_texts.proofs.Ends.{ends-here, ends-line}

@@ -1,10 +1,9 @@
 -- `Composition::end_line` meets its contract: the line is too long, is no order, is blank, or is an order.
 -- Assumes nothing.
-use mathlib.Core.Path.{_≡_, _∙_, refl, sym, ap}
-use mathlib.Core.List.{List}
-use Prim.Native.Nat.{ℕ, _≤_}
+use mathlib.Core.Path.{_∙_, sym, ap}
+use Prim.Native.Nat.{_≤_}
 use native.Mathlib.Omega.{arith}
-use lib.ListN.{length, take}
+use lib.ListN.{length}
 use lib.Seq.{length-take-le}
 use Rattle.order_texts.specs.Running.{passedWith}
 use Rattle.order_texts.proofs.LineEnds.{left-as, too-long, no-order, blank, an-order}

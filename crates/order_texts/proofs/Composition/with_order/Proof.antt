@@ -1,16 +1,13 @@
 -- `Composition::with_order` meets its contract: the order is refused, its bits are written, or there is no room for them.
 -- Assumes nothing.
-use mathlib.Core.Path.{_≡_, _∙_, refl, sym, ap}
-use mathlib.Core.Bool.{true, false}
-use mathlib.Core.List.{List}
-use Prim.Native.Nat.{ℕ, _<_}
+use mathlib.Core.Path.{_∙_, sym, ap}
+use Prim.Native.Nat.{_<_}
 use native.Mathlib.Omega.{arith}
 use lib.ListN.{length}
 use Rattle.registers.specs.declared.Plan.{Plan}
-use Rattle.orders.specs.Composing.{contextAfter, roomFits}
+use Rattle.orders.specs.Composing.{contextAfter}
 use Rattle.composing.specs.Checked.{SomeFit}
 use Rattle.order_texts.specs.declared.Refusal.{Refusal}
-use Rattle.order_texts.specs.Composed.{outputLimit}
 use Rattle.order_texts.proofs.Orders.{unrefused-fits, order-refused, room-for, order-written, order-beyond}
 use borrow.Author.Needs.{needs}
 use Rattle.order_texts.proofs.Composition.with_order.Statement.{statement}

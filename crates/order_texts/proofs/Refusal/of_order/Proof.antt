@@ -1,7 +1,6 @@
 -- `Refusal::of_order` meets its contract: none, another count of frame bits, or too few zeros.
 -- Assumes nothing.
-use mathlib.Core.Path.{_≡_, _∙_, sym, ap}
-use native.Mathlib.Omega.{arith}
+use mathlib.Core.Path.{_∙_}
 use Rattle.orders.proofs.FitOrders.{fitting, kind-low}
 use Rattle.order_texts.proofs.Orders.{none-refused, bits-refused, zeros-refused, not-nine-fits}
 use borrow.Author.Needs.{needs}
