@@ -1,6 +1,8 @@
 //! Generated streams, the same ones each time.
 
-use crate::generate::{self, Noise};
+use crate::generate::{self, Addresses, Noise};
+use crate::order_texts::{random_text, TextFlaw};
+use crate::orders::random_orders;
 use crate::pulses::{ending_with_a_byte, pulses, Flaw};
 use crate::spaced::spaced_hits;
 use crate::{Case, Random, Stream};
@@ -143,6 +145,25 @@ fn pulsed_case(number: u64) -> Case {
         }
     }
     Case::new(format!("pulse-streams/{number:03}"), input)
+}
+
+/// The first `count` texts of orders (document 02, F-2): fit ones, and with
+/// each flaw in turn. Each depends on its number only.
+pub fn composed(count: u64) -> Vec<Case> {
+    (0..count).map(composed_case).collect()
+}
+
+fn composed_case(number: u64) -> Case {
+    let mut random = Random::new(0xF2_5EED_0000 + number);
+    // Every third is fit.
+    let flaw = match number % 3 {
+        0 => TextFlaw::Nothing,
+        _ => TextFlaw::ALL[(number / 3 % TextFlaw::ALL.len() as u64) as usize],
+    };
+    let count = [2, 12, 80][random.below(3) as usize];
+    let orders = random_orders(&mut random, Addresses::DEFAULT, count);
+    let text = random_text(&orders, flaw, &mut random);
+    Case::new(format!("order-texts/{number:03}"), text)
 }
 
 /// Lines of random lengths, empty ones too; now and then no last line feed.

@@ -10,13 +10,15 @@ pub mod code;
 mod fixed;
 pub mod generate;
 mod generated;
+pub mod order_texts;
+pub mod orders;
 pub mod pulses;
 pub mod random;
 pub mod spaced;
 pub mod stream;
 
 pub use fixed::{fixed, RECEIVED};
-pub use generated::{crowded, generated, hits, noisy, pulsed};
+pub use generated::{composed, crowded, generated, hits, noisy, pulsed};
 pub use random::Random;
 pub use stream::Stream;
 
@@ -43,6 +45,13 @@ impl Case {
     /// A stream as hexadecimal lines, its last byte filled up with zeros.
     fn stream(name: impl Into<String>, stream: &Stream) -> Case {
         Case::new(name, stream.lines())
+    }
+
+    /// Whether it is a text of orders (document 02, F-2), not hexadecimal
+    /// lines.
+    pub fn holds_orders(&self) -> bool {
+        let folders = ["compose/", "order-texts/"];
+        folders.iter().any(|folder| self.name.starts_with(folder))
     }
 
     fn golden_if(mut self, golden: bool) -> Case {

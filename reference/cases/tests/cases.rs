@@ -1,9 +1,11 @@
 //! The cases: names, repeatability, and what they cover.
 
-use cases::generate::{late_groups, noisy_groups, without_frames, Noise};
+use cases::generate::{late_groups, noisy_groups, without_frames, Addresses, Noise};
+use cases::order_texts::{frame_word, plain_text, random_text, words, TextFlaw};
+use cases::orders::{self, at, lent, random_orders, stream_of, Order, Ordered};
 use cases::pulses::{ending_with_a_byte, pulses, Flaw, Pulses};
 use cases::spaced::{spaced_hits, Inverted, Sent, Spaced, BCR, CAL, SYNC};
-use cases::{crowded, fixed, generated, hits, noisy, pulsed, Case, Random, Stream};
+use cases::{composed, crowded, fixed, generated, hits, noisy, pulsed, Case, Random, Stream};
 use std::collections::HashSet;
 
 #[test]
@@ -16,6 +18,7 @@ fn names_serve_as_file_names() {
         crowded(40),
         hits(40),
         pulsed(40),
+        composed(40),
     ];
     for case in listed.concat() {
         let mut parts = case.name.split('/');
@@ -39,6 +42,8 @@ fn generated_cases_repeat() {
     let inputs = |count| hits(count).into_iter().map(|case| case.input);
     assert!(inputs(20).eq(inputs(40).take(20)));
     let inputs = |count| pulsed(count).into_iter().map(|case| case.input);
+    assert!(inputs(20).eq(inputs(40).take(20)));
+    let inputs = |count| composed(count).into_iter().map(|case| case.input);
     assert!(inputs(20).eq(inputs(40).take(20)));
 }
 
@@ -180,6 +185,96 @@ fn a_flaw_is_somewhere() {
     }
 }
 
+/// Orders, their stream, their words and their text.
+#[test]
+fn orders_by_hand() {
+    let frame = Stream::new().pattern("010111001").bits;
+    let commands = [
+        (0, Ordered::WrRegister(5, 0x48)),
+        (3, Ordered::FrontEnd(4, frame)),
+        (0, Ordered::Fast(1)),
+        (2, Ordered::RdFifo(15)),
+        (1, Ordered::ResetFe(9)),
+    ];
+    let orders = commands.map(|(zeros, command)| Order { zeros, command });
+    let cycles = "00000000 11111111 00000000 11111111 11111111 11111111 00000000 00000000 11111111";
+    let stream = Stream::new()
+        .pattern("10110 1011 0000 0101 0000000001001000")
+        .pattern("000 10110 1011 0100 0000")
+        .pattern(cycles)
+        .pattern("10110 0001")
+        .pattern("00 10110 1011 0011 1111 000000000000000000000000000")
+        .pattern("0 10110 1011 1010 0000 1001");
+    assert_eq!(stream_of(&orders), stream);
+    let text = "wr-register 5 48\nwr-front-end 5C8:9 3\nbcr\nrd-fifo F 2\nglobal-reset-fe 9 1\n";
+    assert_eq!(plain_text(&orders), text);
+    assert_eq!(words(&orders[1]), ["wr-front-end", "5C8:9", "3"]);
+    assert_eq!(frame_word(&[true; 8]), "FF");
+    assert_eq!(frame_word(&[]), ":0");
+    let lent = lent(&orders, &mut Random::new(5));
+    let words: Vec<&[u64]> = lent.orders.chunks(at::WORDS).collect();
+    let used = |order: usize, places: &[usize]| -> Vec<u64> {
+        places.iter().map(|&place| words[order][place]).collect()
+    };
+    assert_eq!(used(0, &[0, 1, 2, 3]), [0x20, 0, 5, 0x48]);
+    assert_eq!(used(1, &[0, 1, 5]), [0x24, 3, 9]);
+    let first = words[1][at::FRAME] as usize;
+    assert_eq!((lent.frames[first], lent.frames[first + 1] >> 7), (0x5C, 1));
+    assert_eq!(used(2, &[0, 1]), [0x11, 0]);
+    assert_eq!(used(3, &[0, 1, 2]), [0x23, 2, 15]);
+    assert_eq!(used(4, &[0, 1, 3]), [0x2A, 1, 9]);
+}
+
+#[test]
+fn random_orders_keep_the_timing_table() {
+    let mut random = Random::new(6);
+    let (mut just, mut more) = (0, 0);
+    for _ in 0..300 {
+        let orders = random_orders(&mut random, Addresses::DEFAULT, 30);
+        assert_eq!(orders.len(), 30);
+        for pair in orders.windows(2) {
+            let asked = pair[0].command.zeros_ahead_of(&pair[1].command);
+            assert!(pair[1].zeros >= asked);
+            just += u32::from(asked > 0 && pair[1].zeros == asked);
+            more += u32::from(asked > 0 && pair[1].zeros > asked);
+        }
+    }
+    assert!(just > 300 && more > 150, "{just} {more}");
+}
+
+/// A flaw changes one order, if any can have it; a text with one differs.
+#[test]
+fn flaws_of_orders_are_somewhere() {
+    let mut random = Random::new(7);
+    let mut texts = 0;
+    for _ in 0..200 {
+        let orders = random_orders(&mut random, Addresses::DEFAULT, 15);
+        let clean = lent(&orders, &mut random);
+        for flaw in orders::Flaw::ALL {
+            let mut flawed = clean.clone();
+            flaw.put_into(&mut flawed, &orders, &mut random);
+            assert_eq!(flawed.frames, clean.frames);
+            let pairs = flawed.orders.iter().zip(&clean.orders);
+            let differ = pairs.filter(|(a, b)| a != b).count();
+            match flaw {
+                orders::Flaw::Nothing => assert_eq!(flawed, clean),
+                orders::Flaw::Cut => {
+                    assert!((1..6).contains(&(clean.orders.len() - flawed.orders.len())));
+                    assert_eq!(differ, 0);
+                }
+                _ => assert!(differ <= 1 && flawed.orders.len() == clean.orders.len()),
+            }
+        }
+        let plain = plain_text(&orders).into_bytes();
+        for flaw in TextFlaw::ALL {
+            let text = random_text(&orders, flaw, &mut random);
+            texts += u32::from(text != plain);
+            assert!(text.len() < plain.len() + 70_000, "{flaw:?}");
+        }
+    }
+    assert!(texts > 2_000, "{texts}");
+}
+
 #[test]
 fn a_stream_without_frames_has_its_count_of_bits() {
     for count in [0, 1, 79, 80, 81, 1_000, 99_999] {
@@ -230,6 +325,17 @@ fn cases_cover_what_they_should() {
     assert_eq!(close, [2 * 2 * 4, 2 * 4, 2 * 4]);
     let refused = count("accept/line-wrong-") + count("accept/line-odd-");
     assert_eq!(refused, 7 + 1);
+    // Each of 15 commands alone; each with too few zeros after each.
+    for name in ["lv1", "sync", "wr-fifo", "wr-receiver", "global-reset-fe"] {
+        assert!(names.contains(&format!("compose/{name}")), "{name}");
+    }
+    for name in ["close-bcr-", "close-ecr-"] {
+        // Beside them one or two short ones.
+        assert!(count(&format!("compose/{name}")) >= 14, "{name}");
+    }
+    // Seven of each length and two without a line feed; and one of line feeds.
+    assert!(count("compose/wrong-") > 55 && count("compose/line-") == 3 * 7 + 2 + 1);
+    assert_eq!(count("compose/frame-longest-"), 3 * 3);
     let lines = |case: &Case| case.input.iter().filter(|&&byte| byte == b'\n').count();
     let long = generated(450)
         .iter()

@@ -108,6 +108,34 @@ fn what_is_said_is_a_file() {
     assert_eq!(files(&cut)[2].1, said.as_bytes());
 }
 
+/// A text of orders has its input, what is printed and what is said.
+#[test]
+fn files_of_orders() {
+    let files_of = |name: &str| {
+        let case = golden().into_iter().find(|case| case.name == name);
+        let files = files(&case.expect(name)).into_iter();
+        let files = files.map(|(path, contents)| {
+            let contents = String::from_utf8(contents).unwrap();
+            (path.display().to_string(), contents)
+        });
+        files.collect::<Vec<(String, String)>>()
+    };
+    let file = |name: &str, contents: &str| (name.to_string(), contents.to_string());
+    let fit = [
+        file("compose/lv1.in", "lv1\n"),
+        file("compose/lv1.compose", "E8\n"),
+    ];
+    assert_eq!(files_of("compose/lv1"), fit);
+    let said = "compose: standard input: line 2: the timing table asks for 2 zeros ahead of this \
+                command, and the line gives 1\n";
+    let close = [
+        file("compose/close-bcr-1.in", "bcr\nbcr 1\n"),
+        file("compose/close-bcr-1.compose", "!0A 00000002\n"),
+        file("compose/close-bcr-1.said", said),
+    ];
+    assert_eq!(files_of("compose/close-bcr-1"), close);
+}
+
 /// The stored runs show a frame, a refusal, more than a block, a file to its
 /// end, and the state at the end of the input.
 #[test]
@@ -115,7 +143,7 @@ fn stored_runs() {
     let folder = folder("stored");
     stored::write_all(&folder).unwrap();
     let checks = stored::check(&folder);
-    assert!(checks.len() == 9 && faults(checks).is_empty());
+    assert!(checks.len() == 11 && faults(checks).is_empty());
     let read = |name: &str| fs::read_to_string(folder.join(name)).unwrap();
     let (input, output) = (read("station/stdin"), read("station/stdout"));
     assert!((65_537..75_000).contains(&input.len()) && output.len() < 20_000);
@@ -142,6 +170,22 @@ fn stored_runs() {
         "{output}"
     );
     assert!(input.ends_with("\nx\n"));
+
+    let (input, output) = (read("compose/stdin"), read("compose/stdout"));
+    assert!((65_537..75_000).contains(&input.len()) && output.len() < 60_000);
+    assert!(!input[..65_536].ends_with('\n') && input.as_bytes()[65_536] != b'\n');
+    // Every command, and digits only.
+    for name in [
+        "lv1",
+        "sync 4",
+        "wr-fifo ",
+        "rd-front-end ",
+        "wr-receiver ",
+        "global-reset-fe ",
+    ] {
+        assert!(input.contains(&format!("\n{name}")), "{name}");
+    }
+    assert!(output.lines().all(|line| line.len() <= 64) && !output.contains('!'));
 
     let state = read("model/stdout");
     assert!(!state.contains('!') && state.contains("\nword ") && state.contains("\nl1id 06\n"));

@@ -2,35 +2,27 @@
 
 use cases::generate::{bits, commands_at, flip_some};
 use cases::{Random, Stream};
-use compare::interface::call::{Call, Open, Take};
+use compare::interface::call::{Call, Compose, Open, Take};
 use compare::interface::difference::{difference, reply_bytes};
 use compare::interface::expected::{expected, Expected};
 use compare::interface::image::{image, is_inside_wr_receiver, state, uses, Image};
 use compare::interface::layout::{self, at, largest, IMAGE_WORDS, LAYOUT, RECOGNISER};
 use compare::interface::states::{random_cycle, random_state, EARLIER_KINDS, PLANS};
 use compare::interface::streams::addresses;
-use compare::interface::{accepting, checker, crowding, fit, hits, large, prefilled, votes};
+use compare::interface::{
+    accepting, checker, composing, crowding, fit, hits, large, prefilled, votes,
+};
 use compare::tally::Tally;
 use reader::limits::{input_fits, CLOCK_LIMIT, RECORD_WORDS, STORE_WORDS, TRAY_BYTES};
 use reader::listing::push_record;
 use reader::record::{flag, kind};
-use reader::{accept, hex_line, open, recogniser, slow, sound, take};
-use reader::{Ending, Plan, Recogniser, Record, State};
+use reader::{accept, compose, hex_line, open, recogniser, slow, sound, take};
+use reader::{Ending, Order, Plan, Recogniser, Record, State};
 use std::collections::{BTreeMap, BTreeSet};
 use std::path::Path;
 
 /// The C header of the repository.
 const HEADER: &str = concat!(env!("CARGO_MANIFEST_DIR"), "/../../include/kernelstill.h");
-
-/// The header's macros of a value: the parts of an LV1's, and of the answer
-/// for a stream.
-const PARTS: [&str; 5] = [
-    "LV1_POSITION(value)",
-    "LV1_L1ID(value)",
-    "LV1_BUNCH(value)",
-    "ACCEPT_NUMBER(answer)",
-    "ACCEPT_PLACE(answer)",
-];
 
 /// The numbers that the header defines, by name without its first part.
 fn in_header() -> BTreeMap<String, u64> {
@@ -44,9 +36,9 @@ fn in_header() -> BTreeMap<String, u64> {
         let Some((name, rest)) = defined.split_once(' ') else {
             continue;
         };
-        // A text, which is compared with other files' (version.rs); and what is
-        // reckoned from a value, which the driver in C and the Python tests hold.
-        if name == "VERSION" || PARTS.contains(&name) {
+        // A text, which is compared with other files' (version.rs); and macros
+        // of a value's parts, which the driver in C and the Python tests hold.
+        if name == "VERSION" || name.contains('(') {
             continue;
         }
         let text = rest.split("/*").next().unwrap_or(rest).trim();
@@ -128,6 +120,7 @@ fn limits() -> Vec<(&'static str, u64)> {
         ("RESULT_WORDS", layout::RESULT_WORDS as u64),
         ("INPUT_BYTES", layout::INPUT_BYTES as u64),
         ("RECORD_WORDS", RECORD_WORDS as u64),
+        ("ORDER_WORDS", Order::WORDS as u64),
         ("RECORD_LINE_BYTES", layout::RECORD_LINE_BYTES as u64),
         ("LINE_BYTES", layout::LINE_BYTES as u64),
         ("CLOCK_LIMIT", CLOCK_LIMIT),
@@ -149,6 +142,9 @@ fn refusals() -> Vec<(&'static str, u64)> {
         ("CLOCK_OVER", layout::CLOCK_OVER),
         ("WRONG_CHARACTER", layout::WRONG_CHARACTER),
         ("WRONG_LENGTH", layout::WRONG_LENGTH),
+        ("WRONG_ORDER", layout::WRONG_ORDER),
+        ("TOO_FEW_ZEROS", layout::TOO_FEW_ZEROS),
+        ("STREAM_TOO_LONG", layout::STREAM_TOO_LONG),
         ("UNKNOWN_PATTERN", layout::UNKNOWN_PATTERN),
         ("CUT_PATTERN", layout::CUT_PATTERN),
         ("PATTERN_TOO_CLOSE", layout::PATTERN_TOO_CLOSE),
@@ -743,6 +739,7 @@ fn sent_back(call: &Call) -> Vec<(&'static str, Vec<u8>)> {
         Call::FrameBits { .. } | Call::FramePart { .. } | Call::Accept { .. } => Vec::new(),
         Call::HexLine { bytes, .. } => vec![("bytes", bytes.clone())],
         Call::RecordLine { line, .. } => vec![("line", line.clone())],
+        Call::Compose(compose) => vec![("output", compose.output.clone())],
     }
 }
 
@@ -758,7 +755,7 @@ fn right_reply(expected: &Expected) -> Vec<u8> {
         .collect()
 }
 
-/// A call of each function, accepted but for the last.
+/// A call of each function, accepted but for the last of each of the last two.
 fn one_of_each(random: &mut Random) -> Vec<Call> {
     vec![
         Call::Open(Open {
@@ -797,7 +794,104 @@ fn one_of_each(random: &mut Random) -> Vec<Call> {
             first: 8,
             count: 24,
         },
+        Call::Compose(composing(
+            &[[0x01, 3, 0, 0, 0, 0]],
+            prefilled::bytes(random, 5),
+        )),
+        Call::Compose(composing(
+            &[[0x02, 3, 0, 0, 0, 0]],
+            prefilled::bytes(random, 5),
+        )),
     ]
+}
+
+/// Orders to be composed in the default plan.
+fn composing(orders: &[[u64; 6]], output: Vec<u8>) -> Compose {
+    Compose {
+        mask: 0x07FF,
+        csr: 0,
+        feen: 2,
+        cnt: 5,
+        orders: orders.concat(),
+        frames: vec![0xA5, 0xC3],
+        output,
+    }
+}
+
+/// The answers for orders (document 02, F-2): number, and the order at fault or
+/// the count of bits; and the output.
+#[test]
+fn answers_for_orders() {
+    const LV1: [u64; 6] = [0x01, 0, 0, 0, 0, 0];
+    const BCR: [u64; 6] = [0x11, 0, 0, 0, 0, 0];
+    let far = [0x01, u64::MAX, 0, 0, 0, 0];
+    let answered = |call: Compose| {
+        let expected = expected(&Call::Compose(call.clone()));
+        assert_eq!(reply_bytes(&expected), 8 + call.output.len());
+        let Call::Compose(after) = expected.after else {
+            unreachable!("a call stays what it is");
+        };
+        // What is lent to be read only is as it was.
+        assert_eq!((after.orders, after.frames), (call.orders, call.frames));
+        (expected.answer, after.output)
+    };
+    let composed = |orders: &[[u64; 6]]| answered(composing(orders, vec![0x5A; 4]));
+    let refused = |answer| (answer, vec![0x5A; 4]);
+    assert_eq!(composed(&[]), refused(0));
+    assert_eq!(
+        composed(&[LV1, LV1]),
+        (0x0A00, vec![0xEF, 0x40, 0x5A, 0x5A])
+    );
+    assert_eq!(composed(&[LV1, [0; 6]]), refused(0x0109));
+    assert_eq!(composed(&[LV1, BCR, BCR]), refused(0x020A));
+    assert_eq!(composed(&[far]), refused(0x000B));
+    assert_eq!(composed(&[LV1; 7]), refused(0x000B));
+    let mut cut = composing(&[LV1, LV1], vec![0x5A; 4]);
+    cut.orders.pop();
+    assert_eq!(answered(cut), refused(0x0109));
+    for wide in [0x1_07FF, 1 << 63 | 0x07FF] {
+        let mask = Compose {
+            mask: wide,
+            ..composing(&[LV1], vec![0x5A; 4])
+        };
+        assert_eq!(answered(mask), refused(0x0001));
+    }
+    for wide in [2, 16, 256 + 5, 1 << 32 | 5, u64::MAX] {
+        let cnt = Compose {
+            cnt: wide,
+            ..composing(&[far, [0; 6]], vec![0x5A; 4])
+        };
+        assert_eq!(answered(cnt), refused(0x0001));
+    }
+}
+
+/// The random orders of the comparison have each number, and long lists.
+#[test]
+fn random_orders_have_every_number() {
+    let mut counts = BTreeMap::new();
+    let (mut exact, mut larger, mut frames) = (0, 0, 0);
+    for number in 0..4_000 {
+        let mut call = composing::random_call(&mut Random::new(number), number);
+        let length = call.output.len() as u64;
+        frames = frames.max(call.frames.len());
+        let expected = expected(&Call::Compose(call.clone()));
+        *counts.entry(expected.answer & 0xFF).or_insert(0) += 1;
+        let plan = Plan {
+            mask: call.mask as u16,
+            csr: call.csr as u8,
+            feen: call.feen as u8,
+            cnt: call.cnt as u8,
+        };
+        let answer = compose(plan, &call.orders, &call.frames, &mut call.output);
+        if let Ok(bits) = answer {
+            exact += u32::from(bits.div_ceil(8) == length);
+            larger += u32::from(bits.div_ceil(8) < length);
+        }
+    }
+    assert!(counts.keys().eq(&[0, 9, 10, 11]), "{counts:?}");
+    assert!(counts.values().all(|&count| count > 120), "{counts:?}");
+    assert!(exact > 300 && larger > 150, "{exact} {larger}");
+    assert!(frames > 8_000, "{frames}");
 }
 
 /// The answers for streams (document 02, F-8): number, and place from the

@@ -1,6 +1,6 @@
 //! What the separate reader's programs print for the cases.
 
-use cases::{crowded, fixed, generated, golden, hits, noisy, pulsed};
+use cases::{composed, crowded, fixed, generated, golden, hits, noisy, pulsed, Case};
 use compare::printed::printed;
 use reader::{hex_line, model, reading, station, Program};
 use std::collections::HashSet;
@@ -20,6 +20,7 @@ fn the_three_outputs_agree() {
         crowded(40),
         hits(40),
         pulsed(40),
+        composed(40),
     ];
     for case in listed.concat() {
         let (mut one, mut two, mut three) = (Vec::new(), Vec::new(), Vec::new());
@@ -32,9 +33,11 @@ fn the_three_outputs_agree() {
         let state = three.strip_prefix(&two).unwrap();
         assert!(state.starts_with("register 0 "), "{}", case.name);
         let refusal = two.lines().find(|line| line.starts_with('!'));
-        // Streams for `accept` have refused lines behind faults.
+        // Streams for `accept` have refused lines behind faults, and orders are
+        // no digits.
         let of_accept = ["accept/", "pulse-streams/"];
-        let named = match of_accept.iter().any(|folder| case.name.starts_with(folder)) {
+        let of_accept = of_accept.iter().any(|folder| case.name.starts_with(folder));
+        let named = match of_accept || case.holds_orders() {
             true => lines_of(&case.input).any(|line| hex_line(line).is_err()),
             false => case.name.starts_with("refusals/"),
         };
@@ -98,7 +101,20 @@ fn golden_files_are_short() {
             case.name
         );
     }
-    for number in ["07", "08", "0D", "0E", "0F"] {
+    for number in ["07", "08", "09", "0A", "0B", "0D", "0E", "0F"] {
         assert!(refused.iter().any(|refused| refused == number));
+    }
+}
+
+/// Hexadecimal lines are no orders, but for lines that are empty.
+#[test]
+fn compose_refuses_what_the_others_read() {
+    let is_digits = |case: &Case| !case.holds_orders() && case.input.is_ascii();
+    for case in fixed().into_iter().filter(is_digits) {
+        let blank = |c: &u8| b"\n\r\t ".contains(c);
+        let printed = String::from_utf8(printed(Program::Compose, &case.input)).unwrap();
+        let refused = printed.starts_with("!09 ");
+        assert_eq!(refused, !case.input.iter().all(blank), "{}", case.name);
+        assert!(refused || printed.is_empty(), "{}", case.name);
     }
 }

@@ -72,6 +72,18 @@ fn every_end_and_every_message_is_among_them() {
         "accept: standard input: bit 10: too few zeros lie ahead of the command that begins here\n",
         "accept: standard input: line 3: character 1 is a lower-case letter\n",
         "accept: standard input: line 2: character 2 is byte 80, none of 0-9 and A-F\n",
+        "usage: compose [FILE]\n",
+        "compose: missing.txt: No such file or directory\n",
+        "compose: standard input: Bad file descriptor\n",
+        "compose: standard input: Input/output error\n",
+        "compose: standard output: No space left on device\n",
+        "compose: standard output: Input/output error\n",
+        "compose: standard input: line 1: no command has this name\n",
+        "compose: standard input: line 2: a field is no number of its size\n",
+        "compose: standard input: line 2: the command has another count of fields\n",
+        "compose: standard input: line 2: CNT asks for 0 frame bits, and the line gives 8\n",
+        "compose: standard input: line 2: the timing table asks for 2 zeros ahead of this command, and the line gives 1\n",
+        "compose: standard input: the stream is longer than 1048576 bytes\n",
     ] {
         assert!(said.contains(text), "{text}");
     }
@@ -185,10 +197,54 @@ fn what_accept_does_where_the_system_fails() {
         assert_eq!((printed, end), outcome, "{name}");
     }
     // The others are its situations too.
-    let of_all = all.iter().filter(|situation| situation.programs.len() == 4);
+    let of_all = all.iter().filter(|situation| situation.programs.len() == 5);
     let of_accept = all.iter().filter(|s| s.programs == [Program::Accept]);
     let (of_all, of_accept) = (of_all.count(), of_accept.count());
     assert!(of_all > 200 && of_accept > 700, "{of_all} {of_accept}");
+}
+
+/// `compose` in each of its own: a failed read is no end of the text, of which
+/// nothing is composed then, and only what is printed can fail.
+#[test]
+fn what_compose_does_where_the_system_fails() {
+    let all = situations(Means::ALL);
+    let expected = |name: &str| {
+        let situation = all.iter().find(|situation| situation.name == name);
+        let expected = situation.expect(name).expected(Program::Compose);
+        let printed = String::from_utf8(expected.printed).unwrap();
+        (printed, expected.end)
+    };
+    let ends = |printed: &str, status| (printed.to_string(), End::Status(status));
+    let composed = "B5C0745840\n";
+    for (name, outcome) in [
+        ("composed, named", ends(composed, 0)),
+        ("composed, a read fails at 35", ends("", 3)),
+        ("composed, a read fails at 13", ends("", 3)),
+        ("composed, standard output full", ends("", 3)),
+        ("composed, a write fails at 5", ends("B5C07", 3)),
+        ("composed, a write takes nothing at 1", ends("B", 3)),
+        ("composed, closing fails", ends(composed, 3)),
+        ("composed, closing is interrupted", ends(composed, 0)),
+        ("wrong, named", ends("!09 00000002\n", 1)),
+        ("wrong, a read fails at 7", ends("", 3)),
+        ("wrong, a read fails at 8", ends("!09 00000002\n", 1)),
+        ("wrong, no last line feed, a read fails at 18", ends("", 3)),
+        ("too close, standard output closed", ends("", 3)),
+        ("too close, a write fails at 5", ends("!0A 0", 3)),
+        // That it is too long is known at the end only.
+        ("too long, named", ends("!0B 00000000\n", 1)),
+        ("too long, a read fails at 12", ends("", 3)),
+        ("no orders, standard output full", ends("", 0)),
+        ("of no bytes, a write takes nothing at 0", ends("", 0)),
+    ] {
+        let (printed, end) = expected(&format!("orders {name}"));
+        assert_eq!((printed, end), outcome, "{name}");
+    }
+    // More than a pipe holds, so that a reader that leaves is noticed.
+    let (printed, end) = expected("large orders composed, named");
+    assert!(printed.len() > 500_000 && end == End::Status(0));
+    let of_compose = all.iter().filter(|s| s.programs == [Program::Compose]);
+    assert!(of_compose.count() > 1_500);
 }
 
 /// Without gcc no call can be made to fail, and not everybody may mount.

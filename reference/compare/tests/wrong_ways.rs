@@ -9,6 +9,7 @@ use compare::programs::case;
 use compare::programs::ended::End;
 use compare::programs::fault::Fault;
 use compare::programs::scratch::Scratch;
+use compare::programs::sent;
 use compare::programs::situations::{situations, Means};
 use compare::programs::started;
 use compare::programs::under_test::UnderTest;
@@ -63,39 +64,53 @@ impl Wrong {
 
     /// The faults, in a situation, of the three programs that list records.
     fn starts(&self, name: &str) -> Vec<Option<Fault>> {
-        let checks = self.checks_of(name).into_iter();
-        let listing = checks.filter(|check| !check.name.starts_with("accept, "));
-        let faults: Vec<Option<Fault>> = listing.map(|check| check.fault).collect();
-        assert_eq!(faults.len(), 3);
-        faults
+        let checks = self.checks_of(name);
+        Program::LISTING
+            .map(|program| fault_of(program, &checks))
+            .into()
     }
 
-    /// The fault of `accept` in a situation.
-    fn accepts(&self, name: &str) -> Option<Fault> {
-        let checks = self.checks_of(name).into_iter();
-        let mut accept = checks.filter(|check| check.name.starts_with("accept, "));
-        accept.next().expect(name).fault
+    /// The fault of one program in a situation.
+    fn started(&self, program: Program, name: &str) -> Option<Fault> {
+        fault_of(program, &self.checks_of(name))
     }
 
-    /// The faults on a case, by one delivery, of all programs.
-    fn delivered(&self, name: &str, how: &str) -> Vec<Option<Fault>> {
+    /// The faults of all programs on a case by one delivery.
+    fn delivered(&self, name: &str, how: &str) -> Vec<Check> {
         let case = fixed().into_iter().find(|case| case.name == name);
         let checks = case::check(&self.programs, &case.expect(name), &self.scratch);
         let delivered = checks.into_iter().filter(|check| check.name.ends_with(how));
-        let faults: Vec<Option<Fault>> = delivered.map(|check| check.fault).collect();
-        assert_eq!(faults.len(), 4);
-        faults
+        delivered.collect()
     }
 
     /// Those of the three that list records.
     fn reads(&self, name: &str, how: &str) -> Vec<Option<Fault>> {
-        self.delivered(name, how)[..3].to_vec()
+        let checks = self.delivered(name, how);
+        Program::LISTING
+            .map(|program| fault_of(program, &checks))
+            .into()
     }
 
-    /// That of `accept`, which comes last.
-    fn judges(&self, name: &str, how: &str) -> Option<Fault> {
-        self.delivered(name, how)[3].clone()
+    /// That of one program.
+    fn given(&self, program: Program, name: &str, how: &str) -> Option<Fault> {
+        fault_of(program, &self.delivered(name, how))
     }
+
+    /// That of `station`, behind `compose`, on a text of orders.
+    fn sends(&self, name: &str) -> Option<Fault> {
+        let case = fixed().into_iter().find(|case| case.name == name);
+        let checks = sent::check(&self.programs, &case.expect(name), &self.scratch);
+        fault_of(Program::Station, &checks)
+    }
+}
+
+/// The fault of the one check of a program.
+fn fault_of(program: Program, checks: &[Check]) -> Option<Fault> {
+    let start = format!("{}, ", program.name());
+    let mut of_program = checks.iter().filter(|check| check.name.starts_with(&start));
+    let check = of_program.next().expect("a check of the program");
+    assert!(of_program.next().is_none(), "{start}");
+    check.fault.clone()
 }
 
 fn differ(faults: &[Option<Fault>]) -> bool {
@@ -297,6 +312,18 @@ fn one_that_drops_the_rest_of_a_short_write() {
     assert!(say(&wrong.starts("writes take nothing at 0, good")));
 }
 
+fn differs(fault: Option<Fault>) -> bool {
+    matches!(fault, Some(Fault::Differs(_)))
+}
+
+fn says(fault: Option<Fault>) -> bool {
+    matches!(fault, Some(Fault::Says(_)))
+}
+
+fn ends(fault: Option<Fault>) -> bool {
+    matches!(fault, Some(Fault::Ends { .. }))
+}
+
 /// `accept` by the right program, and by ones that are wrong where it shows.
 #[test]
 fn wrong_ways_to_accept() {
@@ -313,40 +340,145 @@ fn wrong_ways_to_accept() {
         "wrong words [\"-x\"]",
         "--help",
     ] {
-        assert_eq!(right.accepts(name), None, "{name}");
+        assert_eq!(right.started(Program::Accept, name), None, "{name}");
     }
     for name in ["paper/listing", "accept/every-pair", "accept/cut-bcr-5"] {
-        assert_eq!(right.judges(name, "as a file"), None, "{name}");
+        assert_eq!(
+            right.given(Program::Accept, name, "as a file"),
+            None,
+            "{name}"
+        );
     }
-    let differs = |fault: Option<Fault>| matches!(fault, Some(Fault::Differs(_)));
-    let says = |fault: Option<Fault>| matches!(fault, Some(Fault::Says(_)));
-    let ends = |fault: Option<Fault>| matches!(fault, Some(Fault::Ends { .. }));
-
     let wrong = Wrong::new("writes-twice", true);
-    assert!(differs(wrong.accepts("stream unknown, named")));
-    assert!(differs(wrong.judges("accept/cut-bcr-5", "as a file")));
+    assert!(differs(
+        wrong.started(Program::Accept, "stream unknown, named")
+    ));
+    assert!(differs(wrong.given(
+        Program::Accept,
+        "accept/cut-bcr-5",
+        "as a file"
+    )));
     let wrong = Wrong::new("silent", true);
-    assert!(says(wrong.accepts("stream cut, named")));
-    assert!(says(wrong.judges("accept/close-bcr-1-bcr", "as a file")));
+    assert!(says(wrong.started(Program::Accept, "stream cut, named")));
+    assert!(says(wrong.given(
+        Program::Accept,
+        "accept/close-bcr-1-bcr",
+        "as a file"
+    )));
     let wrong = Wrong::new("no-status", true);
-    assert!(ends(wrong.accepts("stream too close, named")));
-    assert!(ends(wrong.judges("accept/unknown-at-once", "as a file")));
+    assert!(ends(
+        wrong.started(Program::Accept, "stream too close, named")
+    ));
+    assert!(ends(wrong.given(
+        Program::Accept,
+        "accept/unknown-at-once",
+        "as a file"
+    )));
     // It takes each pattern that goes on in another read for a cut one.
     let wrong = Wrong::new("takes-an-interrupted-read-for-the-end", true);
     let whole = "stream accepted, interrupted 1 times";
-    assert_eq!(wrong.accepts(whole), None, "it is read as empty");
-    let cut = wrong.accepts("stream cut, interrupted 1 times");
+    assert_eq!(
+        wrong.started(Program::Accept, whole),
+        None,
+        "it is read as empty"
+    );
+    let cut = wrong.started(Program::Accept, "stream cut, interrupted 1 times");
     assert!(differs(cut));
     let wrong = Wrong::new("takes-a-failed-read-for-the-end", true);
-    assert!(differs(wrong.accepts("stream cut, a read fails at 6")));
-    let failed = wrong.accepts("stream accepted, a read fails at 3");
+    assert!(differs(
+        wrong.started(Program::Accept, "stream cut, a read fails at 6")
+    ));
+    let failed = wrong.started(Program::Accept, "stream accepted, a read fails at 3");
     assert!(says(failed));
     let wrong = Wrong::new("forgets", true);
-    let cut = wrong.judges("accept/blocks-accepted", "as a file");
+    let cut = wrong.given(Program::Accept, "accept/blocks-accepted", "as a file");
     assert!(cut.is_some());
     let wrong = Wrong::new("lists-on-standard-error", true);
-    assert!(differs(wrong.accepts("stream unknown, named")));
-    assert_eq!(wrong.accepts("stream accepted, named"), None);
+    assert!(differs(
+        wrong.started(Program::Accept, "stream unknown, named")
+    ));
+    assert_eq!(
+        wrong.started(Program::Accept, "stream accepted, named"),
+        None
+    );
+}
+
+/// The same of `compose`.
+#[test]
+fn wrong_ways_to_compose() {
+    const COMPOSE: Program = Program::Compose;
+    let right = Wrong::new("right", true);
+    for name in [
+        "orders composed, named",
+        "orders wrong, named",
+        "orders too close, a read fails at 5",
+        "orders composed, interrupted 5 times",
+        "orders composed, a write takes nothing at 5",
+        "orders too long, named",
+        "orders with character 09 in a frame",
+        "large orders composed, interrupted",
+        "wrong words [\"-x\"]",
+        "--help",
+    ] {
+        assert_eq!(right.started(COMPOSE, name), None, "{name}");
+    }
+    for name in [
+        "paper/listing",
+        "compose/lv1",
+        "compose/close-bcr",
+        "compose/wrong-name",
+    ] {
+        assert_eq!(right.given(COMPOSE, name, "as a file"), None, "{name}");
+    }
+    assert_eq!(right.sends("compose/just-the-zeros"), None);
+
+    let wrong = Wrong::new("writes-twice", true);
+    assert!(differs(wrong.started(COMPOSE, "orders composed, named")));
+    assert!(differs(wrong.given(
+        COMPOSE,
+        "compose/close-bcr",
+        "as a file"
+    )));
+    assert!(differs(wrong.sends("compose/just-the-zeros")));
+    let wrong = Wrong::new("silent", true);
+    assert!(says(wrong.started(COMPOSE, "orders too long, named")));
+    assert!(says(wrong.given(
+        COMPOSE,
+        "compose/wrong-name",
+        "as a file"
+    )));
+    let wrong = Wrong::new("no-status", true);
+    assert!(ends(wrong.started(COMPOSE, "orders too close, named")));
+    assert!(ends(wrong.given(
+        COMPOSE,
+        "compose/wrong-name",
+        "as a file"
+    )));
+    // A text that has ended for it is composed.
+    let wrong = Wrong::new("takes-an-interrupted-read-for-the-end", true);
+    let interrupted = wrong.started(COMPOSE, "orders composed, interrupted 1 times");
+    assert!(differs(interrupted));
+    let wrong = Wrong::new("takes-a-failed-read-for-the-end", true);
+    assert!(differs(
+        wrong.started(COMPOSE, "orders composed, a read fails at 13")
+    ));
+    assert!(says(
+        wrong.started(COMPOSE, "orders no orders, a read fails at 3")
+    ));
+    let wrong = Wrong::new("forgets", true);
+    assert_eq!(wrong.given(COMPOSE, "compose/lv1", "as a file"), None);
+    assert!(differs(wrong.given(
+        COMPOSE,
+        "compose/a-block",
+        "as a file"
+    )));
+    assert!(differs(wrong.sends("compose/a-block")));
+    let wrong = Wrong::new("drops-the-rest-of-a-write", true);
+    assert!(differs(
+        wrong.started(COMPOSE, "orders composed, interrupted 1 times")
+    ));
+    let wrong = Wrong::new("lists-on-standard-error", true);
+    assert!(differs(wrong.started(COMPOSE, "orders composed, named")));
 }
 
 /// Rust's own start ignores SIGPIPE, and the stand-in closes without a look.

@@ -62,8 +62,8 @@ pub fn compose(
             Unfit::Zeros { .. } => NotComposed::TooFewZeros(number),
         })?;
     }
-    let stream = composer.finish().ok_or(NotComposed::TooLong)?;
-    output[..stream.bytes.len()].copy_from_slice(&stream.bytes);
+    let stream = composer.stream().ok_or(NotComposed::TooLong)?;
+    output[..stream.bytes.len()].copy_from_slice(stream.bytes);
     Ok(stream.bits)
 }
 
@@ -77,10 +77,10 @@ pub enum Unfit {
 }
 
 /// A whole stream, its last byte filled up with zeros.
-#[derive(Clone, Debug, PartialEq, Eq)]
-pub struct Stream {
+#[derive(Clone, Copy, Debug, PartialEq, Eq)]
+pub struct Stream<'a> {
     pub bits: u64,
-    pub bytes: Vec<u8>,
+    pub bytes: &'a [u8],
 }
 
 /// Composes a stream order by order, with CNT as they write it.
@@ -104,6 +104,7 @@ impl Composer {
         }
     }
 
+    /// Sends an order behind those so far; one that is unfit changes nothing.
     pub fn add(&mut self, order: &Order) -> Result<(), Unfit> {
         let given = order.frame.bits;
         if let Some(asked) = frame_bits(order.kind, self.cnt).filter(|&asked| asked != given) {
@@ -118,7 +119,13 @@ impl Composer {
         }
         self.written.zeros(order.zeros);
         self.send(order);
+        self.follow_cnt(order);
         self.before = Some(order.kind);
+        Ok(())
+    }
+
+    /// CNT as a reader has it behind the order.
+    fn follow_cnt(&mut self, order: &Order) {
         match order.kind.checked_sub(kind::SLOW) {
             Some(slow::WR_REGISTER) if order.address == self.cnt_address => {
                 self.cnt = order.value as u16;
@@ -126,11 +133,15 @@ impl Composer {
             Some(slow::GLOBAL_RESET_MCC) => self.cnt = 0,
             _ => {}
         }
-        Ok(())
     }
 
-    /// The stream, if there is room for it.
-    pub fn finish(self) -> Option<Stream> {
+    /// The count of bits of all orders so far.
+    pub fn bits(&self) -> u128 {
+        self.written.bits
+    }
+
+    /// The stream of all orders so far, if there is room for it.
+    pub fn stream(&self) -> Option<Stream<'_>> {
         self.written.whole()
     }
 
@@ -181,6 +192,11 @@ fn frame_bits(kind: u8, cnt: u16) -> Option<u64> {
     Some(bits.into())
 }
 
+/// The opposite of number 11's condition, for an output of so many bytes.
+pub fn fits(bits: u128, bytes: usize) -> bool {
+    bits <= 8 * bytes as u128 && bits <= CLOCK_LIMIT.into()
+}
+
 /// The bits of a stream so far. They are counted however many they are, and
 /// kept as long as there is room for all.
 #[derive(Clone, Debug)]
@@ -188,21 +204,21 @@ struct Written {
     bytes: Vec<u8>,
     /// Zeros ahead may be near 2^64 at each order.
     bits: u128,
-    room: u128,
+    /// In bytes.
+    room: usize,
 }
 
 impl Written {
-    /// In so many bytes, and below the last cycle.
     fn with_room(bytes: usize) -> Written {
         Written {
             bytes: Vec::new(),
             bits: 0,
-            room: (bytes as u128 * 8).min(CLOCK_LIMIT.into()),
+            room: bytes,
         }
     }
 
     fn fits(&self) -> bool {
-        self.bits <= self.room
+        fits(self.bits, self.room)
     }
 
     fn zeros(&mut self, count: u64) {
@@ -228,10 +244,10 @@ impl Written {
         }
     }
 
-    fn whole(self) -> Option<Stream> {
-        self.fits().then(|| Stream {
+    fn whole(&self) -> Option<Stream<'_>> {
+        self.fits().then_some(Stream {
             bits: self.bits as u64,
-            bytes: self.bytes,
+            bytes: &self.bytes,
         })
     }
 }

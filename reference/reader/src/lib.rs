@@ -10,6 +10,8 @@
 
 pub mod accept;
 pub mod command;
+pub mod compose;
+pub mod composing;
 pub mod cycle;
 pub mod decoder;
 pub mod effect;
@@ -20,6 +22,8 @@ pub mod limits;
 pub mod listing;
 pub mod message;
 pub mod model;
+pub mod order;
+pub mod order_line;
 pub mod plan;
 pub mod program;
 pub mod recogniser;
@@ -37,7 +41,10 @@ pub mod words;
 
 pub use accept::{accept, Fault, Judge, WhyNot};
 pub use command::Status;
+pub use compose::{compose, Composer, NotComposed, Unfit};
 pub use hex::hex_line;
+pub use order::{Frame, Order};
+pub use order_line::{order_line, WrongLine, WrongOrders};
 pub use plan::Plan;
 pub use program::{model, reading, station, Program};
 pub use recogniser::Recogniser;

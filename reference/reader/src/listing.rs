@@ -1,6 +1,7 @@
 //! The lines of the listing ("Streams with their records", station program).
 
 use crate::record::Record;
+use crate::refusal::LINE_DIGITS;
 
 const DIGITS: &[u8; 16] = b"0123456789ABCDEF";
 
@@ -54,4 +55,14 @@ pub fn push_fault(out: &mut Vec<u8>, number: u8, place: u64) {
     out.push(b' ');
     push_number(out, place, 12);
     out.push(b'\n');
+}
+
+/// Bytes as hexadecimal lines of 32, the last one shorter.
+pub fn push_lines(out: &mut Vec<u8>, bytes: &[u8]) {
+    for line in bytes.chunks(LINE_DIGITS as usize / 2) {
+        for &byte in line {
+            push_number(out, u64::from(byte), 2);
+        }
+        out.push(b'\n');
+    }
 }

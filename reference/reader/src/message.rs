@@ -6,6 +6,8 @@ use std::io;
 
 const VERSION: &str = env!("CARGO_PKG_VERSION");
 
+const HEXADECIMAL: &str = "Hexadecimal lines";
+
 pub fn usage(program: Program) -> String {
     format!("usage: {} [FILE]\n", program.name())
 }
@@ -15,21 +17,23 @@ pub fn version(program: Program) -> String {
 }
 
 pub fn help(program: Program) -> String {
-    let does = match program {
-        Program::Station => "a line per record and one per frame",
-        Program::Reading => "a line per record",
-        Program::Model => "a line per record, then the state,",
-        Program::Accept => "a line for the first pattern at fault, if there is one,",
+    let (lines, does) = match program {
+        Program::Station => (HEXADECIMAL, "a line per record and one per frame"),
+        Program::Reading => (HEXADECIMAL, "a line per record"),
+        Program::Model => (HEXADECIMAL, "a line per record, then the state,"),
+        Program::Accept => (
+            HEXADECIMAL,
+            "a line for the first pattern at fault, if there is one,",
+        ),
+        Program::Compose => ("Orders, one a line,", "hexadecimal lines of their stream"),
     };
     let (whole, refused) = match program {
-        Program::Station | Program::Reading | Program::Model => {
-            ("the whole input", "a line was refused")
-        }
         Program::Accept => ("accepted", "refused"),
+        _ => ("the whole input", "a line was refused"),
     };
     format!(
         "{}\
-         Hexadecimal lines from FILE, or from standard input if there is none or it is -; \
+         {lines} from FILE, or from standard input if there is none or it is -; \
          {does} to standard output.\n\
          Exit status: 0 {whole}, 1 {refused}, 2 wrong words, 3 the system failed.\n",
         usage(program)

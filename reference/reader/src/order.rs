@@ -56,29 +56,29 @@ pub const ADDRESS_BITS: u32 = 4;
 /// The fields of a kind; `None` for one that cannot be ordered.
 pub fn fields(kind: u8) -> Option<Fields> {
     let none = Fields::default();
-    if let Some(body) = kind.checked_sub(kind::FAST).filter(|_| kind < kind::SLOW) {
-        return matches!(body, BCR | ECR | CAL | SYNC).then_some(none);
-    }
-    if kind == kind::LV1 {
-        return Some(none);
-    }
-    let address = true;
-    let value = |value| Fields { value, ..none };
-    match kind.checked_sub(kind::SLOW)? {
-        slow::WR_REGISTER => Some(Fields {
-            address,
-            ..value(16)
-        }),
-        slow::RD_REGISTER | slow::RD_FIFO => Some(Fields { address, ..none }),
-        slow::WR_FIFO => Some(value(FIFO_WORD_BITS)),
-        slow::GLOBAL_RESET_FE => Some(value(4)),
-        slow::WR_FRONT_END | slow::RD_FRONT_END | slow::WR_RECEIVER => Some(Fields {
-            frame: true,
-            ..none
-        }),
-        slow::EN_DATA_TAKE | slow::GLOBAL_RESET_MCC => Some(none),
+    match kind {
+        kind::LV1 => Some(none),
+        kind::SLOW.. => slow_fields(kind - kind::SLOW),
+        kind::FAST.. => matches!(kind - kind::FAST, BCR | ECR | CAL | SYNC).then_some(none),
         _ => None,
     }
+}
+
+fn slow_fields(field3: u8) -> Option<Fields> {
+    let (address, value, frame) = match field3 {
+        slow::WR_REGISTER => (true, 16, false),
+        slow::RD_REGISTER | slow::RD_FIFO => (true, 0, false),
+        slow::WR_FIFO => (false, FIFO_WORD_BITS, false),
+        slow::GLOBAL_RESET_FE => (false, 4, false),
+        slow::WR_FRONT_END | slow::RD_FRONT_END | slow::WR_RECEIVER => (false, 0, true),
+        slow::EN_DATA_TAKE | slow::GLOBAL_RESET_MCC => (false, 0, false),
+        _ => return None,
+    };
+    Some(Fields {
+        address,
+        value,
+        frame,
+    })
 }
 
 /// The number if it has no more bits than these.

@@ -1,7 +1,8 @@
 //! The programs: hexadecimal lines in, a listing out, or whether their bits
-//! are accepted.
+//! are accepted; and orders in, hexadecimal lines of their stream out.
 
 use crate::accept::{Fault, Judge};
+use crate::composing::Composing;
 use crate::decoder::Decoder;
 use crate::hex::HexLine;
 use crate::hunting::bit_at;
@@ -15,7 +16,7 @@ use std::io::{self, ErrorKind, Read, Write};
 /// Bytes read, and written, at a time.
 const BLOCK: usize = 65_536;
 
-/// All print the line of a refused line, and all but the last the records.
+/// All print the line of a refused line, and the first three the records.
 #[derive(Clone, Copy, Debug, PartialEq, Eq)]
 pub enum Program {
     /// Document 01's station program: the frames too.
@@ -27,6 +28,9 @@ pub enum Program {
     /// The line of the first pattern at fault, if there is one (document 02,
     /// F-8).
     Accept,
+    /// Hexadecimal lines of the stream that its orders make (document 02,
+    /// F-2).
+    Compose,
 }
 
 /// Prints every record and every frame.
@@ -45,11 +49,12 @@ pub fn model(input: impl Read, output: impl Write) -> io::Result<()> {
 }
 
 impl Program {
-    pub const ALL: [Program; 4] = [
+    pub const ALL: [Program; 5] = [
         Program::Station,
         Program::Reading,
         Program::Model,
         Program::Accept,
+        Program::Compose,
     ];
 
     /// Those that print records.
@@ -62,6 +67,7 @@ impl Program {
             Program::Reading => "reading",
             Program::Model => "model",
             Program::Accept => "accept",
+            Program::Compose => "compose",
         }
     }
 
@@ -76,31 +82,57 @@ impl Program {
     /// Reads the input to its end, or to what is refused, and writes its
     /// listing.
     pub fn run(self, system: &mut impl System) -> Result<Option<Refused>, Failure> {
-        let mut run = Run::start(self);
-        let mut block = vec![0; BLOCK];
-        while !run.is_over() {
-            let length = match system.read(&mut block) {
-                Ok(0) => break,
-                Ok(length) => length,
-                Err(error) if error.kind() == ErrorKind::Interrupted => continue,
-                Err(error) => return Err(Failure::Read(error)),
-            };
-            for &character in &block[..length] {
-                run.take(character);
-                if run.is_over() {
-                    break;
-                }
-                if run.out.len() >= BLOCK {
-                    run.write(system)?;
-                }
-            }
-            // Before the next read, which may wait on a live pipe.
-            run.write(system)?;
+        match self {
+            Program::Compose => read_all(Composing::start(), system),
+            _ => read_all(Listing::start(self), system),
         }
-        run.finish();
-        run.write(system)?;
-        Ok(run.refused)
     }
+}
+
+/// One run of a program, but for its reading and writing.
+pub trait Run {
+    fn take(&mut self, character: u8);
+
+    /// The end of the input, or of the run after what is refused.
+    fn finish(&mut self);
+
+    /// What is refused, which ends the run.
+    fn refused(&self) -> Option<Refused>;
+
+    /// What is printed and not yet written.
+    fn out(&mut self) -> &mut Vec<u8>;
+}
+
+fn read_all(mut run: impl Run, system: &mut impl System) -> Result<Option<Refused>, Failure> {
+    let mut block = vec![0; BLOCK];
+    while run.refused().is_none() {
+        let length = match system.read(&mut block) {
+            Ok(0) => break,
+            Ok(length) => length,
+            Err(error) if error.kind() == ErrorKind::Interrupted => continue,
+            Err(error) => return Err(Failure::Read(error)),
+        };
+        for &character in &block[..length] {
+            run.take(character);
+            if run.refused().is_some() {
+                break;
+            }
+            if run.out().len() >= BLOCK {
+                write(run.out(), system)?;
+            }
+        }
+        // Before the next read, which may wait on a live pipe.
+        write(run.out(), system)?;
+    }
+    run.finish();
+    write(run.out(), system)?;
+    Ok(run.refused())
+}
+
+fn write(out: &mut Vec<u8>, system: &mut impl System) -> Result<(), Failure> {
+    write_all(out, system).map_err(Failure::Write)?;
+    out.clear();
+    Ok(())
 }
 
 /// What the system failed to do.
@@ -110,8 +142,8 @@ pub enum Failure {
     Write(io::Error),
 }
 
-/// One run of a program, but for its reading and writing.
-struct Run {
+/// A run over hexadecimal lines.
+struct Listing {
     program: Program,
     decoder: Decoder,
     /// In the decoder's place, where the bits are judged.
@@ -123,9 +155,9 @@ struct Run {
     refused: Option<Refused>,
 }
 
-impl Run {
-    fn start(program: Program) -> Run {
-        Run {
+impl Listing {
+    fn start(program: Program) -> Listing {
+        Listing {
             program,
             decoder: Decoder::start(),
             judge: Judge::start(),
@@ -133,19 +165,6 @@ impl Run {
             lines_ended: 0,
             out: Vec::with_capacity(2 * BLOCK),
             refused: None,
-        }
-    }
-
-    /// A refused line ends it, or a pattern at fault.
-    fn is_over(&self) -> bool {
-        self.refused.is_some()
-    }
-
-    fn take(&mut self, character: u8) {
-        if character == b'\n' {
-            self.end_line();
-        } else {
-            self.line.push(character);
         }
     }
 
@@ -199,14 +218,23 @@ impl Run {
             self.refused = Some(Refused::Pattern(fault));
         }
     }
+}
 
-    /// The end of the input, or of the run after what is refused.
+impl Run for Listing {
+    fn take(&mut self, character: u8) {
+        if character == b'\n' {
+            self.end_line();
+        } else {
+            self.line.push(character);
+        }
+    }
+
     fn finish(&mut self) {
         // Nothing after the last line feed is no line.
-        if !self.is_over() && self.line.started() {
+        if self.refused.is_none() && self.line.started() {
             self.end_line();
         }
-        if self.program == Program::Accept && !self.is_over() {
+        if self.program == Program::Accept && self.refused.is_none() {
             let judged = self.judge.finish();
             self.print_fault(judged);
         }
@@ -215,9 +243,12 @@ impl Run {
         }
     }
 
-    fn write(&mut self, system: &mut impl System) -> Result<(), Failure> {
-        write_all(&self.out, system).map_err(Failure::Write)?;
-        self.out.clear();
-        Ok(())
+    /// A line, or a pattern at fault.
+    fn refused(&self) -> Option<Refused> {
+        self.refused
+    }
+
+    fn out(&mut self) -> &mut Vec<u8> {
+        &mut self.out
     }
 }

@@ -2,6 +2,7 @@
 //! words; and what else it may refuse.
 
 use crate::accept::Fault;
+use crate::order_line::WrongOrders;
 use std::fmt;
 
 /// Digits that a line may have at most.
@@ -13,6 +14,8 @@ pub enum Refused {
     Line(Refusal),
     /// A pattern of a stream (document 02, F-8).
     Pattern(Fault),
+    /// A text of orders (document 02, F-2).
+    Orders(WrongOrders),
 }
 
 impl fmt::Display for Refused {
@@ -20,6 +23,7 @@ impl fmt::Display for Refused {
         match self {
             Refused::Line(line) => write!(f, "{line}"),
             Refused::Pattern(fault) => write!(f, "{fault}"),
+            Refused::Orders(wrong) => write!(f, "{wrong}"),
         }
     }
 }

@@ -210,6 +210,145 @@ fn what_fails_while_accept_runs() {
     }
 }
 
+/// Document 02, F-2.
+#[test]
+fn help_and_version_of_compose() {
+    let help = "usage: compose [FILE]\n\
+        Orders, one a line, from FILE, or from standard input if there is none or it is -; hexadecimal lines of their stream to standard output.\n\
+        Exit status: 0 the whole input, 1 a line was refused, 2 wrong words, 3 the system failed.\n";
+    let version = concat!("compose (Kernelstill) ", env!("CARGO_PKG_VERSION"), "\n");
+    for (word, text) in [("--help", help), ("--version", version)] {
+        let mut system = Scripted::input(&[b"lv1\n"]);
+        let ended = system.start(Program::Compose, &[word]);
+        assert_eq!(ended, said(Status::Whole, ""));
+        assert_eq!(system.printed(), text);
+        assert!(system.closed);
+    }
+}
+
+/// What `compose` says of refused lines and streams; which reason goes first.
+#[test]
+fn what_compose_refuses() {
+    let long = "lv1".to_string() + &" ".repeat(32_766);
+    let frame = "wr-register 5 90\nwr-front-end ".to_string() + &"A".repeat(34);
+    for (input, printed, text) in [
+        ("x", "!09 00000001", "line 1: no command has this name"),
+        (
+            "lv1\nlv1 1 1",
+            "!09 00000002",
+            "line 2: the command has another count of fields",
+        ),
+        (
+            "\n\nlv1 z\n",
+            "!09 00000003",
+            "line 3: a field is no number of its size",
+        ),
+        (
+            "wr-receiver :1",
+            "!09 00000001",
+            "line 1: a field is no number of its size",
+        ),
+        (
+            &frame,
+            "!09 00000002",
+            "line 2: CNT asks for 18 frame bits, and the line gives 136",
+        ),
+        (
+            "wr-receiver F",
+            "!09 00000001",
+            "line 1: CNT asks for 0 frame bits, and the line gives 4",
+        ),
+        (
+            "bcr\nwr-receiver F:3",
+            "!09 00000002",
+            "line 2: CNT asks for 0 frame bits, and the line gives 3",
+        ),
+        (
+            &long,
+            "!09 00000001",
+            "line 1: the line is longer than 32768 characters",
+        ),
+        (
+            "bcr\nbcr 1\n",
+            "!0A 00000002",
+            "line 2: the timing table asks for 2 zeros ahead of this command, and the line gives 1",
+        ),
+        (
+            "sync\n\nlv1",
+            "!0A 00000003",
+            "line 3: the timing table asks for 4 zeros ahead of this command, and the line gives 0",
+        ),
+        (
+            "ecr\nwr-fifo 1\n",
+            "!0A 00000002",
+            "line 2: the timing table asks for 1 zeros ahead of this command, and the line gives 0",
+        ),
+        (
+            "lv1 8388604",
+            "!0B 00000000",
+            "the stream is longer than 1048576 bytes",
+        ),
+    ] {
+        for (word, source) in [("-", "standard input"), ("a b.txt", "a b.txt")] {
+            let mut system = Scripted::input(&[input.as_bytes()]);
+            let ended = system.start(Program::Compose, &[word]);
+            let line = format!("compose: {source}: {text}\n");
+            assert_eq!(ended, said(Status::Refused, &line));
+            assert_eq!(system.printed(), format!("{printed}\n"));
+            assert!(system.closed);
+        }
+    }
+}
+
+/// Nothing is printed ahead of the end, but for a line that is refused, after
+/// which nothing is read. A text too long is known at the end only.
+#[test]
+fn when_compose_prints() {
+    let mut system = Scripted::input(&[b"lv1\nl", b"v1", b"\n", b"bcr"]);
+    let ended = system.start(Program::Compose, &[]);
+    assert_eq!(ended, said(Status::Whole, ""));
+    assert_eq!(system.printed(), "EF6C20\n");
+    let mut system = Scripted::input(&[b"lv1\nlv", b"2\n", b"lv1\n"]);
+    let (status, _) = system.start(Program::Compose, &[]);
+    assert_eq!((status, system.reads.len()), (Status::Refused, 1));
+    assert_eq!(system.printed(), "!09 00000002\n");
+    let mut system = Scripted::input(&[b"lv1 9999999\n", b"lv1\n", b"lv1\n"]);
+    let (status, _) = system.start(Program::Compose, &[]);
+    assert_eq!((status, system.reads.len()), (Status::Refused, 0));
+    assert_eq!(system.printed(), "!0B 00000000\n");
+}
+
+/// A failed read is no end of the text, so that nothing is composed.
+#[test]
+fn what_fails_while_compose_runs() {
+    for input in [&b""[..], b"lv1\n", b"lv1\nx", b"lv1 9999999\n"] {
+        let mut system = Scripted::input(&[input]);
+        // A read of no bytes is the end.
+        system.reads.retain(|read| *read != Ok(Vec::new()));
+        system.reads.push_back(Err(EINTR));
+        system.reads.push_back(Err(EIO));
+        let ended = system.start(Program::Compose, &["a.txt"]);
+        let line = "compose: a.txt: Input/output error\n";
+        assert_eq!(ended, said(Status::SystemFailed, line));
+        assert_eq!(system.printed(), "");
+    }
+    for input in [&b"lv1 20"[..], b"x", b"bcr\nbcr", b"lv1 9999999"] {
+        let mut system = Scripted::input(&[input]);
+        system.writes = [Ok(3), Err(EINTR), Err(ENOSPC)].into();
+        let ended = system.start(Program::Compose, &[]);
+        let line = "compose: standard output: No space left on device\n";
+        assert_eq!(ended, said(Status::SystemFailed, line));
+        assert_eq!(system.printed.len(), 3);
+    }
+    for input in [&b""[..], b"lv1\n", b"x"] {
+        let mut system = Scripted::input(&[input]);
+        system.closing = Some(EIO);
+        let ended = system.start(Program::Compose, &[]);
+        let line = "compose: standard output: Input/output error\n";
+        assert_eq!(ended, said(Status::SystemFailed, line));
+    }
+}
+
 #[test]
 fn wrong_words() {
     for words in [

@@ -3,6 +3,7 @@
 mod accept;
 mod capture;
 mod commands;
+mod compose;
 mod controller;
 mod crowded;
 mod flips;
@@ -29,6 +30,7 @@ pub fn fixed() -> Vec<Case> {
     cases.extend(crowded::cases());
     cases.extend(hits::cases());
     cases.extend(accept::cases());
+    cases.extend(compose::cases());
     cases
 }
 

@@ -1,5 +1,6 @@
 //! Writes each case's input and what the programs print and say for it, the
-//! three that list records, or `accept` where the case is meant for that:
+//! three that list records, or `accept` or `compose` where the case is meant
+//! for that:
 //! `vectors FOLDER [--golden | --generated N | --stored]`.
 //!
 //! With `--generated` also N streams of each generated list. With `--golden`
@@ -9,7 +10,7 @@
 
 #![forbid(unsafe_code)]
 
-use cases::{crowded, fixed, generated, golden, hits, noisy, pulsed, Case};
+use cases::{composed, crowded, fixed, generated, golden, hits, noisy, pulsed, Case};
 use compare::golden::{files, stored, strays, write};
 use reader::Program;
 use std::fs;
@@ -32,6 +33,7 @@ fn main() -> ExitCode {
                     crowded(count),
                     hits(count),
                     pulsed(count),
+                    composed(count),
                 ];
                 write_all(Path::new(folder), [fixed(), listed.concat()].concat())
             }

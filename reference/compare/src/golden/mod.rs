@@ -26,8 +26,12 @@ const SAID: &str = "said";
 const ACCEPT: [&str; 2] = ["accept/", "pulse-streams/"];
 
 /// The programs whose outputs are a case's files: those that list records, or
-/// `accept` where it is meant for that. All programs are compared on all cases.
+/// `accept` or `compose` where it is meant for that. All programs are compared
+/// on all cases.
 fn programs(case: &Case) -> &'static [Program] {
+    if case.holds_orders() {
+        return &[Program::Compose];
+    }
     match ACCEPT.iter().any(|folder| case.name.starts_with(folder)) {
         true => &[Program::Accept],
         false => &Program::LISTING,

@@ -31,6 +31,8 @@ fn run(program: Program) -> (&'static str, Option<&'static str>) {
         Program::Model => ("capture/capture", None),
         // More than a block, accepted up to two commands that are too close.
         Program::Accept => ("accept/after-a-block", None),
+        // More than a block of orders, and a line that its edge cuts.
+        Program::Compose => ("compose/a-block", None),
     }
 }
 

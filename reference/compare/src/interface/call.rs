@@ -9,6 +9,7 @@ mod function {
     pub const HEX_LINE: u64 = 5;
     pub const RECORD_LINE: u64 = 6;
     pub const ACCEPT: u64 = 7;
+    pub const COMPOSE: u64 = 8;
 }
 
 /// A call with all that it lends.
@@ -38,6 +39,18 @@ pub enum Call {
         first: u64,
         count: u64,
     },
+    Compose(Compose),
+}
+
+#[derive(Clone, Debug)]
+pub struct Compose {
+    pub mask: u64,
+    pub csr: u64,
+    pub feen: u64,
+    pub cnt: u64,
+    pub orders: Vec<u64>,
+    pub frames: Vec<u8>,
+    pub output: Vec<u8>,
 }
 
 #[derive(Clone, Debug)]
@@ -89,6 +102,9 @@ impl Call {
             Call::HexLine { line, bytes } => line.is_empty() || bytes.is_empty(),
             Call::RecordLine { line, .. } => line.is_empty(),
             Call::Accept { input, .. } => input.is_empty(),
+            Call::Compose(compose) => {
+                compose.orders.is_empty() || compose.frames.is_empty() || compose.output.is_empty()
+            }
         }
     }
 
@@ -139,6 +155,7 @@ impl Call {
                 request.bytes_slice(input);
                 request.words(&[*first, *count]);
             }
+            Call::Compose(compose) => request.compose(compose),
         }
         request.bytes
     }
@@ -169,6 +186,20 @@ impl Request {
     fn bytes_slice(&mut self, bytes: &[u8]) {
         self.slice(bytes.len());
         self.bytes.extend_from_slice(bytes);
+    }
+
+    fn compose(&mut self, compose: &Compose) {
+        let Compose {
+            mask,
+            csr,
+            feen,
+            cnt,
+            ..
+        } = *compose;
+        self.words(&[function::COMPOSE, mask, csr, feen, cnt]);
+        self.words_slice(&compose.orders);
+        self.bytes_slice(&compose.frames);
+        self.bytes_slice(&compose.output);
     }
 
     fn take(&mut self, take: &Take) {

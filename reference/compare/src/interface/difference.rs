@@ -51,6 +51,7 @@ fn buffers(call: &Call) -> Vec<Buffer> {
         Call::FrameBits { .. } | Call::FramePart { .. } | Call::Accept { .. } => Vec::new(),
         Call::HexLine { bytes, .. } => vec![Buffer::bytes("bytes", bytes)],
         Call::RecordLine { line, .. } => vec![Buffer::bytes("line", line)],
+        Call::Compose(compose) => vec![Buffer::bytes("output", &compose.output)],
     }
 }
 

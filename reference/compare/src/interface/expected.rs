@@ -1,13 +1,15 @@
 //! What is expected of a call, by the separate reader.
 
-use super::call::{Call, Open, Take};
+use super::call::{Call, Compose, Open, Take};
 use super::image::{image, state, unspecified_places};
 use super::layout::{
     verdict, DONE, FRAME, IMAGE_WORDS, LINE_BYTES, LIST_FULL, OK, RECORD_LINE_BYTES, RESULT_WORDS,
     UNSOUND, WRONG_BUFFERS, WRONG_PLAN,
 };
 use reader::listing::push_record;
-use reader::{accept, frame_part, hex_line, open, sound, take, Ending, Plan, Record, State};
+use reader::{
+    accept, compose, frame_part, hex_line, open, sound, take, Ending, Plan, Record, State,
+};
 
 #[derive(Clone, Debug)]
 pub struct Expected {
@@ -36,6 +38,7 @@ pub fn expected(call: &Call) -> Expected {
             first,
             count,
         } => accepting(input, *first, *count),
+        Call::Compose(after) => composing(after),
     };
     Expected {
         answer,
@@ -46,7 +49,7 @@ pub fn expected(call: &Call) -> Expected {
 
 /// A refused opening too writes a start state, where there is room for one.
 fn opening(call: &mut Open) -> u64 {
-    let (number, state) = match plan(call) {
+    let (number, state) = match plan([call.mask, call.csr, call.feen, call.cnt]) {
         Some(plan) => open(plan, call.cycle),
         None => (Some(WRONG_PLAN as u8), State::start(Plan::DEFAULT, 0)),
     };
@@ -59,12 +62,12 @@ fn opening(call: &mut Open) -> u64 {
 }
 
 /// `None` where a number is beyond its width: no such address or mask exists.
-fn plan(call: &Open) -> Option<Plan> {
+fn plan([mask, csr, feen, cnt]: [u64; 4]) -> Option<Plan> {
     Some(Plan {
-        mask: call.mask.try_into().ok()?,
-        csr: call.csr.try_into().ok()?,
-        feen: call.feen.try_into().ok()?,
-        cnt: call.cnt.try_into().ok()?,
+        mask: mask.try_into().ok()?,
+        csr: csr.try_into().ok()?,
+        feen: feen.try_into().ok()?,
+        cnt: cnt.try_into().ok()?,
     })
 }
 
@@ -121,6 +124,16 @@ fn accepting(input: &[u8], first: u64, count: u64) -> u64 {
     match accept(input, first, count) {
         Ok(()) => OK,
         Err(fault) => verdict(fault.number().into(), fault.place),
+    }
+}
+
+fn composing(call: &mut Compose) -> u64 {
+    let Some(plan) = plan([call.mask, call.csr, call.feen, call.cnt]) else {
+        return WRONG_PLAN;
+    };
+    match compose(plan, &call.orders, &call.frames, &mut call.output) {
+        Ok(bits) => verdict(OK, bits),
+        Err(why) => verdict(why.number().into(), why.order()),
     }
 }
 

@@ -7,6 +7,7 @@ pub const RESULT_WORDS: usize = 3;
 pub const RECORD_LINE_BYTES: usize = 28;
 pub const LINE_BYTES: usize = 32;
 pub const INPUT_BYTES: usize = 1_048_576;
+pub const ORDER_WORDS: usize = 6;
 /// Layout 1 had a group's first bit in the place of its bits; layout 2 had no
 /// earlier record.
 pub const LAYOUT: u64 = 3;
@@ -24,12 +25,16 @@ pub const WRONG_RANGE: u64 = 5;
 pub const CLOCK_OVER: u64 = 6;
 pub const WRONG_CHARACTER: u64 = 7;
 pub const WRONG_LENGTH: u64 = 8;
+pub const WRONG_ORDER: u64 = 9;
+pub const TOO_FEW_ZEROS: u64 = 10;
+pub const STREAM_TOO_LONG: u64 = 11;
 pub const UNKNOWN_PATTERN: u64 = 13;
 pub const CUT_PATTERN: u64 = 14;
 pub const PATTERN_TOO_CLOSE: u64 = 15;
 
 /// The answer for a stream: the refusal number and the place of the first bit
-/// of the pattern at fault; both 0 if it is accepted.
+/// of the pattern at fault; both 0 if it is accepted. For orders: the refusal
+/// number and the order at fault, or the count of bits composed.
 pub fn verdict(number: u64, place: u64) -> u64 {
     place << 8 | number
 }

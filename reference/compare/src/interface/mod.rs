@@ -7,6 +7,7 @@
 pub mod accepting;
 pub mod call;
 pub mod checker;
+pub mod composing;
 pub mod crowding;
 pub mod cut;
 pub mod difference;
@@ -51,6 +52,7 @@ pub fn compare(driver: &Path, tally: &mut Tally) -> io::Result<()> {
         hits::check(checker)?;
         streams::check(checker)?;
         large::check(checker)?;
-        accepting::check(checker)
+        accepting::check(checker)?;
+        composing::check(checker)
     })
 }

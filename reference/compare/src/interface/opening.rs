@@ -9,10 +9,10 @@ use reader::limits::CLOCK_LIMIT;
 use std::io;
 
 /// Mask, CSR, FEEN, CNT.
-type Numbers = [u64; 4];
+pub type Numbers = [u64; 4];
 
 /// Plans that open. The default has mask 07FF (document 02, F-9), and had 007F.
-const FIT_PLANS: [Numbers; 11] = [
+pub const FIT_PLANS: [Numbers; 11] = [
     [0x07FF, 0, 2, 5],
     [0x07FF, 10, 9, 8],
     [0x07FF, 0, 2, 7],
@@ -28,7 +28,7 @@ const FIT_PLANS: [Numbers; 11] = [
 
 /// Plans that do not: two addresses alike, one out of the mask or beyond
 /// it, or a mask of more than sixteen bits.
-const WRONG_PLANS: [Numbers; 38] = [
+pub const WRONG_PLANS: [Numbers; 38] = [
     [0x07FF, 0, 0, 5],
     [0x07FF, 0, 5, 5],
     [0x07FF, 5, 2, 5],

@@ -1,4 +1,5 @@
-//! The programs on one case, by each delivery of the input.
+//! The programs on one case, by each delivery of the input; those for which
+//! it is not meant refuse it, and are given it as a file.
 
 use super::delivery::Delivery;
 use super::expected::{Expected, Imagined};
@@ -35,10 +36,14 @@ pub fn check(under_test: &UnderTest, case: &Case, scratch: &Scratch) -> Vec<Chec
         input: Arc::from(&case.input[..]),
         file,
     };
-    let fits = |delivery: &Delivery| delivery.takes(given.input.len(), scratch);
     let mut checks = Vec::new();
     for program in Program::ALL {
         let plain = Expected::plain(program, &given.input);
+        let is_meant = (program == Program::Compose) == case.holds_orders();
+        let fits = |delivery: &Delivery| {
+            let takes = delivery.takes(given.input.len(), scratch);
+            takes && (is_meant || *delivery == Delivery::File)
+        };
         for delivery in Delivery::ALL.into_iter().filter(fits) {
             let expected = given.expected(program, delivery, &plain);
             let fault = under_test.run(program, |path| {

@@ -1,4 +1,5 @@
-//! A live pipe: each line's records come before the next line is written.
+//! A live pipe: each line's records, or what is refused in it, come before the
+//! next line is written.
 
 use super::expected::Expected;
 use super::fault::{judge, Fault};
@@ -30,10 +31,14 @@ pub fn cases() -> Vec<Live> {
     let live = |name, left_open| Live {
         case: named(name),
         left_open,
-        programs: Program::ALL.to_vec(),
+        programs: [&Program::LISTING[..], &[Program::Accept]].concat(),
     };
     let accept = |name, left_open| Live {
         programs: vec![Program::Accept],
+        ..live(name, left_open)
+    };
+    let compose = |name, left_open| Live {
+        programs: vec![Program::Compose],
         ..live(name, left_open)
     };
     vec![
@@ -49,6 +54,12 @@ pub fn cases() -> Vec<Live> {
         accept("accept/unknown-across-empty-lines", true),
         accept("accept/close-across-a-line", true),
         accept("accept/line-odd-inside-a-pattern", true),
+        compose("compose/just-the-zeros", false),
+        compose("compose/first-11-zeros-beyond-64-bits", false),
+        compose("compose/wrong-name-a-capture", true),
+        compose("compose/wrong-frame-bits-after-a-reset", true),
+        compose("compose/close-slow-after-ecr", true),
+        compose("compose/first-10-ahead-of-9-in-a-later-line", true),
     ]
 }
 

@@ -13,6 +13,7 @@ pub mod live;
 pub mod pool;
 pub mod running;
 pub mod scratch;
+pub mod sent;
 pub mod situation;
 pub mod situations;
 pub mod started;
@@ -20,7 +21,7 @@ pub mod under_test;
 
 use crate::golden;
 use crate::tally::Tally;
-use cases::{crowded, fixed, generated, hits, noisy, pulsed};
+use cases::{composed, crowded, fixed, generated, hits, noisy, pulsed, Case};
 use scratch::Scratch;
 use situations::Means;
 use std::io;
@@ -28,13 +29,14 @@ use std::path::Path;
 use under_test::UnderTest;
 
 /// Generated streams, ones with noisy front-end groups, ones with commands
-/// crowded together, ones with several hits and ones of pulse programs,
-/// besides all other cases.
+/// crowded together, ones with several hits, ones of pulse programs and texts
+/// of orders, besides all other cases.
 const GENERATED: u64 = 450;
 const NOISY: u64 = 100;
 const CROWDED: u64 = 100;
 const HITS: u64 = 100;
 const PULSED: u64 = 210;
+const COMPOSED: u64 = 330;
 
 /// Compares everything: the repository's golden files and stored runs with
 /// what the separate reader prints now, and the programs in a folder with it on every case. They have an exit
@@ -49,6 +51,7 @@ pub fn compare(programs: &Path, has_status: bool, repository: &Path) -> io::Resu
         crowded(CROWDED),
         hits(HITS),
         pulsed(PULSED),
+        composed(COMPOSED),
     ]
     .concat();
 
@@ -71,6 +74,10 @@ pub fn compare(programs: &Path, has_status: bool, repository: &Path) -> io::Resu
         tally.add(checks);
     }
     for checks in pool::each(&cases, |case| case::check(&under_test, case, &scratch)) {
+        tally.add(checks);
+    }
+    let texts: Vec<Case> = cases.into_iter().filter(Case::holds_orders).collect();
+    for checks in pool::each(&texts, |text| sent::check(&under_test, text, &scratch)) {
         tally.add(checks);
     }
     Ok(tally)

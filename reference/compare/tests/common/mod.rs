@@ -11,9 +11,14 @@ pub fn readers_programs() -> PathBuf {
     build("../reader", &["--bins"])
 }
 
-/// The program that is wrong in many ways, of this package's examples.
+/// The program that is wrong in many ways.
 pub fn wrong_program() -> PathBuf {
-    build(".", &["--example", "wrong"]).join("examples/wrong")
+    example("wrong")
+}
+
+/// One of this package's examples.
+pub fn example(name: &str) -> PathBuf {
+    build(".", &["--example", name]).join("examples").join(name)
 }
 
 /// Builds a part of a package as this test was built; answers the folder.

@@ -3,6 +3,7 @@
 
 mod accept;
 mod calls;
+mod compose;
 mod inputs;
 mod outputs;
 mod words;
@@ -67,13 +68,16 @@ pub fn situations(means: Means) -> Vec<Situation> {
     all.extend(inputs::situations());
     all.extend(outputs::situations());
     all.extend(accept::situations());
+    all.extend(compose::situations());
     if means.faults {
         all.extend(calls::situations());
         all.extend(accept::calls());
+        all.extend(compose::calls());
     }
     if means.disk {
         all.extend(outputs::full_disk());
         all.extend(accept::full_disk());
+        all.extend(compose::full_disk());
     }
     all
 }

@@ -72,7 +72,7 @@ fn written_in_part() -> Vec<Situation> {
             let name = format!("a reader of {after} bytes, {what}");
             let output = Output::Leaves { after, ignored };
             let mut leaves = Situation::new(name, &large()).output(output);
-            // What `accept` prints fits into the pipe before the reader leaves.
+            // What the others print fits into the pipe before the reader leaves.
             leaves.programs = Program::LISTING.to_vec();
             all.push(leaves);
         }
