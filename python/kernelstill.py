@@ -5,7 +5,7 @@ A `Decoder` takes the line's bits, one a clock cycle, and gives a `Record` for
 each command or error. Wherever the bits are cut into calls, the records are
 the same. Here the first call ends inside the second trigger:
 
->>> from kernelstill import Decoder, Refused, accept, hex_line
+>>> from kernelstill import Decoder, Order, Refused, accept, compose, hex_line
 >>> capture = hex_line("B5C074") + hex_line("E0B080")
 >>> decoder = Decoder()
 >>> for record in decoder.take(capture, 0, 26) + decoder.take(capture, 26):
@@ -52,6 +52,18 @@ zero between them, and the timing table asks two:
 >>> accept(hex_line("B0AC20"))
 Verdict(number=15, place=10)
 
+`compose` writes a stream from a list of orders. Here CNT asks 16 bits of the
+frame, and two zeros lie ahead of the trigger:
+
+>>> orders = [Order.wr_register(5, 0x0080), Order.wr_front_end(b"\\xa5\\xc3")]
+>>> stream = compose(orders + [Order.en_data_take(), Order.lv1(zeros=2)])
+>>> for record in Decoder().take(stream.data, 0, stream.bits):
+...     print(record.time, record.name, record.frame)
+32 WrRegister b''
+177 WrFrontEnd b'\\xa5\\xc3'
+194 EnDataTake b''
+201 LV1 b''
+
 The library is the file that KERNELSTILL_LIBRARY names, or else
 lib/libkernelstill.so beside this module's folder, where host/build puts it.
 """
@@ -65,7 +77,7 @@ import os
 import pathlib
 import struct
 from dataclasses import dataclass, field
-from typing import Any, BinaryIO, Iterator, List, NamedTuple, Optional, Tuple, Union
+from typing import Any, BinaryIO, Iterable, Iterator, List, NamedTuple, Optional, Tuple, Union
 
 __all__ = [
     "CLOCK_LIMIT",
@@ -74,14 +86,17 @@ __all__ = [
     "REFUSALS",
     "BytesLike",
     "Decoder",
+    "Order",
     "Phase",
     "Plan",
     "Record",
     "Refused",
     "State",
+    "Stream",
     "Verdict",
     "Warnings",
     "accept",
+    "compose",
     "hex_line",
 ]
 
@@ -97,11 +112,18 @@ _TRAY_BYTES = 8_192
 _RESULT_WORDS = 3
 _RECORD_LINE_BYTES = 28
 _LINE_BYTES = 32
+_ORDER_WORDS = 6
 _DONE, _FRAME = 0, 1
 _WRONG_RANGE = 5
+_WRONG_ORDER, _TOO_FEW_ZEROS = 9, 10
 
 _FIFOS = 16
 _FIFO_WORDS = _STORE_WORDS // _FIFOS
+
+# The bits of the longest command without a frame, WrFifo; and the cycles that
+# a frame's byte lasts at most.
+_COMMAND_BITS = 44
+_FRAME_BYTE_CYCLES = 64
 
 # Records that one call of the library can write; fewer only cost more calls.
 _LIST_RECORDS = 512
@@ -142,6 +164,9 @@ REFUSALS = {
     6: "next cycle + count exceeds 2^48",
     7: "a character is not 0-9 or A-F",
     8: "the count of digits is odd, or above 64",
+    9: "an order has an unknown command, or a used field of the wrong size",
+    10: "an order has too few zeros ahead of its command",
+    11: "the output cannot hold the whole stream, or it passes 2^48 bits",
     13: "a pattern of a stream begins none of LV1, BCR, ECR, CAL and SYNC",
     14: "the stream ends inside a command",
     15: "too few zeros lie ahead of a command",
@@ -164,14 +189,18 @@ class Plan(NamedTuple):
 
 class Refused(Exception):
     """An unfit call was rejected with its `number`; the call that raised it
-    changed nothing."""
+    changed nothing. Numbers 9 and 10 come with the number of the `order` at
+    fault, counted from 0; at the others it is None."""
 
-    def __init__(self, number: int) -> None:
+    def __init__(self, number: int, order: Optional[int] = None) -> None:
         super().__init__(number)
         self.number = number
+        self.order = order
 
     def __str__(self) -> str:
-        return f"refused with {self.number}: {REFUSALS.get(self.number, 'an unknown number')}"
+        place = "" if self.order is None else f" at order {self.order}"
+        text = REFUSALS.get(self.number, "an unknown number")
+        return f"refused with {self.number}{place}: {text}"
 
 
 def _check(number: int) -> None:
@@ -194,6 +223,10 @@ def _load() -> ctypes.CDLL:
         "kernelstill_frame_bits": (u64, [u64, u64]),
         "kernelstill_frame_part": (size, [u8s, size, size]),
         "kernelstill_accept": (u64, [ctypes.c_void_p, size, size, size]),
+        "kernelstill_compose": (
+            u64,
+            [u64, u64, u64, u64, u64s, size, ctypes.c_void_p, size, u8s, size],
+        ),
         "kernelstill_hex_line": (u64, [ctypes.c_void_p, size, u8s, size]),
         "kernelstill_record_line": (u64, [u8s, size, u64, u64]),
     }
@@ -235,6 +268,19 @@ def _within(value: Any, name: str, bits: int) -> int:
     if number >> bits:
         raise OverflowError(f"{name} is beyond {bits} bits: {value}")
     return number
+
+
+def _plan_numbers(plan: Any) -> List[int]:
+    """The four numbers of a plan as the library is lent them."""
+    if not isinstance(plan, (tuple, list)):
+        raise TypeError(f"a plan is four numbers in order, not {type(plan).__name__}")
+    mask, csr, feen, cnt = plan
+    return [
+        _unsigned(mask, "mask"),
+        _unsigned(csr, "csr"),
+        _unsigned(feen, "feen"),
+        _unsigned(cnt, "cnt"),
+    ]
 
 
 def _lent(data: Any) -> Tuple[Any, int]:
@@ -305,6 +351,174 @@ def accept(data: BytesLike, first: int = 0, count: Optional[int] = None) -> Verd
     if number == _WRONG_RANGE:
         raise Refused(number)
     return Verdict(number, place)
+
+
+class Order(NamedTuple):
+    """A command for `compose` to send, by the kind of its record, with its
+    fields and the zeros ahead of it. There is a constructor for each command:
+
+    >>> Order.wr_register(5, 0x0082, zeros=2)
+    Order(kind=32, zeros=2, address=5, value=130, frame=b'', bits=0)
+
+    What a field holds that the command does not use is not looked at, and such
+    a field is sent as zeros. Whether an order is fit is for `compose` to tell.
+    """
+
+    kind: int  # KINDS has the names; a bad Fast or a bad Slow is no command
+    zeros: int = 0  # ahead of the command
+    address: int = 0  # of WrRegister, RdRegister and RdFifo: below 16
+    value: int = 0  # of WrRegister below 2^16, WrFifo below 2^27, GlobalResetFE below 16
+    frame: bytes = b""  # of WrFrontEnd, RdFrontEnd and WrReceiver: its bits, as in a record
+    bits: int = 0  # how many these are: as many as CNT asks
+
+    @property
+    def name(self) -> str:
+        return KINDS.get(self.kind, f"kind {self.kind:02X}")
+
+    @classmethod
+    def lv1(cls, *, zeros: int = 0) -> Order:
+        """A trigger, exact."""
+        return cls(0x01, zeros)
+
+    @classmethod
+    def bcr(cls, *, zeros: int = 0) -> Order:
+        return cls(0x11, zeros)
+
+    @classmethod
+    def ecr(cls, *, zeros: int = 0) -> Order:
+        return cls(0x12, zeros)
+
+    @classmethod
+    def cal(cls, *, zeros: int = 0) -> Order:
+        return cls(0x14, zeros)
+
+    @classmethod
+    def sync(cls, *, zeros: int = 0) -> Order:
+        return cls(0x18, zeros)
+
+    @classmethod
+    def wr_register(cls, address: int, value: int, *, zeros: int = 0) -> Order:
+        """A value of 16 bits to a register, which need not exist. One to CNT
+        holds for the frames behind it."""
+        return cls(0x20, zeros, address, value)
+
+    @classmethod
+    def rd_register(cls, address: int, *, zeros: int = 0) -> Order:
+        return cls(0x21, zeros, address)
+
+    @classmethod
+    def wr_fifo(cls, word: int, *, zeros: int = 0) -> Order:
+        """A word of 27 bits to the FIFOs that FEEN enables."""
+        return cls(0x22, zeros, value=word)
+
+    @classmethod
+    def rd_fifo(cls, number: int, *, zeros: int = 0) -> Order:
+        """A read of FIFO `number`."""
+        return cls(0x23, zeros, number)
+
+    @classmethod
+    def wr_front_end(cls, frame: BytesLike, bits: Optional[int] = None, *, zeros: int = 0) -> Order:
+        """A frame of CNT<2:0> x 8 control bits and then CNT<15:3> data bits,
+        the highest of each byte first: the first `bits` of `frame`, or all.
+        Each lasts eight cycles."""
+        return cls._with_frame(0x24, frame, bits, zeros)
+
+    @classmethod
+    def rd_front_end(cls, frame: BytesLike, bits: Optional[int] = None, *, zeros: int = 0) -> Order:
+        """A frame as by `wr_front_end`."""
+        return cls._with_frame(0x25, frame, bits, zeros)
+
+    @classmethod
+    def wr_receiver(cls, frame: BytesLike, bits: Optional[int] = None, *, zeros: int = 0) -> Order:
+        """A frame of CNT<12:0> x 8 bits, a cycle each."""
+        return cls._with_frame(0x26, frame, bits, zeros)
+
+    @classmethod
+    def en_data_take(cls, *, zeros: int = 0) -> Order:
+        return cls(0x28, zeros)
+
+    @classmethod
+    def global_reset_mcc(cls, *, zeros: int = 0) -> Order:
+        """CNT is 0 for the frames behind it."""
+        return cls(0x29, zeros)
+
+    @classmethod
+    def global_reset_fe(cls, sync_w: int, *, zeros: int = 0) -> Order:
+        """A reset of the front ends, with the 4 bits of SyncW."""
+        return cls(0x2A, zeros, value=sync_w)
+
+    @classmethod
+    def _with_frame(cls, kind: int, frame: BytesLike, bits: Optional[int], zeros: int) -> Order:
+        octets = memoryview(frame).tobytes()
+        return cls(kind, zeros, frame=octets, bits=8 * len(octets) if bits is None else bits)
+
+
+class Stream(NamedTuple):
+    """What `compose` answers: `bits` bits, the highest of each byte first."""
+
+    data: bytes  # the last byte is filled up with zeros
+    bits: int
+
+
+def compose(orders: Iterable[Order], plan: Plan = Plan(), *, limit: int = INPUT_BYTES) -> Stream:
+    """The stream that sends the orders, one after another.
+
+    CNT is 0 at the start, then as the orders write it by the plan's address,
+    and 0 again after GlobalResetMCC; a frame has exactly the bits that it asks.
+    Ahead of each order but the first lie at least the zeros that the timing
+    table asks (see `Record`; a Slow counts as a Fast there, and asks none after
+    itself). A decoder opened at cycle 0 with the same plan gives one record an
+    order for the stream, none of them with flip, unsteady or too close.
+
+    Refused with 1 for the plan; then, order by order, with 9 for an unknown
+    command or a used field of the wrong size, and 10 for too few zeros; last of
+    all with 11 for a stream of more than `limit` bytes or 2^48 bits. By
+    default the limit is what `take` or `accept` takes at once. The room is made
+    by the sizes of the orders, so that a large limit alone costs nothing.
+    """
+    numbers = _plan_numbers(plan)
+    limit = _unsigned(limit, "limit")
+    words: List[int] = []
+    frames = bytearray()
+    ahead = 0
+    for order in orders:
+        if not isinstance(order, Order):
+            raise TypeError(f"an order is an Order, not {type(order).__name__}")
+        zeros = _unsigned(order.zeros, "zeros")
+        octets = memoryview(order.frame).tobytes()
+        bits = _unsigned(order.bits, "bits")
+        words += [
+            _unsigned(order.kind, "kind"),
+            zeros,
+            _unsigned(order.address, "address"),
+            _unsigned(order.value, "value"),
+            # Past all that is lent where the frame has fewer bits than it says:
+            # else those of the frames behind it would be taken.
+            len(frames) if bits <= 8 * len(octets) else 2**64 - 1,
+            bits,
+        ]
+        frames += octets
+        ahead += zeros
+    # No fit order has more bits than are reckoned here. Zeros that alone pass
+    # the library's own limit need no room to be refused.
+    commands = len(words) // _ORDER_WORDS * _COMMAND_BITS
+    most = ahead + commands + len(frames) * _FRAME_BYTE_CYCLES
+    room = min(limit, most // 8 + 1) if ahead <= CLOCK_LIMIT else 0
+    output = (ctypes.c_uint8 * room)()
+    answer = _library.kernelstill_compose(
+        *numbers,
+        (ctypes.c_uint64 * len(words))(*words),
+        len(words),
+        bytes(frames),
+        len(frames),
+        output,
+        room,
+    )
+    number, rest = answer & 0xFF, answer >> 8
+    if number in (_WRONG_ORDER, _TOO_FEW_ZEROS):
+        raise Refused(number, rest)
+    _check(number)
+    return Stream(ctypes.string_at(output, (rest + 7) // 8), rest)
 
 
 class Record(NamedTuple):
@@ -514,16 +728,7 @@ class Decoder:
     __slots__ = ("_image", "_store", "_tray", "_list", "_result")
 
     def __init__(self, plan: Plan = Plan(), cycle: int = 0) -> None:
-        if not isinstance(plan, (tuple, list)):
-            raise TypeError(f"a plan is four numbers in order, not {type(plan).__name__}")
-        mask, csr, feen, cnt = plan
-        numbers = [
-            _unsigned(mask, "mask"),
-            _unsigned(csr, "csr"),
-            _unsigned(feen, "feen"),
-            _unsigned(cnt, "cnt"),
-            _unsigned(cycle, "cycle"),
-        ]
+        numbers = _plan_numbers(plan) + [_unsigned(cycle, "cycle")]
         # Into a new image, since a refused opening writes one too.
         image = (ctypes.c_uint64 * _IMAGE_WORDS)()
         _check(_library.kernelstill_open(*numbers, image, _IMAGE_WORDS))

@@ -1,5 +1,6 @@
 """Tests of the Python module: the header's numbers, cuts, refusals, frames,
-commands sent too close, accepted streams, state, save and resume."""
+commands sent too close, accepted streams, composed streams, state, save and
+resume."""
 
 import array
 import copy
@@ -15,8 +16,8 @@ import struct
 import unittest
 
 import kernelstill
-from kernelstill import CLOCK_LIMIT, INPUT_BYTES, Decoder, Phase, Plan, Record, Refused, Verdict
-from kernelstill import accept, hex_line
+from kernelstill import CLOCK_LIMIT, INPUT_BYTES, Decoder, Order, Phase, Plan, Record, Refused
+from kernelstill import Stream, Verdict, accept, compose, hex_line
 
 ROOT = pathlib.Path(__file__).resolve().parent.parent
 EXAMPLE = [hex_line(line) for line in (ROOT / "examples/capture.hex").read_text().splitlines()]
@@ -54,6 +55,37 @@ def wr_register(address, value):
     return slow(0, address, f"{value:016b}")
 
 
+# The forms of a line of orders, without its zeros, and the zeros.
+HEX, FRAME, ZEROS = "([0-9A-Fa-f]+)", "([0-9A-Fa-f]*)(?::([0-9]+))?", "([0-9]+)"
+FORMS = [
+    "(lv1|bcr|ecr|cal|sync|en-data-take|global-reset-mcc)",
+    f"(rd-register|wr-fifo|rd-fifo|global-reset-fe) {HEX}",
+    f"(wr-register) {HEX} {HEX}",
+    f"(wr-front-end|rd-front-end|wr-receiver) {FRAME}",
+]
+
+
+def order_of(line):
+    """The order of a line of text; one of no kind where its form is wrong, and
+    None where it has no words."""
+    words = re.findall(r"[^ \t\r]+", line.partition(b"#")[0].decode("latin-1"))
+    if not words:
+        return None
+    forms = (re.fullmatch(f"{form}(?: {ZEROS})?", " ".join(words)) for form in FORMS)
+    form = next(filter(None, forms), None)
+    if form is None:
+        return Order(0)
+    name, *fields, zeros = form.groups()
+    if form.re.pattern.startswith(FORMS[-1]):
+        digits, bits = fields[0], int(fields[1] or 4 * len(fields[0]))
+        if bits > 4 * len(digits):
+            return Order(0)
+        fields = [bytes.fromhex(digits + len(digits) % 2 * "0"), bits]
+    else:
+        fields = [int(word, 16) for word in fields]
+    return getattr(Order, name.replace("-", "_"))(*fields, zeros=int(zeros or 0))
+
+
 def in_header():
     """The numbers that the C header defines, by name without KERNELSTILL_; and
     the version, which is a text."""
@@ -83,7 +115,8 @@ class Header(unittest.TestCase):
             self.assertEqual(getattr(kernelstill, name), self.header[name], name)
         lengths = ("IMAGE_WORDS", "STORE_WORDS", "TRAY_BYTES", "RESULT_WORDS")
         lines = ("RECORD_LINE_BYTES", "LINE_BYTES")
-        for name in lengths + lines + ("LAYOUT", "DONE", "FRAME", "WRONG_RANGE"):
+        refusals = ("WRONG_RANGE", "WRONG_ORDER", "TOO_FEW_ZEROS")
+        for name in lengths + lines + refusals + ("ORDER_WORDS", "LAYOUT", "DONE", "FRAME"):
             self.assertEqual(getattr(kernelstill, f"_{name}"), self.header[name], name)
         self.assertEqual(len(Decoder()._list) % self.header["RECORD_WORDS"], 0)
         # In the order in which `take` reads them.
@@ -135,8 +168,35 @@ class Header(unittest.TestCase):
             parts = [eval(macro, {"answer": answer}) for _, macro in macros]
             self.assertEqual(Verdict(*parts), accept(data, first, count))
 
+    def test_order_words(self):
+        """The fields of an order are those of the header's struct."""
+        text = (ROOT / "include/kernelstill.h").read_text()
+        struct_ = re.search(r"^struct kernelstill_order \{(.*?)^\}", text, re.DOTALL | re.MULTILINE)
+        fields = re.findall(r"^ +uint64_t (\w+);", struct_[1], re.MULTILINE)
+        self.assertEqual(tuple(fields), Order._fields)
+        self.assertEqual(len(fields), self.header["ORDER_WORDS"])
+
+    def test_composed_parts(self):
+        macros = dict(self.macros("COMPOSE", "answer"))
+        self.assertEqual(list(macros), ["NUMBER", "BITS", "ORDER"])
+        for orders in ([], [(1, 300)], [(1, 0), (0, 0)], [(0x12, 0)] * 2, [(1, 0), (1, 10**6)]):
+            words = [word for kind, zeros in orders for word in (kind, zeros, 0, 0, 0, 0)]
+            lent = (ctypes.c_uint64 * len(words))(*words)
+            room = (ctypes.c_uint8 * 100)()
+            answer = kernelstill._library.kernelstill_compose(
+                *Plan(), lent, len(lent), b"", 0, room, len(room)
+            )
+            parts = {name: eval(macro, {"answer": answer}) for name, macro in macros.items()}
+            try:
+                bits = compose([Order(*order) for order in orders], limit=len(room)).bits
+                self.assertEqual((parts["NUMBER"], parts["BITS"]), (0, bits))
+            except Refused as refused:
+                self.assertEqual(parts["NUMBER"], refused.number)
+                self.assertEqual(parts["ORDER"], refused.order or 0)
+
     def test_refusals(self):
         names = {"UNSOUND", "CLOCK_OVER", "UNKNOWN_PATTERN", "CUT_PATTERN", "PATTERN_TOO_CLOSE"}
+        names |= {"TOO_FEW_ZEROS", "STREAM_TOO_LONG"}
         names |= {n for n in self.header if n.startswith("WRONG_")}
         self.assertEqual(sorted(self.header[name] for name in names), list(kernelstill.REFUSALS))
         self.assertEqual(self.header["OK"], 0)
@@ -301,6 +361,21 @@ class Golden(unittest.TestCase):
                 verdict = accept(stream)
                 if not verdict and (verdict.number != CUT or not printed):
                     printed = f"!{verdict.number:02X} {verdict.place:012X}\n"
+                self.assertEqual(printed, path.read_text())
+
+    def test_compose(self):
+        """As the program `compose` does it: each order has its line."""
+        for path, lines in self.inputs(".compose"):
+            with self.subTest(path.stem):
+                orders = [order_of(line) for line in lines]
+                numbers = [number for number, order in enumerate(orders, 1) if order]
+                try:
+                    digits = compose(order for order in orders if order).data.hex().upper()
+                    pieces = [digits[at : at + 64] for at in range(0, len(digits), 64)]
+                    printed = "".join(f"{piece}\n" for piece in pieces)
+                except Refused as refused:
+                    line = 0 if refused.order is None else numbers[refused.order]
+                    printed = f"!{refused.number:02X} {line:08X}\n"
                 self.assertEqual(printed, path.read_text())
 
 
@@ -967,6 +1042,442 @@ class Accepting(unittest.TestCase):
         except Refused:
             data.extend(b"\xe8")
         self.assertEqual(len(data), 2)
+
+
+class Composing(unittest.TestCase):
+    """A stream from a list of orders."""
+
+    FASTS = {0x11: BCR, 0x12: ECR, 0x14: CAL, 0x18: SYNC}
+    KINDS = (0x01, *FASTS, *range(0x20, 0x27), 0x28, 0x29, 0x2A)
+    FRAMES = (0x24, 0x25, 0x26)
+    # Each command, with frames for CNT 0.
+    COMMANDS = (
+        Order.lv1(),
+        Order.bcr(),
+        Order.ecr(),
+        Order.cal(),
+        Order.sync(),
+        Order.wr_register(4, 0xFFFF),
+        Order.rd_register(15),
+        Order.wr_fifo(0x7FFFFFF),
+        Order.rd_fifo(15),
+        Order.wr_front_end(b""),
+        Order.rd_front_end(b""),
+        Order.wr_receiver(b""),
+        Order.en_data_take(),
+        Order.global_reset_mcc(),
+        Order.global_reset_fe(15),
+    )
+
+    def refused(self, number, order, orders, *arguments, **named):
+        with self.assertRaises(Refused) as caught:
+            compose(orders, *arguments, **named)
+        refused = caught.exception
+        self.assertEqual((refused.number, refused.order), (number, order))
+        place = "" if order is None else f" at order {order}"
+        text = f"refused with {number}{place}: {kernelstill.REFUSALS[number]}"
+        self.assertEqual(str(refused), text)
+
+    def asked(self, first, second):
+        """The timing table, by kinds."""
+        if second == 0x01:
+            return 4 if first == 0x18 else 0
+        return {0x11: 2, 0x12: 1}.get(first, 0)
+
+    def length(self, kind, cnt):
+        """The bits of a frame."""
+        return 8 * (cnt & 0x1FFF) if kind == 0x26 else (cnt >> 3) + 8 * (cnt & 7)
+
+    def frame(self, order):
+        """A frame's bits, as 0 and 1."""
+        return "".join(f"{octet:08b}" for octet in order.frame)[: order.bits]
+
+    def sent(self, order):
+        """A fit order's bits, in another way: as a text."""
+        ahead, kind = "0" * order.zeros, order.kind
+        if kind == 0x01:
+            return ahead + LV1
+        if kind in self.FASTS:
+            return ahead + self.FASTS[kind]
+        address = order.address if kind in (0x20, 0x21, 0x23) else 0
+        cycles = 1 if kind == 0x26 else 8
+        width = {0x20: 16, 0x22: 27, 0x2A: 4}.get(kind)
+        field5 = {0x21: "0" * 16, 0x23: "0" * 27}.get(kind, "")
+        if width:
+            field5 = f"{order.value:0{width}b}"
+        elif kind in self.FRAMES:
+            field5 = "".join(cycles * bit for bit in self.frame(order))
+        return ahead + slow(kind - 0x20, address, field5)
+
+    def given(self, *orders, **named):
+        """The stream, which is that of the texts."""
+        stream = compose(orders, **named)
+        bits = "".join(map(self.sent, orders))
+        self.assertEqual(stream, (packed(bits), len(bits)))
+        return stream
+
+    def read_back(self, orders, plan):
+        """The stream, read from an opening: a record an order, at its cycle,
+        with its command, its used fields and its frame."""
+        stream, decoder = compose(orders, plan), Decoder(plan)
+        records = decoder.take(stream.data, 0, stream.bits)
+        self.assertEqual([record.kind for record in records], [order.kind for order in orders])
+        cycle = 0
+        for order, record in zip(orders, records):
+            cycle += len(self.sent(order))
+            self.assertEqual(record.time, cycle - 1)
+            self.assertEqual((record.flip, record.unsteady, record.too_close), (False,) * 3)
+            if order.kind in (0x20, 0x21):
+                self.assertEqual(record.value >> 16, order.address)
+            if order.kind == 0x20:
+                self.assertEqual(record.value & 0xFFFF, order.value)
+            if order.kind == 0x22:
+                self.assertEqual(record.value, order.value)
+            if order.kind == 0x23:
+                self.assertEqual(record.value >> 27, order.address)
+            if order.kind == 0x2A:
+                self.assertEqual(record.value, 2 * order.value + 1)
+            if order.kind in self.FRAMES:
+                self.assertEqual(record.frame_bits, order.bits)
+                self.assertEqual(record.frame, packed(self.frame(order)))
+        self.assertEqual((decoder.state.phase, decoder.state.window), (Phase.HUNTING, 0))
+        # The zeros that fill up the last byte add no record.
+        self.assertEqual(decoder.take(stream.data, stream.bits), [])
+        return records
+
+    def random_orders(self, random_, plan, count):
+        """Fit orders, with something in each unused field."""
+        orders, last, cnt = [], None, 0
+        for _ in range(count):
+            kind = random_.choice(self.KINDS)
+            asked = self.asked(last, kind) if orders else 0
+            zeros = asked + random_.choice((0, 0, 0, 1, 2, random_.randrange(40)))
+            address, value = random_.getrandbits(64), random_.getrandbits(64)
+            frame, bits = random_.getrandbits(16).to_bytes(2, "big"), random_.getrandbits(64)
+            if kind in (0x20, 0x21, 0x23):
+                address = random_.choice((plan.cnt, random_.randrange(16)))
+            if kind in (0x20, 0x22, 0x2A):
+                value = random_.getrandbits({0x20: 16, 0x22: 27, 0x2A: 4}[kind])
+            if kind == 0x20 and address == plan.cnt:
+                value = random_.choice((0, 1, 2, 8, 9, 0x42, 0x51, 0x2003, 0xFF))
+            if kind in self.FRAMES:
+                bits = self.length(kind, cnt)
+                # Bits past the count are not looked at.
+                size = (bits + 7) // 8 + random_.randrange(2)
+                frame = bytes(random_.getrandbits(8) for _ in range(size))
+            orders.append(Order(kind, zeros, address, value, frame, bits))
+            if kind == 0x20 and address == plan.cnt:
+                cnt = value
+            if kind == 0x29:
+                cnt = 0
+            last = kind
+        return orders
+
+    def test_nothing(self):
+        self.assertEqual(compose([]), Stream(b"", 0))
+        self.assertEqual(compose([], limit=0), (b"", 0))
+
+    def test_constructors(self):
+        """One for each kind that a command has, by its name."""
+        self.assertEqual([order.kind for order in self.COMMANDS], list(self.KINDS))
+        names = [name for name in kernelstill.KINDS.values() if not name.startswith("bad")]
+        self.assertEqual([order.name for order in self.COMMANDS], names)
+        given = {name for name in vars(Order) if not name.startswith("_")}
+        plain = {re.sub("_", "", name) for name in given - {*Order._fields, "name"}}
+        self.assertEqual(plain, {name.lower() for name in names})
+        for order in self.COMMANDS:
+            self.assertEqual((order.zeros, order.frame, order.bits), (0, b"", 0))
+        self.assertEqual(Order(0x77).name, "kind 77")
+
+    def test_fields(self):
+        """Where each constructor puts what it is given."""
+        self.assertEqual(Order.sync(zeros=7), (0x18, 7, 0, 0, b"", 0))
+        self.assertEqual(Order.wr_register(5, 0x82, zeros=7), (0x20, 7, 5, 0x82, b"", 0))
+        self.assertEqual(Order.rd_register(5, zeros=7), (0x21, 7, 5, 0, b"", 0))
+        self.assertEqual(Order.wr_fifo(0x1234567, zeros=7), (0x22, 7, 0, 0x1234567, b"", 0))
+        self.assertEqual(Order.rd_fifo(5, zeros=7), (0x23, 7, 5, 0, b"", 0))
+        self.assertEqual(Order.global_reset_fe(5, zeros=7), (0x2A, 7, 0, 5, b"", 0))
+        for kind, made in zip(
+            self.FRAMES, (Order.wr_front_end, Order.rd_front_end, Order.wr_receiver)
+        ):
+            self.assertEqual(made(b"\xa5\xc3", zeros=7), (kind, 7, 0, 0, b"\xa5\xc3", 16))
+            self.assertEqual(made(b"\xa5\xc3", 9), (kind, 0, 0, 0, b"\xa5\xc3", 9))
+            self.assertEqual(made(b"\xa5\xc3", bits=0), (kind, 0, 0, 0, b"\xa5\xc3", 0))
+        # The zeros go by name.
+        self.assertRaises(TypeError, Order.lv1, 7)
+        self.assertRaises(TypeError, Order.rd_register, 5, 7)
+        self.assertRaises(TypeError, Order.wr_receiver, b"", 0, 7)
+
+    def test_each_command(self):
+        for order in self.COMMANDS:
+            for zeros in (0, 1, 7, 8, 100):
+                self.given(order._replace(zeros=zeros))
+                self.given(Order.cal(), order._replace(zeros=zeros), Order.cal(zeros=4))
+
+    def test_each_value(self):
+        for value in (0, 1, 2, 0x5055, 0x8000, 0xFFFF):
+            for address in range(16):
+                self.given(Order.wr_register(address, value))
+        for word in (0, 1, 0x1234567, 1 << 26, (1 << 27) - 1):
+            self.given(Order.wr_fifo(word))
+        for number in range(16):
+            self.given(Order.rd_register(number))
+            self.given(Order.rd_fifo(number))
+            self.given(Order.global_reset_fe(number))
+
+    def test_bytes(self):
+        """Document 01's listing, without its flip."""
+        stream = compose([Order.en_data_take(), Order.lv1(), Order.bcr(zeros=3)])
+        self.assertEqual(stream, Stream(data=hex_line("B5C0745840"), bits=34))
+        self.assertEqual((stream.data, stream.bits), tuple(stream))
+
+    def test_unused_fields(self):
+        """They are not looked at, and sent as zeros."""
+        wide = {"address": 2**64 - 1, "value": 2**64 - 1, "frame": b"\xff", "bits": 2**64 - 1}
+        used = {0x20: ("address", "value"), 0x22: ("value",), 0x2A: ("value",)}
+        used.update({0x21: ("address",), 0x23: ("address",)})
+        used.update(dict.fromkeys(self.FRAMES, ("frame", "bits")))
+        for order in self.COMMANDS:
+            unused = {n: word for n, word in wide.items() if n not in used.get(order.kind, ())}
+            self.assertEqual(compose([order._replace(**unused)]), self.given(order))
+
+    def test_unknown_commands(self):
+        for kind in set(range(512)) - set(self.KINDS):
+            self.refused(9, 0, [Order(kind)])
+            self.refused(9, 1, [Order.lv1(), Order(kind)])
+        for kind in self.KINDS:
+            for large in (kind + 256, kind + 2**32, kind + 2**63, kind + 2**64):
+                self.refused(9, 0, [Order(large)])
+
+    def test_wrong_fields(self):
+        for large in (16, 2**16, 2**32, 2**64 - 1, 2**64, 2**64 + 1, 10**30):
+            self.refused(9, 0, [Order.wr_register(large, 0)])
+            self.refused(9, 1, [Order.lv1(), Order.rd_register(large)])
+            self.refused(9, 2, [Order.lv1()] * 2 + [Order.rd_fifo(large)])
+            self.refused(9, 0, [Order.global_reset_fe(large)])
+        for large in (2**16, 2**27, 2**64 + 1):
+            self.refused(9, 0, [Order.wr_register(0, large)])
+        for large in (2**27, 2**32 + 1, 2**64 + 1):
+            self.refused(9, 0, [Order.wr_fifo(large)])
+
+    def test_missing_register(self):
+        (record,) = self.read_back([Order.wr_register(15, 0x1234)], Plan())
+        self.assertTrue(record.missing)
+
+    def test_frames(self):
+        """Each has just the bits that CNT asks."""
+        octets = bytes(range(1, 255)) * 5
+        for cnt in (0, 1, 7, 8, 9, 0x42, 0x80, 0x82, 0x2001, 0xFFFF):
+            ahead = Order.wr_register(5, cnt)
+            for made, kind in ((Order.wr_front_end, 0x24), (Order.rd_front_end, 0x25)):
+                bits = self.length(kind, cnt)
+                self.given(ahead, made(octets, bits))
+                self.given(ahead, made(octets[: (bits + 7) // 8], bits, zeros=3), Order.lv1())
+                for wrong in {bits - 1, bits + 1, 8 * bits, 0, 2**64} - {bits, -1}:
+                    self.refused(9, 1, [ahead, made(octets, wrong)])
+        for cnt in (0, 1, 2, 0x2000, 0x2001, 0xE003, 0x1FFF, 0xFFFF):
+            octets, bits = bytes(8191), self.length(0x26, cnt)
+            ahead = Order.wr_register(5, cnt)
+            self.given(ahead, Order.wr_receiver(octets, bits))
+            for wrong in {bits - 8, bits - 1, bits + 1, bits + 8, 0} - {bits, -1, -8}:
+                self.refused(9, 1, [ahead, Order.wr_receiver(octets, wrong)])
+
+    def test_longest_frame(self):
+        size = 1031
+        octets = random.Random(10).getrandbits(8 * size).to_bytes(size, "big")
+        orders = [Order.wr_register(5, 0xFFFF), Order.rd_front_end(octets, 8247)]
+        *_, record = self.read_back(orders, Plan())
+        self.assertEqual((record.value, record.frame[:-1]), (0x00381FFF, octets[:-1]))
+
+    def test_fewer_bits_lent(self):
+        """The bits of another order's frame do not serve for them."""
+        ahead, whole = Order.wr_register(5, 2), Order.wr_receiver(b"\xa5\xc3")
+        for octets in (b"", b"\xa5"):
+            cut = Order.wr_receiver(octets, 16)
+            self.refused(9, 1, [ahead, cut])
+            self.refused(9, 1, [ahead, cut, whole])
+            self.refused(9, 2, [ahead, whole, cut])
+            self.refused(9, 2, [ahead, whole, cut, whole, whole])
+
+    def test_frame_of_no_bits(self):
+        for octets in (b"", b"\xff"):
+            self.given(Order.wr_front_end(octets, 0), Order.wr_receiver(octets, 0))
+        # A high CNT can ask none of a WrReceiver.
+        self.given(Order.wr_register(5, 0x2000), Order.wr_receiver(b""))
+
+    def test_bytes_like_frames(self):
+        octets = bytes(range(200, 208))
+        spread = bytes(byte for octet in octets for byte in (octet, 0xFF))
+        ahead = Order.wr_register(5, 8)
+        whole = compose([ahead, Order.wr_receiver(octets)])
+        for frame in (
+            bytearray(octets),
+            memoryview(octets),
+            memoryview(spread)[::2],
+            array.array("B", octets),
+            array.array("H", octets),
+        ):
+            order = Order.wr_receiver(frame)
+            self.assertEqual(order, Order.wr_receiver(octets))
+            self.assertEqual(compose([ahead, order]), whole)
+            self.assertEqual(compose([ahead, order._replace(frame=frame)]), whole)
+        for wrong in (None, 5, "A5", [1, 0]):
+            self.assertRaises(TypeError, Order.wr_receiver, wrong)
+            self.assertRaises(TypeError, compose, [ahead, order._replace(frame=wrong)])
+
+    def test_frame_is_copied(self):
+        octets = bytearray(b"\xa5\xc3")
+        order = Order.wr_receiver(octets)
+        octets[:] = b""
+        self.assertEqual((order.frame, order.bits), (b"\xa5\xc3", 16))
+
+    def test_cnt(self):
+        """It is followed by the plan's address, over resets."""
+        frame = Order.wr_receiver(b"\xa5")
+        self.refused(9, 0, [frame])
+        self.refused(9, 1, [Order.wr_register(4, 1), frame])
+        self.refused(9, 1, [Order.rd_register(5), frame])
+        self.given(Order.wr_register(5, 1), Order.wr_register(4, 9), frame, frame)
+        self.given(Order.wr_register(5, 9), Order.wr_register(5, 1), frame)
+        self.refused(9, 2, [Order.wr_register(5, 1), Order.global_reset_mcc(), frame])
+        self.given(Order.wr_register(5, 1), Order.global_reset_mcc(), Order.wr_receiver(b""))
+        self.given(Order.wr_register(5, 1), Order.global_reset_fe(15), frame)
+        other = Plan(0xFFFF, 0, 2, 4)
+        self.given(Order.wr_register(5, 9), Order.wr_register(4, 1), frame, plan=other)
+        self.refused(9, 1, [Order.wr_register(5, 1), frame], other)
+
+    def test_each_pair(self):
+        """With fewer zeros than the timing table asks it is refused."""
+        for first in self.COMMANDS:
+            for second in self.COMMANDS:
+                for zeros in range(6):
+                    orders = Order.cal(), first, second._replace(zeros=zeros)
+                    if zeros < self.asked(first.kind, second.kind):
+                        self.refused(10, 2, orders)
+                    else:
+                        self.given(*orders)
+
+    def test_first_refusal(self):
+        """The plan, then order by order 9 and then 10, last of all 11."""
+        wrong, close, long = Order(0), [Order.bcr(), Order.bcr(zeros=1)], Order.lv1(zeros=2**63)
+        plan = Plan(csr=2)
+        for orders in ([], [wrong], close, [long]):
+            self.refused(1, None, orders, plan)
+        self.refused(10, 1, close + [wrong])
+        self.refused(9, 0, [wrong] + close)
+        self.refused(9, 1, [Order.bcr(), wrong])
+        self.refused(9, 1, [Order.bcr(), Order.rd_register(16)])
+        self.refused(9, 1, [long, wrong])
+        self.refused(10, 2, [long] + close)
+        self.refused(11, None, [long])
+        self.refused(11, None, [Order.lv1()], limit=0)
+
+    def test_plans(self):
+        for wrong in (Plan(0x007F, cnt=7), Plan(cnt=2**64), Plan(mask=2**16 + 0x07FF)):
+            self.refused(1, None, [Order.lv1()], wrong)
+        self.given(Order.lv1(), plan=[0xE000, 13, 14, 15])
+        for wrong in ((), (0x07FF, 0, 2), Plan(csr=-1)):
+            self.assertRaises(ValueError, compose, [], wrong)
+        for wrong in (None, 0x07FF, "plan", Plan(csr=None)):
+            self.assertRaises(TypeError, compose, [], wrong)
+
+    def test_limit(self):
+        for zeros in range(20):
+            orders = [Order.lv1(zeros=zeros), Order.cal()]
+            size = (zeros + 5 + 9 + 7) // 8
+            for limit in (size, size + 1, INPUT_BYTES, 2**48, 2**64, 10**30):
+                self.given(*orders, limit=limit)
+            self.refused(11, None, orders, limit=size - 1)
+        # Orders whose sizes are reckoned too high.
+        self.given(*[Order.lv1()] * 1000, limit=625)
+        self.refused(11, None, [Order.lv1()] * 1000, limit=624)
+
+    def test_longest(self):
+        bits = 8 * INPUT_BYTES
+        stream = compose([Order.lv1(zeros=bits - 10), Order.lv1()])
+        self.assertEqual(stream, (bytes(INPUT_BYTES - 2) + b"\x03\xbd", bits))
+        self.refused(11, None, [Order.lv1(zeros=bits - 9), Order.lv1()])
+        stream = compose([Order.lv1(zeros=bits)], limit=INPUT_BYTES + 1)
+        self.assertEqual(stream, (bytes(INPUT_BYTES) + b"\xe8", bits + 5))
+
+    def test_many_zeros(self):
+        """Sums near 2^64 do not wrap, and no room is made for them."""
+        for zeros in (2**47, CLOCK_LIMIT - 4, CLOCK_LIMIT + 1, 2**63, 2**64 - 1, 2**64, 10**30):
+            for orders in (
+                [Order.lv1(zeros=zeros)],
+                [Order.lv1(zeros=zeros)] * 2,
+                [Order.lv1(zeros=zeros), Order.lv1(zeros=2**64 - zeros % 2**64)],
+            ):
+                self.refused(11, None, orders)
+                if zeros > CLOCK_LIMIT:
+                    self.refused(11, None, orders, limit=2**64)
+
+    def test_read_back(self):
+        random_ = random.Random(11)
+        for count in [1, 2, 3, 5, 20] * 8 + [300]:
+            csr, feen, cnt = random_.sample(range(16), 3)
+            plan = Plan(random_.getrandbits(16) | 1 << csr | 1 << feen | 1 << cnt, csr, feen, cnt)
+            self.read_back(self.random_orders(random_, plan, count), plan)
+
+    def test_example(self):
+        """The session of docs/USING.md has every command."""
+        lines = (ROOT / "examples/orders.txt").read_bytes().splitlines()
+        orders = list(filter(None, map(order_of, lines)))
+        self.read_back(orders, Plan())
+        self.assertEqual({order.kind for order in orders}, set(self.KINDS))
+
+    def test_as_a_text(self):
+        random_ = random.Random(12)
+        self.given(*self.random_orders(random_, Plan(), 500))
+
+    def test_refused_at_each_order(self):
+        random_ = random.Random(13)
+        orders = self.random_orders(random_, Plan(), 60)
+        for at in range(1, 60):
+            ahead, behind = orders[:at], orders[at + 1 :]
+            self.refused(9, at, ahead + [Order(0x1F)] + behind)
+            if self.asked(ahead[-1].kind, orders[at].kind):
+                self.refused(10, at, ahead + [orders[at]._replace(zeros=0)] + behind)
+
+    def test_accepted(self):
+        """Triggers and Fasts alone are a stream that `accept` accepts."""
+        random_ = random.Random(14)
+        for count in list(range(20)) + [2000]:
+            orders, last = [], None
+            for _ in range(count):
+                kind = random_.choice((0x01, *self.FASTS))
+                zeros = self.asked(last, kind) + random_.choice((0, 0, 1, 9))
+                orders.append(Order(kind, zeros))
+                last = kind
+            stream = self.given(*orders)
+            self.assertTrue(accept(stream.data, 0, stream.bits))
+            self.assertTrue(accept(stream.data))
+        stream = compose([Order.lv1(), Order.rd_register(0, zeros=1)])
+        self.assertEqual(accept(stream.data, 0, stream.bits), (UNKNOWN, 6))
+
+    def test_any_iterable(self):
+        orders = Order.lv1(), Order.cal()
+        for given in (list(orders), iter(orders), (order for order in orders)):
+            self.assertEqual(compose(given), compose(orders))
+
+    def test_wrong_arguments(self):
+        for wrong in (None, 5, Order.lv1(), [None], [5], ["lv1"], [(1, 0, 0, 0, b"", 0)]):
+            self.assertRaises(TypeError, compose, wrong)
+        for name in ("kind", "zeros", "address", "value", "bits"):
+            for wrong in (-1, -(2**64)):
+                self.assertRaises(ValueError, compose, [Order.lv1()._replace(**{name: wrong})])
+            for wrong in (1.0, "1", None):
+                self.assertRaises(TypeError, compose, [Order.lv1()._replace(**{name: wrong})])
+        self.assertRaises(ValueError, compose, [], limit=-1)
+        self.assertRaises(TypeError, compose, [], limit=1.0)
+        self.assertRaises(TypeError, compose, [], Plan(), 5)
+
+    def test_pickles(self):
+        for value in (Order.wr_receiver(b"\xa5", 3), compose([Order.lv1()])):
+            self.assertEqual(pickle.loads(pickle.dumps(value)), value)
+        refused = pickle.loads(pickle.dumps(Refused(9, 7)))
+        self.assertEqual((refused.number, refused.order), (9, 7))
+        self.assertEqual(str(refused), str(Refused(9, 7)))
 
 
 class States(unittest.TestCase):
