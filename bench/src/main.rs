@@ -1,9 +1,11 @@
 //! The proved taking call against plain Rust readers that go bit by bit: one
 //! mebibyte each of zeros and of dense commands in one call, and of long frames, in
 //! turns in one run. Then the check of a stream, on the dense commands, against the
-//! separate reader's and against the taking call. Prints nanoseconds a bit (the fastest
-//! turn of each) and the ratios.
+//! separate reader's and against the taking call; and composing such streams, against
+//! the separate composer and against reading them. Prints nanoseconds a bit (the
+//! fastest turn of each) and the ratios.
 
+mod orders;
 mod plain;
 mod streams;
 
@@ -111,8 +113,59 @@ fn measure_checks(buffers: &mut Buffers) {
     }
 }
 
+/// A stream of a list of orders: composed by the proved call and by the
+/// separate composer, and read by the proved calls, which stop at each frame.
+fn composed(list: &orders::List, output: &mut [u8]) -> usize {
+    let answer = bench::compose(&list.words, &list.frames, output);
+    assert_eq!(answer & 0xFF, 0, "{}: an order is refused", list.name);
+    (answer >> 8) as usize
+}
+
+fn separately(list: &orders::List, output: &mut [u8]) -> usize {
+    reader::compose(Plan::DEFAULT, &list.words, &list.frames, output).expect("fit orders") as usize
+}
+
+fn read_back(list: &orders::List, input: &[u8], bits: usize, b: &mut Buffers) {
+    let mut reading = bench::Reading::open();
+    let mut taken = 0;
+    for _ in 0..=list.frame_count {
+        taken += reading.take(input, taken, bits - taken, b);
+    }
+    assert_eq!(taken, bits, "{}: the stream is not read", list.name);
+}
+
+fn measure_composing(buffers: &mut Buffers) {
+    let mut output = vec![0; streams::BYTES];
+    for list in orders::all() {
+        let mut best = [f64::MAX; 3];
+        let bits = composed(&list, &mut output);
+        let input = output.clone();
+        for _ in 0..TURNS {
+            let mut timed = |k: usize, run: &mut dyn FnMut()| {
+                let began = Instant::now();
+                run();
+                best[k] = best[k].min(began.elapsed().as_secs_f64());
+            };
+            timed(0, &mut || assert_eq!(composed(&list, &mut output), bits));
+            timed(1, &mut || assert_eq!(separately(&list, &mut output), bits));
+            timed(2, &mut || read_back(&list, &input, bits, buffers));
+        }
+        let name = list.name;
+        for (k, who) in ["proved compose", "separate composer", "proved take"]
+            .iter()
+            .enumerate()
+        {
+            println!("{name}: {who}: {:.3} ns a bit", best[k] / bits as f64 * 1e9);
+        }
+        for (k, who) in [(1, "separate composer"), (2, "proved take")] {
+            println!("{name}: proved compose / {who}: {:.2}", best[0] / best[k]);
+        }
+    }
+}
+
 fn main() {
     let mut buffers = buffers(streams::BYTES);
+    measure_composing(&mut buffers);
     measure_checks(&mut buffers);
     for (name, calls, readers) in inputs() {
         let readers = &READERS[..readers];
@@ -149,5 +202,16 @@ fn the_readers_write_the_same_records() {
             ));
             assert!(written.all(|w| Some(w) == first), "{name}");
         }
+    }
+}
+
+#[test]
+fn the_composers_write_the_same_bytes() {
+    for list in orders::all() {
+        let mut outputs = [vec![0xEE; streams::BYTES], vec![0xEE; streams::BYTES]];
+        let bits = composed(&list, &mut outputs[0]);
+        assert_eq!(separately(&list, &mut outputs[1]), bits, "{}", list.name);
+        assert!(outputs[0] == outputs[1], "{}", list.name);
+        read_back(&list, &outputs[0], bits, &mut buffers(streams::BYTES));
     }
 }

@@ -7,8 +7,12 @@ use std::path::{Path, PathBuf};
 
 /// The crates that find a bit of the input: the check of a stream, the
 /// cursor, the loops that walk by it, and the taking call. No other crate
-/// names the cursor.
+/// names the cursor, but for the one below.
 const CRATES: [&str; 4] = ["acceptance", "bits", "stretches", "taking"];
+
+/// Walks a frame's lent bits by the cursor as it writes a stream; no call that
+/// takes an input goes through it.
+const WRITER: &str = "stream_writer";
 
 /// What these may hand the input to.
 const LENT_TO: [&str; 7] = [
@@ -143,7 +147,7 @@ fn the_input_is_read_under_the_cursor_alone() {
             .into_string()
             .expect("its name");
         all += 1;
-        if source(&name).contains("Cursor") {
+        if name != WRITER && source(&name).contains("Cursor") {
             cursors.push(name);
         }
     }
