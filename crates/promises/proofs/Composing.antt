@@ -21,9 +21,9 @@ use Rattle.registers.specs.Plan.{planFits}
 use Rattle.timing.specs.Table.{isLv1Kind}
 use Rattle.orders.specs.declared.Context.{Context}
 use Rattle.orders.specs.declared.Composed.{Composed}
-use Rattle.orders.specs.Fields.{Ordered, isSlowKind}
+use Rattle.orders.specs.Fields.{Ordered, isSlowKind, orderFits}
 use Rattle.orders.specs.Streams.{zeros, commandBits, orderBits, streamOf, packed}
-use Rattle.orders.specs.Composing.{start, composed, contextAfter, orderNumber, refusalFrom, roomFits, ComposeResult, composeResult, writtenOf, composeOf}
+use Rattle.orders.specs.Composing.{start, composed, contextAfter, zerosFit, orderNumber, refusalFrom, roomFits, ComposeResult, composeResult, composeOf}
 use Rattle.patterns.specs.Verdicts.{verdictOf, acceptOf}
 use Rattle.decoder.specs.Opening.{openedAt}
 use Rattle.calls.specs.Calls.{carriedBits}
@@ -144,6 +144,20 @@ no-bits plan c n (x ∷ xs) =
     choice (λ (r : Composed). r .bits ≡ 0) (eqb (orderNumber c (x .order) (length (x .lent))) 0)
     (λ _. no-bits plan (contextAfter plan c (x .order)) (n + 1) xs) (λ _. refl)
 
+-- The numbers of orders are below 256.
+refusal-low : (plan : Plan) (c : Context) (n : ℕ) (xs : List Ordered) → refusalFrom plan c n xs .number < 256
+unfolding refusalFrom
+refusal-low plan c n [] = omega arith
+refusal-low plan c n (x ∷ xs) =
+    choice (λ (r : Composed). r .number < 256) (eqb (orderNumber c (x .order) (length (x .lent))) 0)
+    (λ _. refusal-low plan (contextAfter plan c (x .order)) (n + 1) xs)
+    (λ _. choice (λ (m : ℕ). m < 256) (orderFits (c .cnt) (x .order) (length (x .lent)))
+    (λ _. cond-below (zerosFit c (x .order))) (λ _. omega arith))
+  where
+    cond-below : (b : Bool) → cond {A = ℕ} b 0 10 < 256
+    cond-below true = omega arith
+    cond-below false = omega arith
+
 module _ (plan : Plan) (xs : List Ordered) (output : List ℕ) where
   abbrev refusal : Composed
   refusal = refusalFrom plan start 0 xs
@@ -191,6 +205,25 @@ module _ (plan : Plan) (xs : List Ordered) (output : List ℕ) where
   unchanged-by true false enough some = (refl, no-bits plan start 0 xs)
   unchanged-by true true true some = absurd (some refl)
   unchanged-by true true false some = (refl, refl)
+
+  low-by : (fits none enough : Bool) → byTests fits none enough .answer .number < 256
+  low-by false none enough = omega arith
+  low-by true false enough = refusal-low plan start 0 xs
+  low-by true true true = omega arith
+  low-by true true false = omega arith
+
+  pub number-low : composeOf plan xs output .answer .number < 256
+  number-low = subst (λ (r : ComposeResult). r .answer .number < 256) (sym result-by) (low-by (planFits plan) (eqb (refusal .number) 0) room)
+
+  few-by : (fits none enough : Bool) → room ≡ enough → byTests fits none enough .answer .bits ≤ clockLimit
+  few-by false none enough e = omega arith
+  few-by true false enough e = omega (arith, no-bits plan start 0 xs)
+  few-by true true true e =
+      leb-true (length (streamOf xs)) clockLimit (both (leb (length (streamOf xs)) clockLimit) (leb (length (streamOf xs)) (8 * length output)) e .0)
+  few-by true true false e = omega arith
+
+  pub bits-low : composeOf plan xs output .answer .bits ≤ clockLimit
+  bits-low = subst (λ (r : ComposeResult). r .answer .bits ≤ clockLimit) (sym result-by) (few-by (planFits plan) (eqb (refusal .number) 0) room refl)
 
   -- the order that it names
   names-first : (refusal .number ≡ 0 → ⊥) → NamesFirst plan xs refusal

@@ -12,4 +12,5 @@ pub mod Composing
 pub mod Hosts
 pub mod HostCalls
 pub mod HostDemands
+pub mod HostComposing
 pub mod Programs

@@ -7,4 +7,5 @@ pub mod Acceptance
 pub mod Composing
 pub mod Hosts
 pub mod HostCalls
+pub mod HostComposing
 pub mod Programs

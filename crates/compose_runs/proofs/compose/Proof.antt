@@ -32,7 +32,9 @@ start-requires : tie.Need-start-requires Inv-loop μ-loop
 start-requires c κs = search needs
 
 loop-holds : tie.Need-loop-holds Inv-loop μ-loop
-loop-holds c = started _ (replicate 32768 0) (replicate 16384 0) (replicate 1048576 0) (sym (c .before .large-buffer .ensures)) (zeros-long 32768) (zeros-long 16384) (zeros-long 1048576) _ (c .start .ensures)
+loop-holds c =
+    let b1 = c .before in
+    started _ (replicate 32768 0) (replicate 16384 0) (replicate 1048576 0) (sym (b1 .large-buffer .ensures)) (zeros-long 32768) (zeros-long 16384) (zeros-long 1048576) _ (c .start .ensures)
 
 is-over-requires : tie.Need-is-over-requires Inv-loop μ-loop
 is-over-requires c κs = search needs
@@ -53,25 +55,41 @@ returns : tie.Need-returns Inv-loop μ-loop
 returns c = inl refl
 
 array-share-prefix-input : tie.Need-array-share-prefix-input Inv-loop μ-loop
-array-share-prefix-input c = omega (arith, c .before .before .read-input .ensures, c .before .input2 .given)
+array-share-prefix-input c =
+    let b1 = c .before in
+    let b2 = b1 .before in
+    omega (arith, b2 .read-input .ensures, b1 .input2 .given)
 
 slice-aggregate-compose-block : tie.Need-slice-aggregate-compose-block Inv-loop μ-loop
 slice-aggregate-compose-block c = sym (length-take-le _ _ (array-share-prefix-input (c .before)))
 
 slice-aggregate-compose-block-2 : tie.Need-slice-aggregate-compose-block-2 Inv-loop μ-loop
-slice-aggregate-compose-block-2 c = sym (c .before .before .before .before .before .before .before .before .loop .inv .lent .line-long)
+slice-aggregate-compose-block-2 c =
+    let b8 = c .before .before .before .before .before .before .before .before in
+    sym (b8 .loop .inv .lent .line-long)
 
 slice-aggregate-compose-block-3 : tie.Need-slice-aggregate-compose-block-3 Inv-loop μ-loop
-slice-aggregate-compose-block-3 c = sym (c .before .before .before .before .before .before .before .before .before .loop .inv .lent .frame-long)
+slice-aggregate-compose-block-3 c =
+    let b9 = c .before .before .before .before .before .before .before .before .before in
+    sym (b9 .loop .inv .lent .frame-long)
 
 compose-block-requires : tie.Need-compose-block-requires Inv-loop μ-loop
-compose-block-requires c κs = let i = c .before .before .before .before .before .before .before .before .before .before .loop .inv in (i .stands .well-formed, i .lent)
+compose-block-requires c κs =
+    let b10 = c .before .before .before .before .before .before .before .before .before .before in
+    let i = b10 .loop .inv in (i .stands .well-formed, i .lent)
 
 loop-less : tie.Need-loop-less Inv-loop μ-loop
-loop-less c = let h = some (c .before .before .before .before .before .before .before .before .before .before .before) in omega arith
+loop-less c =
+    let b11 = c .before .before .before .before .before .before .before .before .before .before .before in
+    let h = some b11 in omega arith
 
 loop-again : tie.Need-loop-again Inv-loop μ-loop
-loop-again c = after-block (c .before .before .before .before .before .before .before .before .before .before .before .before .before .loop .inv) (c .before .before .before .before .before .before .before .before .input2 .given) (c .before .line2 .given) (c .frame2 .given) (c .before .before .compose-block .ensures)
+loop-again c =
+    let b1 = c .before in
+    let b2 = b1 .before in
+    let b8 = b2 .before .before .before .before .before .before in
+    let b13 = b8 .before .before .before .before .before in
+    after-block (b13 .loop .inv) (b8 .input2 .given) (b1 .line2 .given) (c .frame2 .given) (b2 .compose-block .ensures)
 
 is-over-requires-2 : tie.Need-is-over-requires-2 Inv-loop μ-loop
 is-over-requires-2 c κs = search needs
@@ -83,10 +101,14 @@ slice-aggregate-end-input : tie.Need-slice-aggregate-end-input Inv-loop μ-loop
 slice-aggregate-end-input c = sym (c .before .before .before .before .before .loop .inv .lent .line-long)
 
 slice-aggregate-end-input-2 : tie.Need-slice-aggregate-end-input-2 Inv-loop μ-loop
-slice-aggregate-end-input-2 c = sym (c .before .before .before .before .before .before .loop .inv .lent .frame-long)
+slice-aggregate-end-input-2 c =
+    let b6 = c .before .before .before .before .before .before in
+    sym (b6 .loop .inv .lent .frame-long)
 
 end-input-requires : tie.Need-end-input-requires Inv-loop μ-loop
-end-input-requires c κs = let i = c .before .before .before .before .before .before .before .loop .inv in (i .stands .well-formed, i .lent)
+end-input-requires c κs =
+    let b7 = c .before .before .before .before .before .before .before in
+    let i = b7 .loop .inv in (i .stands .well-formed, i .lent)
 
 outcome-requires : tie.Need-outcome-requires Inv-loop μ-loop
 outcome-requires c κs = c .before .before .end-input .ensures .well-formed
@@ -95,15 +117,24 @@ slice-aggregate-finish : tie.Need-slice-aggregate-finish Inv-loop μ-loop
 slice-aggregate-finish c = sym (c .before .outcome .ensures .long)
 
 slice-aggregate-finish-2 : tie.Need-slice-aggregate-finish-2 Inv-loop μ-loop
-slice-aggregate-finish-2 c = sym (c .before .before .before .before .before .before .before .before .before .before .before .before .before .loop .inv .block)
+slice-aggregate-finish-2 c =
+    let b13 = c .before .before .before .before .before .before .before .before .before .before .before .before .before in
+    sym (b13 .loop .inv .block)
 
 finish-requires : tie.Need-finish-requires Inv-loop μ-loop
 finish-requires c κs =
-    let f = c .before .before .outcome .ensures in
-    (omega (arith, f .within, f .long), c .before .before .before .before .before .before .before .before .before .before .before .before .before .loop .inv .block)
+    let b2 = c .before .before in
+    let b13 = b2 .before .before .before .before .before .before .before .before .before .before .before in
+    let f = b2 .outcome .ensures in
+    (omega (arith, f .within, f .long), b13 .loop .inv .block)
 
 returns-3 : tie.Need-returns-3 Inv-loop μ-loop
-returns-3 c = composed-run (c .before .before .before .before .before .before .before .before .before .before .before .before .before .before .before .loop .inv .stands) (c .before .before .before .before .before .before .before .end-input .ensures) (c .before .before .before .before .outcome .ensures) (c .before .finish .ensures)
+returns-3 c =
+    let b1 = c .before in
+    let b4 = b1 .before .before .before in
+    let b7 = b4 .before .before .before in
+    let b15 = b7 .before .before .before .before .before .before .before .before in
+    composed-run (b15 .loop .inv .stands) (b7 .end-input .ensures) (b4 .outcome .ensures) (b1 .finish .ensures)
 
 pub compose-spec : {M : Type 1} → statement M
 compose-spec =

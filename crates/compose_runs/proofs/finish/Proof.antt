@@ -47,10 +47,13 @@ put-message-requires c κs = search needs
 
 slice-reshare-prefix-tell : tie.Need-slice-reshare-prefix-tell
 slice-reshare-prefix-tell c =
-    let s = (c .before .before .before .before .before .before .before .before .before .before .before .before .before .before .before .before .before .before) in
+    let b2 = c .before .before in
+    let b11 = b2 .before .before .before .before .before .before .before .before .before in
+    let b18 = b11 .before .before .before .before .before .before .before in
+    let s = b18 in
     let r = s .args .outcome .refusal in
-    put-end-within _ (messageOf r) _ 0 _ (c .before .before .put-message .ensures)
-    (omega (arith, order-short (r .reason) (r .line) (r .asked) (r .given), c .before .before .before .before .before .before .before .before .before .before .before .text .given, s .pre .1))
+    put-end-within _ (messageOf r) _ 0 _ (b2 .put-message .ensures)
+    (omega (arith, order-short (r .reason) (r .line) (r .asked) (r .given), b11 .text .given, s .pre .1))
 
 slice-aggregate-tell : tie.Need-slice-aggregate-tell
 slice-aggregate-tell c = sym (length-take-le _ _ (slice-reshare-prefix-tell (c .before)))
@@ -62,7 +65,9 @@ same-length-4 : tie.Need-same-length-4
 same-length-4 c = search needs
 
 returns-4 : tie.Need-returns-4
-returns-4 c = refused-status _ (c .before .before .before .before .before .before .if3 .left)
+returns-4 c =
+    let b6 = c .before .before .before .before .before .before in
+    refused-status _ (b6 .if3 .left)
 
 pub finish-spec : {M : Type 1} → statement M
 finish-spec =

@@ -13,7 +13,9 @@ use Rattle.compose_runs.proofs.write_outcome.Statement.{statement}
 use Rattle.compose_runs.proofs.write_outcome.Tie as tie
 
 slice-aggregate-write-stream : tie.Need-slice-aggregate-write-stream
-slice-aggregate-write-stream c = sym (length-take-le _ _ (c .before .before .before .before .before .before .pre .0))
+slice-aggregate-write-stream c =
+    let b6 = c .before .before .before .before .before .before in
+    sym (length-take-le _ _ (b6 .pre .0))
 
 write-stream-requires : tie.Need-write-stream-requires
 write-stream-requires c κs = search needs
@@ -29,10 +31,12 @@ put-line-requires c κs = search needs
 
 slice-reshare-prefix-write-whole : tie.Need-slice-reshare-prefix-write-whole
 slice-reshare-prefix-write-whole c =
-    let s = (c .before .before .before .before .before .before .before .before .before) in
+    let b2 = c .before .before in
+    let b9 = b2 .before .before .before .before .before .before .before in
+    let s = b9 in
     let r = s .args .outcome .refusal in
     let few = line-length (ascii "!") (r .number ∷ r .line ∷ []) (2 ∷ 8 ∷ []) refl in
-    put-end-within (s .args .text .now) (refusedLine (r .number) (r .line)) _ 0 _ (c .before .before .put-line .ensures) (omega (arith, few, s .pre .1))
+    put-end-within (s .args .text .now) (refusedLine (r .number) (r .line)) _ 0 _ (b2 .put-line .ensures) (omega (arith, few, s .pre .1))
 
 slice-aggregate-write-whole : tie.Need-slice-aggregate-write-whole
 slice-aggregate-write-whole c = sym (length-take-le _ _ (slice-reshare-prefix-write-whole (c .before)))

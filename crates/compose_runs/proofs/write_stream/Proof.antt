@@ -36,16 +36,23 @@ part-put-stream-end c = let e = c .part-end .ensures in omega (arith, e)
 
 put-stream-requires : tie.Need-put-stream-requires Inv-loop μ-loop
 put-stream-requires c κs =
-    let l = c .before .before .before .before .loop in
-    (omega (arith, c .before .before .part-end .ensures, length-take (c .before .before .part-end .result - l .at) (drop (l .at) (c .before .before .before .before .before .before .before .args .bytes .now))), l .inv .1)
+    let b2 = c .before .before in
+    let b4 = b2 .before .before in
+    let b7 = b4 .before .before .before in
+    let l = b4 .loop in
+    (omega (arith, b2 .part-end .ensures, length-take (b2 .part-end .result - l .at) (drop (l .at) (b7 .args .bytes .now))), l .inv .1)
 
 slice-reshare-prefix-write-whole : tie.Need-slice-reshare-prefix-write-whole Inv-loop μ-loop
 slice-reshare-prefix-write-whole c =
-    let l = c .before .before .before .before .before .before .before .loop in
-    let k = c .before .before .before .before .before .part-end in
-    let part = take (k .result - l .at) (drop (l .at) (c .before .before .before .before .before .before .before .before .before .before .args .bytes .now)) in
-    let few : length part ≤ partLimit = omega (arith, k .ensures, length-take (k .result - l .at) (drop (l .at) (c .before .before .before .before .before .before .before .before .before .before .args .bytes .now))) in
-    put-end-within (l .text) (streamText part) _ 0 _ (c .before .before .put-stream .ensures) (omega (arith, part-short part few, l .inv .1))
+    let b2 = c .before .before in
+    let b5 = b2 .before .before .before in
+    let b7 = b5 .before .before in
+    let b10 = b7 .before .before .before in
+    let l = b7 .loop in
+    let k = b5 .part-end in
+    let part = take (k .result - l .at) (drop (l .at) (b10 .args .bytes .now)) in
+    let few : length part ≤ partLimit = omega (arith, k .ensures, length-take (k .result - l .at) (drop (l .at) (b10 .args .bytes .now))) in
+    put-end-within (l .text) (streamText part) _ 0 _ (b2 .put-stream .ensures) (omega (arith, part-short part few, l .inv .1))
 
 slice-aggregate-write-whole : tie.Need-slice-aggregate-write-whole Inv-loop μ-loop
 slice-aggregate-write-whole c = sym (length-take-le _ _ (slice-reshare-prefix-write-whole (c .before)))
@@ -54,19 +61,32 @@ write-whole-requires : tie.Need-write-whole-requires Inv-loop μ-loop
 write-whole-requires c κs = search needs
 
 same-length : tie.Need-same-length Inv-loop μ-loop
-same-length c = c .before .before .before .before .text .given ∙ c .before .before .before .before .before .before .before .before .before .before .loop .inv .1 ∙ sym (c .before .before .before .before .before .before .before .before .before .before .before .before .before .pre)
+same-length c =
+    let b4 = c .before .before .before .before in
+    let b10 = b4 .before .before .before .before .before .before in
+    let b13 = b10 .before .before .before in
+    b4 .text .given ∙ b10 .loop .inv .1 ∙ sym (b13 .pre)
 
 returns : tie.Need-returns Inv-loop μ-loop
 returns c = search needs
 
 loop-less : tie.Need-loop-less Inv-loop μ-loop
-loop-less c = let e = c .before .before .before .before .before .before .before .before .part-end .ensures in omega (arith, e)
+loop-less c =
+    let b8 = c .before .before .before .before .before .before .before .before in
+    let e = b8 .part-end .ensures in omega (arith, e)
 
 loop-again : tie.Need-loop-again Inv-loop μ-loop
-loop-again c = (omega (arith, c .before .before .before .before .before .before .before .before .part-end .ensures), c .before .before .before .before .text .given ∙ c .before .before .before .before .before .before .before .before .before .before .loop .inv .1)
+loop-again c =
+    let b4 = c .before .before .before .before in
+    let b8 = b4 .before .before .before .before in
+    let b10 = b8 .before .before in
+    (omega (arith, b8 .part-end .ensures), b4 .text .given ∙ b10 .loop .inv .1)
 
 same-length-2 : tie.Need-same-length-2 Inv-loop μ-loop
-same-length-2 c = c .before .loop .inv .1 ∙ sym (c .before .before .before .before .pre)
+same-length-2 c =
+    let b1 = c .before in
+    let b4 = b1 .before .before .before in
+    b1 .loop .inv .1 ∙ sym (b4 .pre)
 
 returns-2 : tie.Need-returns-2 Inv-loop μ-loop
 returns-2 c = search needs

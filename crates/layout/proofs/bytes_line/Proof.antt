@@ -38,7 +38,8 @@ none-left c = next-put (feed-left c) (lineFeed ∷ []) [] refl _ _ refl
 
 returns : tie.Need-returns
 returns c =
-    let a = c .before .before .before .args in
+    let b3 = c .before .before .before in
+    let a = b3 .args in
     sym (put-when-full _ _ (bytesLine (a .bytes .now)) (omega (arith, bytes-line-length (a .bytes .now), c .if1 .taken)))
 
 sub-if2 : tie.Need-sub-if2
@@ -49,11 +50,16 @@ add-if2 c = search needs
 
 returns-2 : tie.Need-returns-2
 returns-2 c =
-    let a = c .before .before .before .before .args in
-    sym (put-when-full _ _ (bytesLine (a .bytes .now)) (omega (arith, bytes-line-length (a .bytes .now), c .if2 .taken, c .before .if1 .left)))
+    let b1 = c .before in
+    let b4 = b1 .before .before .before in
+    let a = b4 .args in
+    sym (put-when-full _ _ (bytesLine (a .bytes .now)) (omega (arith, bytes-line-length (a .bytes .now), c .if2 .taken, b1 .if1 .left)))
 
 put-byte-digits-requires : tie.Need-put-byte-digits-requires
-put-byte-digits-requires c κs = next-fits (whole (c .before)) (byteDigits (c .before .before .before .before .before .args .bytes .now)) (lineFeed ∷ []) refl
+put-byte-digits-requires c κs =
+    let b1 = c .before in
+    let b5 = b1 .before .before .before .before in
+    next-fits (whole b1) (byteDigits (b5 .args .bytes .now)) (lineFeed ∷ []) refl
 
 slice-write-out : tie.Need-slice-write-out
 slice-write-out c = let f = feed-left c .fits in omega arith

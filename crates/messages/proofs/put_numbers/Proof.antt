@@ -29,13 +29,20 @@ slice-aggregate-put-labelled-2 : tie.Need-slice-aggregate-put-labelled-2
 slice-aggregate-put-labelled-2 c = search needs
 
 put-labelled-requires-2 : tie.Need-put-labelled-requires-2
-put-labelled-requires-2 c κs = let s = (c .before .before .before .before .before .before .before .before .before .before) in put-room _ (first s) (second s) _ _ _ (c .before .before .before .before .before .put-labelled .ensures) (s .pre)
+put-labelled-requires-2 c κs =
+    let b5 = c .before .before .before .before .before in
+    let b10 = b5 .before .before .before .before .before in
+    let s = b10 in put-room _ (first s) (second s) _ _ _ (b5 .put-labelled .ensures) (s .pre)
 
 same-length : tie.Need-same-length
 same-length c = search needs
 
 returns : tie.Need-returns
-returns c = let s = (c .before .before .before .before .before .before .before .before .before .before .before .before .before) in c .before .before .put-labelled2 .ensures ∙ put-append _ (first s) (second s) _ _ _ (c .before .before .before .before .before .before .before .before .put-labelled .ensures)
+returns c =
+    let b2 = c .before .before in
+    let b8 = b2 .before .before .before .before .before .before in
+    let b13 = b8 .before .before .before .before .before in
+    let s = b13 in b2 .put-labelled2 .ensures ∙ put-append _ (first s) (second s) _ _ _ (b8 .put-labelled .ensures)
 
 pub put-numbers-spec : {M : Type 1} → statement M
 put-numbers-spec =

@@ -29,13 +29,20 @@ slice-aggregate-put-bytes : tie.Need-slice-aggregate-put-bytes
 slice-aggregate-put-bytes c = search needs
 
 put-bytes-requires : tie.Need-put-bytes-requires
-put-bytes-requires c κs = let s = (c .before .before .before .before) in room s _ (long-stream _ (s .args .asked) (s .args .given) (s .args .line) (c .before .before .if1 .taken))
+put-bytes-requires c κs =
+    let b2 = c .before .before in
+    let b4 = b2 .before .before in
+    let s = b4 in room s _ (long-stream _ (s .args .asked) (s .args .given) (s .args .line) (b2 .if1 .taken))
 
 same-length : tie.Need-same-length
 same-length c = search needs
 
 returns : tie.Need-returns
-returns c = let s = (c .before .before .before .before .before .before .before) in rw (long-stream _ (s .args .asked) (s .args .given) (s .args .line) (c .before .before .before .before .before .if1 .taken)) (c .before .before .put-bytes .ensures)
+returns c =
+    let b2 = c .before .before in
+    let b5 = b2 .before .before .before in
+    let b7 = b5 .before .before in
+    let s = b7 in rw (long-stream _ (s .args .asked) (s .args .given) (s .args .line) (b5 .if1 .taken)) (b2 .put-bytes .ensures)
 
 slice-aggregate-put-labelled : tie.Need-slice-aggregate-put-labelled
 slice-aggregate-put-labelled c = search needs
@@ -45,24 +52,33 @@ slice-aggregate-put-labelled-2 c = search needs
 
 put-labelled-requires : tie.Need-put-labelled-requires
 put-labelled-requires c κs =
-    let s = (c .before .before .before .before .before) in
-    let r = room s (first s ++ second s) (refused-line _ (s .args .asked) (s .args .given) (s .args .line) (c .before .before .before .if1 .left)) in
+    let b3 = c .before .before .before in
+    let b5 = b3 .before .before in
+    let s = b5 in
+    let r = room s (first s ++ second s) (refused-line _ (s .args .asked) (s .args .given) (s .args .line) (b3 .if1 .left)) in
     omega (arith, r, length-append (first s) (second s))
 
 put-order-reason-requires : tie.Need-put-order-reason-requires
 put-order-reason-requires c κs =
-    let s = (c .before .before .before .before .before .before .before .before .before) in
-    put-room _ (first s) (second s) _ _ _ (c .before .before .before .put-labelled .ensures)
-    (room s _ (refused-line _ (s .args .asked) (s .args .given) (s .args .line) (c .before .before .before .before .before .before .before .if1 .left)))
+    let b3 = c .before .before .before in
+    let b7 = b3 .before .before .before .before in
+    let b9 = b7 .before .before in
+    let s = b9 in
+    put-room _ (first s) (second s) _ _ _ (b3 .put-labelled .ensures)
+    (room s _ (refused-line _ (s .args .asked) (s .args .given) (s .args .line) (b7 .if1 .left)))
 
 same-length-2 : tie.Need-same-length-2
 same-length-2 c = search needs
 
 returns-2 : tie.Need-returns-2
 returns-2 c =
-    let s = (c .before .before .before .before .before .before .before .before .before .before .before .before) in
-    rw (refused-line _ (s .args .asked) (s .args .given) (s .args .line) (c .before .before .before .before .before .before .before .before .before .before .if1 .left))
-    (c .before .before .put-order-reason .ensures ∙ put-append _ (first s) (second s) _ _ _ (c .before .before .before .before .before .before .put-labelled .ensures))
+    let b2 = c .before .before in
+    let b6 = b2 .before .before .before .before in
+    let b10 = b6 .before .before .before .before in
+    let b12 = b10 .before .before in
+    let s = b12 in
+    rw (refused-line _ (s .args .asked) (s .args .given) (s .args .line) (b10 .if1 .left))
+    (b2 .put-order-reason .ensures ∙ put-append _ (first s) (second s) _ _ _ (b6 .put-labelled .ensures))
 
 pub put-order-spec : {M : Type 1} → statement M
 put-order-spec =

@@ -22,7 +22,12 @@ sized-requires : tie.Need-sized-requires
 sized-requires c κs = search needs
 
 returns-2 : tie.Need-returns-2
-returns-2 c = c .sized .ensures ∙ rw (c .before .read-number .ensures, c .before .before .word .ensures) (simp (sym (c .before .before .before .before .uses-address .ensures) ∙ not-false _ (c .before .before .before .if1 .left)))
+returns-2 c =
+    let b1 = c .before in
+    let b2 = b1 .before in
+    let b3 = b2 .before in
+    let b4 = b3 .before in
+    c .sized .ensures ∙ rw (b1 .read-number .ensures, b2 .word .ensures) (simp (sym (b4 .uses-address .ensures) ∙ not-false _ (b3 .if1 .left)))
 
 pub address-field-spec : {M : Type 1} → statement M
 address-field-spec =

@@ -26,7 +26,12 @@ digit-requires : tie.Need-digit-requires Inv-loop μ-loop
 digit-requires c κs = search needs
 
 returns : tie.Need-returns Inv-loop μ-loop
-returns c = sym (not-digits (c .before .before .before .before .before .before .args .word .now) (c .before .before .before .before .loop .i) (c .before .before .before .loop-test .taken) (omega (arith, c .before .digit .ensures .0, c .if1 .taken))) ∙ c .before .before .before .before .loop .inv .1
+returns c =
+    let b1 = c .before in
+    let b3 = b1 .before .before in
+    let b4 = b3 .before in
+    let b6 = b4 .before .before in
+    sym (not-digits (b6 .args .word .now) (b4 .loop .i) (b3 .loop-test .taken) (omega (arith, b1 .digit .ensures .0, c .if1 .taken))) ∙ b4 .loop .inv .1
 
 add-i : tie.Need-add-i Inv-loop μ-loop
 add-i c = search needs
@@ -36,10 +41,17 @@ loop-less c = search needs
 
 loop-again : tie.Need-loop-again Inv-loop μ-loop
 loop-again c =
-    (omega arith, sym (digits-on (c .before .before .before .before .before .before .args .word .now) (c .before .before .before .before .loop .i) (c .before .before .before .loop-test .taken) (omega (arith, c .before .digit .ensures .0, c .if1 .left))) ∙ c .before .before .before .before .loop .inv .1)
+    let b1 = c .before in
+    let b3 = b1 .before .before in
+    let b4 = b3 .before in
+    let b6 = b4 .before .before in
+    (omega arith, sym (digits-on (b6 .args .word .now) (b4 .loop .i) (b3 .loop-test .taken) (omega (arith, b1 .digit .ensures .0, c .if1 .left))) ∙ b4 .loop .inv .1)
 
 returns-2 : tie.Need-returns-2 Inv-loop μ-loop
-returns-2 c = sym (digits-ended (c .before .before .before .args .word .now) (c .before .loop .i) (c .loop-test .left)) ∙ c .before .loop .inv .1
+returns-2 c =
+    let b1 = c .before in
+    let b3 = b1 .before .before in
+    sym (digits-ended (b3 .args .word .now) (b1 .loop .i) (c .loop-test .left)) ∙ b1 .loop .inv .1
 
 pub are-digits-spec : {M : Type 1} → statement M
 are-digits-spec =

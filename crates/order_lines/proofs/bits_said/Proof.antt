@@ -27,15 +27,21 @@ read-number-requires c κs = search needs
 
 returns : tie.Need-returns
 returns c =
-    let s = (c .before .before .before .before) in
+    let b2 = c .before .before in
+    let b4 = b2 .before .before in
+    let s = b4 in
     c .read-number .ensures ∙ ap decimal (part-rest (s .args .word .now) (s .args .digits + 1))
-    ∙ sym (said-behind (s .args .word .now) (s .args .digits) (s .pre .0) (c .before .before .if1 .taken))
+    ∙ sym (said-behind (s .args .word .now) (s .args .digits) (s .pre .0) (b2 .if1 .taken))
 
 mul-t11 : tie.Need-mul-t11
-mul-t11 c = omega (arith, c .before .before .pre .0, colon-within (c .before .before .args .word .now), c .before .before .pre .1)
+mul-t11 c =
+    let b2 = c .before .before in
+    omega (arith, b2 .pre .0, colon-within (b2 .args .word .now), b2 .pre .1)
 
 returns-2 : tie.Need-returns-2
-returns-2 c = sym (said-by-digits (c .before .before .args .word .now) (c .before .before .args .digits) (c .before .before .pre .0) (c .if1 .left))
+returns-2 c =
+    let b2 = c .before .before in
+    sym (said-by-digits (b2 .args .word .now) (b2 .args .digits) (b2 .pre .0) (c .if1 .left))
 
 pub bits-said-spec : {M : Type 1} → statement M
 bits-said-spec =

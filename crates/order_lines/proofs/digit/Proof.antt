@@ -13,7 +13,9 @@ cast-result : tie.Need-cast-result
 cast-result c = search needs
 
 returns : tie.Need-returns
-returns c = let h = range-low 48 57 (c .before .args .character) (c .if1 .taken) in (simp (c .if1 .taken), omega arith)
+returns c =
+    let b1 = c .before in
+    let h = range-low 48 57 (b1 .args .character) (c .if1 .taken) in (simp (c .if1 .taken), omega arith)
 
 sub-result-2 : tie.Need-sub-result-2
 sub-result-2 c = range-low 65 70 (c .before .before .args .character) (c .if2 .taken) .0
@@ -25,7 +27,10 @@ cast-result-2 : tie.Need-cast-result-2
 cast-result-2 c = search needs
 
 returns-2 : tie.Need-returns-2
-returns-2 c = let h = range-low 65 70 (c .before .before .args .character) (c .if2 .taken) in (simp (c .before .if1 .left, c .if2 .taken), omega arith)
+returns-2 c =
+    let b1 = c .before in
+    let b2 = b1 .before in
+    let h = range-low 65 70 (b2 .args .character) (c .if2 .taken) in (simp (b1 .if1 .left, c .if2 .taken), omega arith)
 
 sub-result-3 : tie.Need-sub-result-3
 sub-result-3 c = range-low 97 102 (c .before .before .before .args .character) (c .if3 .taken) .0
@@ -37,10 +42,17 @@ cast-result-3 : tie.Need-cast-result-3
 cast-result-3 c = search needs
 
 returns-3 : tie.Need-returns-3
-returns-3 c = let h = range-low 97 102 (c .before .before .before .args .character) (c .if3 .taken) in (simp (c .before .before .if1 .left, c .before .if2 .left, c .if3 .taken), omega arith)
+returns-3 c =
+    let b1 = c .before in
+    let b2 = b1 .before in
+    let b3 = b2 .before in
+    let h = range-low 97 102 (b3 .args .character) (c .if3 .taken) in (simp (b2 .if1 .left, b1 .if2 .left, c .if3 .taken), omega arith)
 
 returns-4 : tie.Need-returns-4
-returns-4 c = (simp (c .before .before .if1 .left, c .before .if2 .left, c .if3 .left), omega arith)
+returns-4 c =
+    let b1 = c .before in
+    let b2 = b1 .before in
+    (simp (b2 .if1 .left, b1 .if2 .left, c .if3 .left), omega arith)
 
 pub digit-spec : {M : Type 1} → statement M
 digit-spec =

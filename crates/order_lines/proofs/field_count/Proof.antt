@@ -31,8 +31,13 @@ add-result-2 c = search needs
 
 returns : tie.Need-returns
 returns c =
-    let w = c .before .before .before .value-width .ensures .0 in
-    (rw (c .before .before .before .before .one-if .ensures .0, c .before .before .one-if2 .ensures .0, c .one-if3 .ensures .0, c .before .before .before .before .before .uses-address .ensures, w, c .before .is-frame-kind .ensures), omega arith)
+    let b1 = c .before in
+    let b2 = b1 .before in
+    let b3 = b2 .before in
+    let b4 = b3 .before in
+    let b5 = b4 .before in
+    let w = b3 .value-width .ensures .0 in
+    (rw (b4 .one-if .ensures .0, b2 .one-if2 .ensures .0, c .one-if3 .ensures .0, b5 .uses-address .ensures, w, b1 .is-frame-kind .ensures), omega arith)
 
 pub field-count-spec : {M : Type 1} → statement M
 field-count-spec =

@@ -16,23 +16,33 @@ is-frame-kind-requires c κs = search needs
 
 returns : tie.Need-returns
 returns c =
-    let e : isFrameKind (c .before .before .before .before .args .kind) ≡ false = sym (c .before .is-frame-kind .ensures) ∙ not-true _ (c .if1 .taken) in
+    let b1 = c .before in
+    let b4 = b1 .before .before .before in
+    let e : isFrameKind (b4 .args .kind) ≡ false = sym (b1 .is-frame-kind .ensures) ∙ not-true _ (c .if1 .taken) in
     record { same = simp e; within = omega arith }
 
 word-requires : tie.Need-word-requires
 word-requires c κs = search needs
 
 read-frame-requires : tie.Need-read-frame-requires
-read-frame-requires c κs = (omega (arith, ap length (c .before .word .ensures), word-short (c .before .before .before .before .before .before .args .text .now) 1, c .before .before .before .before .before .before .pre .0), c .before .before .before .before .before .before .pre .1)
+read-frame-requires c κs =
+    let b1 = c .before in
+    let b6 = b1 .before .before .before .before .before in
+    (omega (arith, ap length (b1 .word .ensures), word-short (b6 .args .text .now) 1, b6 .pre .0), b6 .pre .1)
 
 same-length : tie.Need-same-length
 same-length c = search needs
 
 returns-2 : tie.Need-returns-2
 returns-2 c =
-    let e : isFrameKind (c .before .before .before .before .before .before .before .before .before .args .kind) ≡ true = sym (c .before .before .before .before .before .before .is-frame-kind .ensures) ∙ not-false _ (c .before .before .before .before .before .if1 .left) in
-    let f = c .before .before .read-frame .ensures in
-    record { same = f .same ∙ rw (c .before .before .before .before .word .ensures) (simp e); within = f .within }
+    let b2 = c .before .before in
+    let b4 = b2 .before .before in
+    let b5 = b4 .before in
+    let b6 = b5 .before in
+    let b9 = b6 .before .before .before in
+    let e : isFrameKind (b9 .args .kind) ≡ true = sym (b6 .is-frame-kind .ensures) ∙ not-false _ (b5 .if1 .left) in
+    let f = b2 .read-frame .ensures in
+    record { same = f .same ∙ rw (b4 .word .ensures) (simp e); within = f .within }
 
 pub frame-field-spec : {M : Type 1} → statement M
 frame-field-spec =

@@ -7,7 +7,9 @@ use Rattle.order_lines.proofs.half_at.Statement.{statement}
 use Rattle.order_lines.proofs.half_at.Tie as tie
 
 returns : tie.Need-returns
-returns c = (rw (List·getD-eq-default (c .before .before .args .digits .now) 0 {n = c .before .before .args .i} (c .if1 .taken)), omega arith)
+returns c =
+    let b2 = c .before .before in
+    (rw (List·getD-eq-default (b2 .args .digits .now) 0 {n = b2 .args .i} (c .if1 .taken)), omega arith)
 
 shared-slice-read-digit : tie.Need-shared-slice-read-digit
 shared-slice-read-digit c = search needs

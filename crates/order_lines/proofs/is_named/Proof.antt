@@ -16,9 +16,11 @@ same-requires c κs = search needs
 
 returns : tie.Need-returns
 returns c =
-    let s = (c .before .before .before .before .before) in
+    let b1 = c .before in
+    let b5 = b1 .before .before .before .before in
+    let s = b5 in
     compared _ _ _ (c .same .ensures .0) (c .same .ensures .1)
-    ∙ ap (sameWord (s .args .name .now)) (c .before .word .ensures ∙ name-told (s .args .place))
+    ∙ ap (sameWord (s .args .name .now)) (b1 .word .ensures ∙ name-told (s .args .place))
 
 pub is-named-spec : {M : Type 1} → statement M
 is-named-spec = tie.close (tie.spec word-requires same-requires returns)

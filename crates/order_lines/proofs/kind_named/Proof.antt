@@ -23,7 +23,12 @@ kind-at-requires : tie.Need-kind-at-requires Inv-loop μ-loop
 kind-at-requires c κs = search needs
 
 returns : tie.Need-returns Inv-loop μ-loop
-returns c = c .kind-at .ensures ∙ name-found (c .before .before .before .before .loop .inv) (c .before .before .before .loop-test .taken) (sym (c .before .before .is-named .ensures) ∙ c .before .if1 .taken)
+returns c =
+    let b1 = c .before in
+    let b2 = b1 .before in
+    let b3 = b2 .before in
+    let b4 = b3 .before in
+    c .kind-at .ensures ∙ name-found (b4 .loop .inv) (b3 .loop-test .taken) (sym (b2 .is-named .ensures) ∙ b1 .if1 .taken)
 
 add-place : tie.Need-add-place Inv-loop μ-loop
 add-place c = search needs
@@ -32,7 +37,11 @@ loop-less : tie.Need-loop-less Inv-loop μ-loop
 loop-less c = search needs
 
 loop-again : tie.Need-loop-again Inv-loop μ-loop
-loop-again c = name-next (c .before .before .before .loop .inv) (c .before .before .loop-test .taken) (sym (c .before .is-named .ensures) ∙ c .if1 .left)
+loop-again c =
+    let b1 = c .before in
+    let b2 = b1 .before in
+    let b3 = b2 .before in
+    name-next (b3 .loop .inv) (b2 .loop-test .taken) (sym (b1 .is-named .ensures) ∙ c .if1 .left)
 
 returns-2 : tie.Need-returns-2 Inv-loop μ-loop
 returns-2 c = name-none (c .before .loop .inv) (c .loop-test .left)

@@ -18,7 +18,9 @@ abbrev μ-loop : tie.MeasureT-loop
 μ-loop digits bytes₀ n₀ bytes n = length digits + 1 - 2 * n
 
 loop-holds : tie.Need-loop-holds Inv-loop μ-loop
-loop-holds c = (omega arith, none-put _ _ _ (omega (arith, bytes-few (c .before .before .args .digits .now), c .before .before .pre)))
+loop-holds c =
+    let b2 = c .before .before in
+    (omega arith, none-put _ _ _ (omega (arith, bytes-few (b2 .args .digits .now), b2 .pre)))
 
 mul-loop : tie.Need-mul-loop Inv-loop μ-loop
 mul-loop c = omega (arith, c .before .before .before .pre)
@@ -49,8 +51,11 @@ cast-bytes c = search needs
 
 slice-write-bytes : tie.Need-slice-write-bytes Inv-loop μ-loop
 slice-write-bytes c =
-    let d = c .before .before .before .before .before .before .args .digits .now in
-    omega (arith, next-fits (c .before .before .before .loop .inv .1) (_ ∷ []) _ (bytes-next d (c .before .before .before .loop .n) (c .before .before .loop-test .taken)))
+    let b2 = c .before .before in
+    let b3 = b2 .before in
+    let b6 = b3 .before .before .before in
+    let d = b6 .args .digits .now in
+    omega (arith, next-fits (b3 .loop .inv .1) (_ ∷ []) _ (bytes-next d (b3 .loop .n) (b2 .loop-test .taken)))
 
 add-n : tie.Need-add-n Inv-loop μ-loop
 add-n c = search needs
@@ -60,14 +65,21 @@ loop-less c = search needs
 
 loop-again : tie.Need-loop-again Inv-loop μ-loop
 loop-again c =
-    let d = c .before .before .before .before .before .before .args .digits .now in
-    (omega arith, next-put (c .before .before .before .loop .inv .1) (_ ∷ []) _ (bytes-next d (c .before .before .before .loop .n) (c .before .before .loop-test .taken)) _ _ (rw (c .before .half-at .ensures .0, c .half-at2 .ensures .0)))
+    let b1 = c .before in
+    let b2 = b1 .before in
+    let b3 = b2 .before in
+    let b6 = b3 .before .before .before in
+    let d = b6 .args .digits .now in
+    (omega arith, next-put (b3 .loop .inv .1) (_ ∷ []) _ (bytes-next d (b3 .loop .n) (b2 .loop-test .taken)) _ _ (rw (b1 .half-at .ensures .0, c .half-at2 .ensures .0)))
 
 same-length : tie.Need-same-length Inv-loop μ-loop
 same-length c = c .before .loop .inv .1 .same-length
 
 returns : tie.Need-returns Inv-loop μ-loop
-returns c = all-put (c .before .loop .inv .1) (bytes-done (c .before .before .before .before .args .digits .now) (c .before .loop .n) (c .loop-test .left))
+returns c =
+    let b1 = c .before in
+    let b4 = b1 .before .before .before in
+    all-put (b1 .loop .inv .1) (bytes-done (b4 .args .digits .now) (b1 .loop .n) (c .loop-test .left))
 
 pub put-digits-spec : {M : Type 1} → statement M
 put-digits-spec =

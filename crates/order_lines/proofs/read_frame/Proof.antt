@@ -16,7 +16,7 @@ use Rattle.order_lines.proofs.read_frame.Statement.{statement}
 use Rattle.order_lines.proofs.read_frame.Tie as tie
 
 -- the digits are those ahead of the colon
-ahead : (c : tie.After-colon-place) → take (c .colon-place .result) (c .before .before .before .args .word .now) ≡ upToColon (c .before .before .before .args .word .now)
+ahead : (c : tie.After-colon-place) → let word = c .before .before .before .args .word .now in take (c .colon-place .result) word ≡ upToColon word
 ahead c =
     let word = c .before .before .before .args .word .now in
     ap (λ (n : ℕ). take n word) (c .colon-place .ensures) ∙ colon-take word
@@ -37,33 +37,52 @@ are-digits-requires : tie.Need-are-digits-requires
 are-digits-requires c κs = search needs
 
 returns : tie.Need-returns
-returns c = frame-wrong _ (no-digits _ (sym (ap areDigits (ahead (c .before .before .before .before))) ∙ sym (c .before .are-digits .ensures) ∙ not-true _ (c .if1 .taken)))
+returns c =
+    let b1 = c .before in
+    let b4 = b1 .before .before .before in
+    frame-wrong _ (no-digits _ (sym (ap areDigits (ahead b4)) ∙ sym (b1 .are-digits .ensures) ∙ not-true _ (c .if1 .taken)))
 
 mul-if2 : tie.Need-mul-if2
-mul-if2 c = omega (arith, within (c .before .before .before .before .before), c .before .before .before .before .before .before .before .before .pre .0)
+mul-if2 c =
+    let b5 = c .before .before .before .before .before in
+    let b8 = b5 .before .before .before in
+    omega (arith, within b5, b8 .pre .0)
 
 returns-2 : tie.Need-returns-2
 returns-2 c =
-    let d = sym (ap areDigits (ahead (c .before .before .before .before .before .before .before))) ∙ sym (c .before .before .before .before .are-digits .ensures) ∙ not-false _ (c .before .before .before .if1 .left) in
-    frame-wrong _ (wrong-bits _ d _ _ (c .before .before .before .before .before .before .bits-said .ensures) (c .before .before .before .before .before .before .before .colon-place .ensures) (c .if2 .taken))
+    let b3 = c .before .before .before in
+    let b4 = b3 .before in
+    let b6 = b4 .before .before in
+    let b7 = b6 .before in
+    let d = sym (ap areDigits (ahead b7)) ∙ sym (b4 .are-digits .ensures) ∙ not-false _ (b3 .if1 .left) in
+    frame-wrong _ (wrong-bits _ d _ _ (b6 .bits-said .ensures) (b7 .colon-place .ensures) (c .if2 .taken))
 
 put-digits-requires : tie.Need-put-digits-requires
 put-digits-requires c κs =
-    let short = length-take-le (c .before .before .before .before .before .before .before .before .colon-place .result) (c .before .before .before .before .before .before .before .before .before .before .before .args .word .now) (within (c .before .before .before .before .before .before .before .before)) in
-    (omega (arith, short, within (c .before .before .before .before .before .before .before .before), c .before .before .before .before .before .before .before .before .before .before .before .pre .0), c .before .before .before .before .before .before .before .before .before .before .before .pre .1)
+    let b8 = c .before .before .before .before .before .before .before .before in
+    let b11 = b8 .before .before .before in
+    let short = length-take-le (b8 .colon-place .result) (b11 .args .word .now) (within b8) in
+    (omega (arith, short, within b8, b11 .pre .0), b11 .pre .1)
 
 same-length : tie.Need-same-length
 same-length c = search needs
 
 returns-3 : tie.Need-returns-3
 returns-3 c =
-    let k = (c .before .before .before .before .before .before .before .before .before .before .before) in
-    let s = (c .before .before .before .before .before .before .before .before .before .before .before .before .before .before) in
+    let b2 = c .before .before in
+    let b4 = b2 .before .before in
+    let b7 = b4 .before .before .before in
+    let b8 = b7 .before in
+    let b10 = b8 .before .before in
+    let b11 = b10 .before in
+    let b14 = b11 .before .before .before in
+    let k = b11 in
+    let s = b14 in
     let word = s .args .word .now in
-    let d = sym (ap areDigits (ahead k)) ∙ sym (c .before .before .before .before .before .before .before .before .are-digits .ensures) ∙ not-false _ (c .before .before .before .before .before .before .before .if1 .left) in
-    frame-put (s .args .bytes .now) (upToColon word) _ _ _ (c .before .before .put-digits .ensures ∙ ap (λ (l : List ℕ). putAll (s .args .bytes .now) 0 (bytesOf l)) (ahead k))
+    let d = sym (ap areDigits (ahead k)) ∙ sym (b8 .are-digits .ensures) ∙ not-false _ (b7 .if1 .left) in
+    frame-put (s .args .bytes .now) (upToColon word) _ _ _ (b2 .put-digits .ensures ∙ ap (λ (l : List ℕ). putAll (s .args .bytes .now) 0 (bytesOf l)) (ahead k))
     (omega (arith, bytes-few (upToColon word), colon-within word, s .pre))
-    (right-bits word d _ _ (c .before .before .before .before .before .before .before .before .before .before .bits-said .ensures) (k .colon-place .ensures) (c .before .before .before .before .if2 .left))
+    (right-bits word d _ _ (b10 .bits-said .ensures) (k .colon-place .ensures) (b4 .if2 .left))
 
 pub read-frame-spec : {M : Type 1} → statement M
 read-frame-spec =

@@ -16,7 +16,7 @@ use Rattle.order_lines.proofs.read_line.Tie as tie
 within : (c : tie.After-comment-place) → c .comment-place .result ≤ length (c .before .before .before .args .line .now)
 within c = omega (arith, c .comment-place .ensures, comment-within (c .before .before .before .args .line .now))
 
-ahead : (c : tie.After-comment-place) → take (c .comment-place .result) (c .before .before .before .args .line .now) ≡ uncommented (c .before .before .before .args .line .now)
+ahead : (c : tie.After-comment-place) → let line = c .before .before .before .args .line .now in take (c .comment-place .result) line ≡ uncommented line
 ahead c =
     let line = c .before .before .before .args .line .now in
     ap (λ (n : ℕ). take n line) (c .comment-place .ensures) ∙ uncommented-take line
@@ -29,17 +29,22 @@ slice-aggregate-read-text c = sym (length-take-le _ _ (within (c .before)))
 
 read-text-requires : tie.Need-read-text-requires
 read-text-requires c κs =
-    let short = length-take-le (c .before .before .comment-place .result) (c .before .before .before .before .before .args .line .now) (within (c .before .before)) in
-    (omega (arith, short, within (c .before .before), c .before .before .before .before .before .pre .0), c .before .before .before .before .before .pre .1)
+    let b2 = c .before .before in
+    let b5 = b2 .before .before .before in
+    let short = length-take-le (b2 .comment-place .result) (b5 .args .line .now) (within b2) in
+    (omega (arith, short, within b2, b5 .pre .0), b5 .pre .1)
 
 same-length : tie.Need-same-length
 same-length c = search needs
 
 returns : tie.Need-returns
 returns c =
-    let line = c .before .before .before .before .before .before .before .before .args .line .now in
-    let r = c .before .before .read-text .ensures in
-    record { same = r .same ∙ ap (λ (l : List ℕ). wordsMeaning (wordsIn l)) (ahead (c .before .before .before .before .before)); within = r .within; long = r .long }
+    let b2 = c .before .before in
+    let b5 = b2 .before .before .before in
+    let b8 = b5 .before .before .before in
+    let line = b8 .args .line .now in
+    let r = b2 .read-text .ensures in
+    record { same = r .same ∙ ap (λ (l : List ℕ). wordsMeaning (wordsIn l)) (ahead b5); within = r .within; long = r .long }
 
 pub read-line-spec : {M : Type 1} → statement M
 read-line-spec =

@@ -27,10 +27,16 @@ digit-requires : tie.Need-digit-requires Inv-loop μ-loop
 digit-requires c κs = search needs
 
 returns-2 : tie.Need-returns-2 Inv-loop μ-loop
-returns-2 c = number-wrong (c .before .before .before .before .loop .inv) (c .before .before .before .loop-test .taken) (omega (arith, c .before .digit .ensures .0, c .if2 .taken))
+returns-2 c =
+    let b1 = c .before in
+    let b3 = b1 .before .before in
+    let b4 = b3 .before in
+    number-wrong (b4 .loop .inv) (b3 .loop-test .taken) (omega (arith, b1 .digit .ensures .0, c .if2 .taken))
 
 with-digit-requires : tie.Need-with-digit-requires Inv-loop μ-loop
-with-digit-requires c κs = (c .before .before .before .before .before .before .before .pre, c .if2 .left)
+with-digit-requires c κs =
+    let b7 = c .before .before .before .before .before .before .before in
+    (b7 .pre, c .if2 .left)
 
 add-i : tie.Need-add-i Inv-loop μ-loop
 add-i c = search needs
@@ -40,8 +46,12 @@ loop-less c = search needs
 
 loop-again : tie.Need-loop-again Inv-loop μ-loop
 loop-again c =
-    let d = c .before .before .digit .ensures .0 in
-    rw (c .with-digit .ensures, d) (number-next (c .before .before .before .before .before .loop .inv) (c .before .before .before .before .loop-test .taken) (omega (arith, d, c .before .if2 .left)))
+    let b1 = c .before in
+    let b2 = b1 .before in
+    let b4 = b2 .before .before in
+    let b5 = b4 .before in
+    let d = b2 .digit .ensures .0 in
+    rw (c .with-digit .ensures, d) (number-next (b5 .loop .inv) (b4 .loop-test .taken) (omega (arith, d, b1 .if2 .left)))
 
 returns-3 : tie.Need-returns-3 Inv-loop μ-loop
 returns-3 c = number-done (c .before .loop .inv) (c .loop-test .left)

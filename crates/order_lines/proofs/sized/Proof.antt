@@ -14,13 +14,15 @@ shl-if1 c = search needs
 
 returns : tie.Need-returns
 returns c =
-    let s = (c .before .before .before) in
+    let b3 = c .before .before .before in
+    let s = b3 in
     let n = s .args .number in
     sized-kept (s .args .width) n (ap (λ (m : ℕ). n .right && ltb (n .value) m) (sym (two-to-width (s .args .width) (s .pre))) ∙ c .if1 .taken)
 
 returns-2 : tie.Need-returns-2
 returns-2 c =
-    let s = (c .before .before .before) in
+    let b3 = c .before .before .before in
+    let s = b3 in
     let n = s .args .number in
     sized-wrong (s .args .width) n (ap (λ (m : ℕ). n .right && ltb (n .value) m) (sym (two-to-width (s .args .width) (s .pre))) ∙ c .if1 .left)
 

@@ -15,8 +15,10 @@ value-width-requires c κs = search needs
 
 returns : tie.Need-returns
 returns c =
-    let width = valueWidth (c .before .before .before .args .kind) in
-    simp (le-ltb 0 width (omega (arith, c .before .value-width .ensures, c .if1 .taken)))
+    let b1 = c .before in
+    let b3 = b1 .before .before in
+    let width = valueWidth (b3 .args .kind) in
+    simp (le-ltb 0 width (omega (arith, b1 .value-width .ensures, c .if1 .taken)))
 
 uses-address-requires : tie.Need-uses-address-requires
 uses-address-requires c κs = search needs
@@ -38,11 +40,18 @@ sized-requires c κs = search needs
 
 returns-2 : tie.Need-returns-2
 returns-2 c =
-    let width = valueWidth (c .before .before .before .before .before .before .before .before .args .kind) in
-    let w = c .before .before .before .before .before .before .value-width .ensures in
-    let some : ltb 0 width ≡ true = lt-ltb 0 width (omega (arith, w, c .before .before .before .before .before .if1 .left)) in
+    let b1 = c .before in
+    let b2 = b1 .before in
+    let b3 = b2 .before in
+    let b4 = b3 .before in
+    let b5 = b4 .before in
+    let b6 = b5 .before in
+    let b8 = b6 .before .before in
+    let width = valueWidth (b8 .args .kind) in
+    let w = b6 .value-width .ensures in
+    let some : ltb 0 width ≡ true = lt-ltb 0 width (omega (arith, w, b5 .if1 .left)) in
     c .sized .ensures
-    ∙ rw (c .before .read-number .ensures, c .before .before .word .ensures, w .0, c .before .before .before .one-if .ensures .0, c .before .before .before .before .uses-address .ensures) (simp some)
+    ∙ rw (b1 .read-number .ensures, b2 .word .ensures, w .0, b3 .one-if .ensures .0, b4 .uses-address .ensures) (simp some)
 
 pub value-field-spec : {M : Type 1} → statement M
 value-field-spec =

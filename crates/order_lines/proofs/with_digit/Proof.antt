@@ -8,10 +8,14 @@ use Rattle.order_lines.proofs.with_digit.Statement.{statement}
 use Rattle.order_lines.proofs.with_digit.Tie as tie
 
 mul-result : tie.Need-mul-result
-mul-result c = omega (arith, digit-room (c .before .args .base) (c .before .args .number) (c .before .args .digit) (c .before .pre .0) (c .if1 .taken) (c .before .pre .1))
+mul-result c =
+    let b1 = c .before in
+    omega (arith, digit-room (b1 .args .base) (b1 .args .number) (b1 .args .digit) (b1 .pre .0) (c .if1 .taken) (b1 .pre .1))
 
 add-result : tie.Need-add-result
-add-result c = omega (arith, digit-room (c .before .args .base) (c .before .args .number) (c .before .args .digit) (c .before .pre .0) (c .if1 .taken) (c .before .pre .1))
+add-result c =
+    let b1 = c .before in
+    omega (arith, digit-room (b1 .args .base) (b1 .args .number) (b1 .args .digit) (b1 .pre .0) (c .if1 .taken) (b1 .pre .1))
 
 returns : tie.Need-returns
 returns c = simp (lt-ltb (c .before .args .number) numberLimit (c .if1 .taken))

@@ -19,12 +19,10 @@ abbrev μ-loop : tie.MeasureT-loop
 μ-loop text n start₀ ahead₀ i₀ start ahead i = length text - i
 
 -- whether the character is a blank
-goes-on : (c : tie.Then1 Inv-loop μ-loop)
-    → isBlank (getD (c .before .before .before .before .before .before .args .text .now) (c .before .before .before .before .loop .i) 0) ≡ false
+goes-on : (c : tie.Then1 Inv-loop μ-loop) → let l = c .before .before .before .before in isBlank (getD (l .before .before .args .text .now) (l .loop .i) 0) ≡ false
 goes-on c = sym (c .before .is-blank .ensures) ∙ not-true _ (c .if1 .taken)
 
-blank : (c : tie.Else1 Inv-loop μ-loop)
-    → isBlank (getD (c .before .before .before .before .before .before .args .text .now) (c .before .before .before .before .loop .i) 0) ≡ true
+blank : (c : tie.Else1 Inv-loop μ-loop) → let l = c .before .before .before .before in isBlank (getD (l .before .before .args .text .now) (l .loop .i) 0) ≡ true
 blank c = sym (c .before .is-blank .ensures) ∙ not-false _ (c .if1 .left)
 
 loop-holds : tie.Need-loop-holds Inv-loop μ-loop
@@ -43,13 +41,20 @@ loop-less : tie.Need-loop-less Inv-loop μ-loop
 loop-less c = search needs
 
 loop-again : tie.Need-loop-again Inv-loop μ-loop
-loop-again c = walk-on (c .before .before .before .before .loop .inv) (c .before .before .before .loop-test .taken) (goes-on c)
+loop-again c =
+    let b3 = c .before .before .before in
+    let b4 = b3 .before in
+    walk-on (b4 .loop .inv) (b3 .loop-test .taken) (goes-on c)
 
 loop-less-2 : tie.Need-loop-less-2 Inv-loop μ-loop
 loop-less-2 c = search needs
 
 loop-again-2 : tie.Need-loop-again-2 Inv-loop μ-loop
-loop-again-2 c = walk-blank (c .before .before .before .before .before .loop .inv) (c .before .before .before .before .loop-test .taken) (blank (c .before)) (c .if2 .taken)
+loop-again-2 c =
+    let b1 = c .before in
+    let b4 = b1 .before .before .before in
+    let b5 = b4 .before in
+    walk-blank (b5 .loop .inv) (b4 .loop-test .taken) (blank b1) (c .if2 .taken)
 
 sub-result : tie.Need-sub-result Inv-loop μ-loop
 sub-result c = search needs
@@ -61,7 +66,13 @@ part-result-end : tie.Need-part-result-end Inv-loop μ-loop
 part-result-end c = search needs
 
 returns : tie.Need-returns Inv-loop μ-loop
-returns c = walk-found (c .before .before .before .before .before .before .before .loop .inv) (c .before .before .before .before .before .before .loop-test .taken) (blank (c .before .before .before)) (c .before .before .if2 .left) (c .before .if3 .taken)
+returns c =
+    let b1 = c .before in
+    let b2 = b1 .before in
+    let b3 = b2 .before in
+    let b6 = b3 .before .before .before in
+    let b7 = b6 .before in
+    walk-found (b7 .loop .inv) (b6 .loop-test .taken) (blank b3) (b2 .if2 .left) (b1 .if3 .taken)
 
 sub-ahead : tie.Need-sub-ahead Inv-loop μ-loop
 sub-ahead c = search needs
@@ -71,8 +82,12 @@ loop-less-3 c = search needs
 
 loop-again-3 : tie.Need-loop-again-3 Inv-loop μ-loop
 loop-again-3 c =
-    let some : 0 < c .before .before .before .before .before .before .loop .ahead = omega (arith, c .if3 .left) in
-    walk-past (c .before .before .before .before .before .before .loop .inv) (c .before .before .before .before .before .loop-test .taken) (blank (c .before .before)) (c .before .if2 .left) some
+    let b1 = c .before in
+    let b2 = b1 .before in
+    let b5 = b2 .before .before .before in
+    let b6 = b5 .before in
+    let some : 0 < b6 .loop .ahead = omega (arith, c .if3 .left) in
+    walk-past (b6 .loop .inv) (b5 .loop-test .taken) (blank b2) (b1 .if2 .left) some
 
 sub-result-2 : tie.Need-sub-result-2 Inv-loop μ-loop
 sub-result-2 c = search needs
@@ -84,7 +99,11 @@ part-result-end-2 : tie.Need-part-result-end-2 Inv-loop μ-loop
 part-result-end-2 c = search needs
 
 returns-2 : tie.Need-returns-2 Inv-loop μ-loop
-returns-2 c = walk-none (c .before .before .before .loop .inv) (c .before .before .loop-test .left) (c .before .if4 .taken)
+returns-2 c =
+    let b1 = c .before in
+    let b2 = b1 .before in
+    let b3 = b2 .before in
+    walk-none (b3 .loop .inv) (b2 .loop-test .left) (b1 .if4 .taken)
 
 sub-result-3 : tie.Need-sub-result-3 Inv-loop μ-loop
 sub-result-3 c = search needs
@@ -97,8 +116,11 @@ part-result-end-3 c = search needs
 
 returns-3 : tie.Need-returns-3 Inv-loop μ-loop
 returns-3 c =
-    let none : c .before .before .before .loop .ahead ≡ 0 = omega (arith, c .before .if4 .left) in
-    walk-last (c .before .before .before .loop .inv) (c .before .before .loop-test .left) none
+    let b1 = c .before in
+    let b2 = b1 .before in
+    let b3 = b2 .before in
+    let none : b3 .loop .ahead ≡ 0 = omega (arith, b1 .if4 .left) in
+    walk-last (b3 .loop .inv) (b2 .loop-test .left) none
 
 pub word-spec : {M : Type 1} → statement M
 word-spec =

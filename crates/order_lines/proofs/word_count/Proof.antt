@@ -18,12 +18,10 @@ abbrev μ-loop : tie.MeasureT-loop
 μ-loop text count₀ start₀ i₀ count start i = length text - i
 
 -- whether the character is a blank
-goes-on : (c : tie.Then1 Inv-loop μ-loop)
-    → isBlank (getD (c .before .before .before .before .before .before .args .text .now) (c .before .before .before .before .loop .i) 0) ≡ false
+goes-on : (c : tie.Then1 Inv-loop μ-loop) → let l = c .before .before .before .before in isBlank (getD (l .before .before .args .text .now) (l .loop .i) 0) ≡ false
 goes-on c = sym (c .before .is-blank .ensures) ∙ not-true _ (c .if1 .taken)
 
-blank : (c : tie.Else1 Inv-loop μ-loop)
-    → isBlank (getD (c .before .before .before .before .before .before .args .text .now) (c .before .before .before .before .loop .i) 0) ≡ true
+blank : (c : tie.Else1 Inv-loop μ-loop) → let l = c .before .before .before .before in isBlank (getD (l .before .before .args .text .now) (l .loop .i) 0) ≡ true
 blank c = sym (c .before .is-blank .ensures) ∙ not-false _ (c .if1 .left)
 
 loop-holds : tie.Need-loop-holds Inv-loop μ-loop
@@ -42,13 +40,20 @@ loop-less : tie.Need-loop-less Inv-loop μ-loop
 loop-less c = search needs
 
 loop-again : tie.Need-loop-again Inv-loop μ-loop
-loop-again c = count-on (c .before .before .before .before .loop .inv) (c .before .before .before .loop-test .taken) (goes-on c)
+loop-again c =
+    let b3 = c .before .before .before in
+    let b4 = b3 .before in
+    count-on (b4 .loop .inv) (b3 .loop-test .taken) (goes-on c)
 
 loop-less-2 : tie.Need-loop-less-2 Inv-loop μ-loop
 loop-less-2 c = search needs
 
 loop-again-2 : tie.Need-loop-again-2 Inv-loop μ-loop
-loop-again-2 c = count-blank (c .before .before .before .before .before .loop .inv) (c .before .before .before .before .loop-test .taken) (blank (c .before)) (c .if2 .taken)
+loop-again-2 c =
+    let b1 = c .before in
+    let b4 = b1 .before .before .before in
+    let b5 = b4 .before in
+    count-blank (b5 .loop .inv) (b4 .loop-test .taken) (blank b1) (c .if2 .taken)
 
 add-count : tie.Need-add-count Inv-loop μ-loop
 add-count c = search needs
@@ -57,16 +62,26 @@ loop-less-3 : tie.Need-loop-less-3 Inv-loop μ-loop
 loop-less-3 c = search needs
 
 loop-again-3 : tie.Need-loop-again-3 Inv-loop μ-loop
-loop-again-3 c = count-word (c .before .before .before .before .before .loop .inv) (c .before .before .before .before .loop-test .taken) (blank (c .before)) (c .if2 .left)
+loop-again-3 c =
+    let b1 = c .before in
+    let b4 = b1 .before .before .before in
+    let b5 = b4 .before in
+    count-word (b5 .loop .inv) (b4 .loop-test .taken) (blank b1) (c .if2 .left)
 
 add-result : tie.Need-add-result Inv-loop μ-loop
 add-result c = search needs
 
 returns : tie.Need-returns Inv-loop μ-loop
-returns c = count-last (c .before .before .loop .inv) (c .before .loop-test .left) (c .if3 .taken)
+returns c =
+    let b1 = c .before in
+    let b2 = b1 .before in
+    count-last (b2 .loop .inv) (b1 .loop-test .left) (c .if3 .taken)
 
 returns-2 : tie.Need-returns-2 Inv-loop μ-loop
-returns-2 c = count-none (c .before .before .loop .inv) (c .before .loop-test .left) (c .if3 .left)
+returns-2 c =
+    let b1 = c .before in
+    let b2 = b1 .before in
+    count-none (b2 .loop .inv) (b1 .loop-test .left) (c .if3 .left)
 
 pub word-count-spec : {M : Type 1} → statement M
 word-count-spec =

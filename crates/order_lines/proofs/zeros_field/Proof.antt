@@ -23,13 +23,17 @@ read-number-requires c κs = search needs
 
 returns : tie.Need-returns
 returns c =
-    let s = (c .before .before .before .before) in
-    let more : 1 + s .args .fields < length (wordsIn (s .args .text .now)) = rw (← s .pre .1) (c .before .before .if1 .taken) in
-    c .read-number .ensures ∙ rw (c .before .word .ensures) (simp (lt-ltb _ _ more))
+    let b1 = c .before in
+    let b2 = b1 .before in
+    let b4 = b2 .before .before in
+    let s = b4 in
+    let more : 1 + s .args .fields < length (wordsIn (s .args .text .now)) = rw (← s .pre .1) (b2 .if1 .taken) in
+    c .read-number .ensures ∙ rw (b1 .word .ensures) (simp (lt-ltb _ _ more))
 
 returns-2 : tie.Need-returns-2
 returns-2 c =
-    let s = (c .before .before) in
+    let b2 = c .before .before in
+    let s = b2 in
     let none : length (wordsIn (s .args .text .now)) ≤ 1 + s .args .fields = rw (← s .pre .1) (c .if1 .left) in
     simp (le-ltb _ _ none)
 

@@ -18,7 +18,9 @@ abbrev μ-loop : tie.MeasureT-loop
 μ-loop bytes out₀ place₀ at₀ out place at = length bytes - at
 
 loop-holds : tie.Need-loop-holds Inv-loop μ-loop
-loop-holds c = (omega arith, none-put _ _ _ (omega (arith, part-short (c .before .before .args .bytes .now) (c .before .before .pre .0), c .before .before .pre .1)))
+loop-holds c =
+    let b2 = c .before .before in
+    (omega arith, none-put _ _ _ (omega (arith, part-short (b2 .args .bytes .now) (b2 .pre .0), b2 .pre .1)))
 
 line-end-requires : tie.Need-line-end-requires Inv-loop μ-loop
 line-end-requires c κs = search needs
@@ -40,16 +42,23 @@ loop-less c = let e = c .before .before .before .before .before .line-end .ensur
 
 loop-again : tie.Need-loop-again Inv-loop μ-loop
 loop-again c =
-    let l = c .before .before .before .before .before .before .before .loop in
-    let e = c .before .before .before .before .before .line-end .ensures in
-    (omega (arith, e), next-put-if-fits (l .inv .1) _ _ (next-line _ (l .at) _ (c .before .before .before .before .before .before .loop-test .taken) e) _ _ (c .before .before .bytes-line .ensures))
+    let b2 = c .before .before in
+    let b5 = b2 .before .before .before in
+    let b6 = b5 .before in
+    let b7 = b6 .before in
+    let l = b7 .loop in
+    let e = b5 .line-end .ensures in
+    (omega (arith, e), next-put-if-fits (l .inv .1) _ _ (next-line _ (l .at) _ (b6 .loop-test .taken) e) _ _ (b2 .bytes-line .ensures))
 
 same-length : tie.Need-same-length Inv-loop μ-loop
 same-length c = c .before .loop .inv .1 .same-length
 
 returns : tie.Need-returns Inv-loop μ-loop
 unfolding linesFrom
-returns c = all-put (c .before .loop .inv .1) (ap streamText (drop-of-length-le (c .before .before .before .before .args .bytes .now) {i = c .before .loop .at} (c .loop-test .left)))
+returns c =
+    let b1 = c .before in
+    let b4 = b1 .before .before .before in
+    all-put (b1 .loop .inv .1) (ap streamText (drop-of-length-le (b4 .args .bytes .now) {i = b1 .loop .at} (c .loop-test .left)))
 
 pub put-stream-spec : {M : Type 1} → statement M
 put-stream-spec =

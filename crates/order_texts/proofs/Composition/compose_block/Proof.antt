@@ -18,14 +18,18 @@ abbrev μ-loop : tie.MeasureT-loop
 μ-loop input line₀ frame₀ out₀ state₀ next₀ line frame out state next = length input - next
 
 -- there is a character, and the run is not over
-test : (c : tie.Then1 Inv-loop μ-loop) → (c .before .before .loop .next < length (c .before .before .before .before .before .before .args .input .now)) × (over (c .before .before .loop .state) ≡ false)
+test : (c : tie.Then1 Inv-loop μ-loop) → let h = c .before .before in
+    (h .loop .next < length (h .before .before .before .before .args .input .now)) × (over (h .loop .state) ≡ false)
 test c =
-    let l = c .before .before .loop in
-    let size = length (c .before .before .before .before .before .before .args .input .now) in
+    let h = c .before .before in
+    let l = h .loop in
+    let size = length (h .before .before .before .before .args .input .now) in
     goes-on (l .next) size (over (l .state)) (ap (λ (b : Bool). ltb (l .next) size && not b) (sym (c .before .is-over .ensures)) ∙ c .if1 .taken)
 
 loop-holds : tie.Need-loop-holds Inv-loop μ-loop
-loop-holds c = initially (c .before .before .before .pre .0) (c .before .before .before .pre .1)
+loop-holds c =
+    let b3 = c .before .before .before in
+    initially (b3 .pre .0) (b3 .pre .1)
 
 is-over-requires : tie.Need-is-over-requires Inv-loop μ-loop
 is-over-requires c κs = search needs
@@ -37,34 +41,63 @@ add-next : tie.Need-add-next Inv-loop μ-loop
 add-next c = let h = test (c .before) .0 in omega arith
 
 end-line-requires : tie.Need-end-line-requires Inv-loop μ-loop
-end-line-requires c κs = let i = c .before .before .before .before .before .before .before .loop .inv in (i .well-formed, i .lent)
+end-line-requires c κs =
+    let b7 = c .before .before .before .before .before .before .before in
+    let i = b7 .loop .inv in (i .well-formed, i .lent)
 
 loop-less : tie.Need-loop-less Inv-loop μ-loop
-loop-less c = let h = test (c .before .before .before .before .before .before .before .before) .0 in omega arith
+loop-less c =
+    let b8 = c .before .before .before .before .before .before .before .before in
+    let h = test b8 .0 in omega arith
 
 loop-again : tie.Need-loop-again Inv-loop μ-loop
-loop-again c = line-ended (c .before .before .before .before .before .before .before .before .before .before .loop .inv) (test (c .before .before .before .before .before .before .before .before) .0) _ (c .before .frame .given) (test (c .before .before .before .before .before .before .before .before) .1) (c .before .before .before .before .before .before .if2 .taken) _ _ (c .before .before .end-line .ensures)
+loop-again c =
+    let b1 = c .before in
+    let b2 = b1 .before in
+    let b6 = b2 .before .before .before .before in
+    let b8 = b6 .before .before in
+    let b10 = b8 .before .before in
+    line-ended (b10 .loop .inv) (test b8 .0) _ (b1 .frame .given) (test b8 .1) (b6 .if2 .taken) _ _ (b2 .end-line .ensures)
 
 with-character-requires : tie.Need-with-character-requires Inv-loop μ-loop
-with-character-requires c κs = let i = c .before .before .before .before .before .before .loop .inv in (i .well-formed .short, i .lent .line-long, c .before .before .if2 .left)
+with-character-requires c κs =
+    let b2 = c .before .before in
+    let b6 = b2 .before .before .before .before in
+    let i = b6 .loop .inv in (i .well-formed .short, i .lent .line-long, b2 .if2 .left)
 
 loop-less-2 : tie.Need-loop-less-2 Inv-loop μ-loop
-loop-less-2 c = let h = test (c .before .before .before .before .before .before .before) .0 in omega arith
+loop-less-2 c =
+    let b7 = c .before .before .before .before .before .before .before in
+    let h = test b7 .0 in omega arith
 
 loop-again-2 : tie.Need-loop-again-2 Inv-loop μ-loop
-loop-again-2 c = line-open (c .before .before .before .before .before .before .before .before .before .loop .inv) (test (c .before .before .before .before .before .before .before) .0) _ refl (c .before .before .before .before .before .if2 .left) _ _ (c .before .before .with-character .ensures)
+loop-again-2 c =
+    let b2 = c .before .before in
+    let b5 = b2 .before .before .before in
+    let b7 = b5 .before .before in
+    let b9 = b7 .before .before in
+    line-open (b9 .loop .inv) (test b7 .0) _ refl (b5 .if2 .left) _ _ (b2 .with-character .ensures)
 
 same-length : tie.Need-same-length Inv-loop μ-loop
-same-length c = c .before .before .loop .inv .lent .line-long ∙ sym (c .before .before .before .before .before .before .pre .1 .line-long)
+same-length c =
+    let b2 = c .before .before in
+    let b6 = b2 .before .before .before .before in
+    b2 .loop .inv .lent .line-long ∙ sym (b6 .pre .1 .line-long)
 
 same-length-2 : tie.Need-same-length-2 Inv-loop μ-loop
-same-length-2 c = c .before .before .loop .inv .lent .frame-long ∙ sym (c .before .before .before .before .before .before .pre .1 .frame-long)
+same-length-2 c =
+    let b2 = c .before .before in
+    let b6 = b2 .before .before .before .before in
+    b2 .loop .inv .lent .frame-long ∙ sym (b6 .pre .1 .frame-long)
 
 returns : tie.Need-returns Inv-loop μ-loop
 returns c =
-    let l = c .before .before .loop in
-    let size = length (c .before .before .before .before .before .before .args .input .now) in
-    stops (l .inv) (ap (λ (b : Bool). ltb (l .next) size && not b) (sym (c .before .is-over .ensures)) ∙ c .if1 .left)
+    let b1 = c .before in
+    let b2 = b1 .before in
+    let b6 = b2 .before .before .before .before in
+    let l = b2 .loop in
+    let size = length (b6 .args .input .now) in
+    stops (l .inv) (ap (λ (b : Bool). ltb (l .next) size && not b) (sym (b1 .is-over .ensures)) ∙ c .if1 .left)
 
 pub compose-block-spec : {M : Type 1} → statement M
 compose-block-spec =

@@ -13,20 +13,28 @@ is-over-requires c κs = search needs
 
 returns : tie.Need-returns
 returns c =
-    let s = (c .before .before .before .before .before .before) in
-    ends-here (s .pre .0) (s .pre .1) (ap (λ (b : Bool). b || eqb (s .args .self .line .length) 0) (sym (c .before .before .is-over .ensures)) ∙ c .if1 .taken)
+    let b2 = c .before .before in
+    let b6 = b2 .before .before .before .before in
+    let s = b6 in
+    ends-here (s .pre .0) (s .pre .1) (ap (λ (b : Bool). b || eqb (s .args .self .line .length) 0) (sym (b2 .is-over .ensures)) ∙ c .if1 .taken)
 
 end-line-requires : tie.Need-end-line-requires
-end-line-requires c κs = c .before .before .before .before .before .before .before .before .pre
+end-line-requires c κs =
+    let b8 = c .before .before .before .before .before .before .before .before in
+    b8 .pre
 
 same-length : tie.Need-same-length
 same-length c = search needs
 
 returns-2 : tie.Need-returns-2
 returns-2 c =
-    let s = (c .before .before .before .before .before .before .before .before .before .before .before) in
-    ends-line (s .pre .0) (s .pre .1) (ap (λ (b : Bool). b || eqb (s .args .self .line .length) 0) (sym (c .before .before .before .before .before .before .before .is-over .ensures)) ∙ c .before .before .before .before .before .if1 .left)
-    _ _ (c .before .before .end-line .ensures)
+    let b2 = c .before .before in
+    let b5 = b2 .before .before .before in
+    let b7 = b5 .before .before in
+    let b11 = b7 .before .before .before .before in
+    let s = b11 in
+    ends-line (s .pre .0) (s .pre .1) (ap (λ (b : Bool). b || eqb (s .args .self .line .length) 0) (sym (b7 .is-over .ensures)) ∙ b5 .if1 .left)
+    _ _ (b2 .end-line .ensures)
 
 pub end-input-spec : {M : Type 1} → statement M
 end-input-spec =

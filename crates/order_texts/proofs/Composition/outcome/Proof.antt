@@ -23,22 +23,37 @@ room-fits-requires : tie.Need-room-fits-requires
 room-fits-requires c κs = search needs
 
 returns-2 : tie.Need-returns-2
-returns-2 c = outcome-long _ _ (c .before .before .before .before .before .pre) (c .before .before .if1 .left) (sym (c .before .room-fits .ensures) ∙ not-true _ (c .if2 .taken))
+returns-2 c =
+    let b1 = c .before in
+    let b2 = b1 .before in
+    let b5 = b2 .before .before .before in
+    outcome-long _ _ (b5 .pre) (b2 .if1 .left) (sym (b1 .room-fits .ensures) ∙ not-true _ (c .if2 .taken))
 
 finish-requires : tie.Need-finish-requires
 finish-requires c κs =
-    let w = c .before .before .before .before .before .before .before .pre in
-    let r = room (c .before .before) in
-    (w .fits, omega (arith, w .placed r, has-room (c .before .before .before .before .before .before .before .args .self .bits) r, w .whole))
+    let b2 = c .before .before in
+    let b7 = b2 .before .before .before .before .before in
+    let w = b7 .pre in
+    let r = room b2 in
+    (w .fits, omega (arith, w .placed r, has-room (b7 .args .self .bits) r, w .whole))
 
 none-requires : tie.Need-none-requires
 none-requires c κs = search needs
 
 add-t12 : tie.Need-add-t12
-add-t12 c = omega (arith, has-room (c .before .before .before .before .before .before .before .before .before .before .args .self .bits) (room (c .before .before .before .before .before)))
+add-t12 c =
+    let b5 = c .before .before .before .before .before in
+    let b10 = b5 .before .before .before .before .before in
+    omega (arith, has-room (b10 .args .self .bits) (room b5))
 
 returns-3 : tie.Need-returns-3
-returns-3 c = outcome-whole _ _ (c .before .before .before .before .before .before .before .before .before .before .pre) (c .before .before .before .before .before .before .before .if1 .left) (room (c .before .before .before .before .before)) _ (c .before .before .finish .ensures) _ (c .before .none .ensures)
+returns-3 c =
+    let b1 = c .before in
+    let b2 = b1 .before in
+    let b5 = b2 .before .before .before in
+    let b7 = b5 .before .before in
+    let b10 = b7 .before .before .before in
+    outcome-whole _ _ (b10 .pre) (b7 .if1 .left) (room b5) _ (b2 .finish .ensures) _ (b1 .none .ensures)
 
 pub outcome-spec : {M : Type 1} → statement M
 outcome-spec =

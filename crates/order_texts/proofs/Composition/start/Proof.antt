@@ -17,7 +17,11 @@ none-requires : tie.Need-none-requires
 none-requires c κs = search needs
 
 returns : tie.Need-returns
-returns c = rw (c .before .before .before .start .ensures, c .before .before .start2 .ensures, c .before .empty .ensures, c .none .ensures)
+returns c =
+    let b1 = c .before in
+    let b2 = b1 .before in
+    let b3 = b2 .before in
+    rw (b3 .start .ensures, b2 .start2 .ensures, b1 .empty .ensures, c .none .ensures)
 
 pub start-spec : {M : Type 1} → statement M
 start-spec =

@@ -40,7 +40,11 @@ passed-requires : tie.Need-passed-requires
 passed-requires c κs = search needs
 
 returns : tie.Need-returns
-returns c = order-refused _ _ (c .before .before .before .before .before .before .pre) _ _ _ _ (c .before .before .before .of-order .ensures) (c .before .if1 .taken) _ (c .passed .ensures)
+returns c =
+    let b1 = c .before in
+    let b3 = b1 .before .before in
+    let b6 = b3 .before .before .before in
+    order-refused _ _ (b6 .pre) _ _ _ _ (b3 .of-order .ensures) (b1 .if1 .taken) _ (c .passed .ensures)
 
 command-width-requires : tie.Need-command-width-requires
 command-width-requires c κs = fit c
@@ -65,36 +69,59 @@ room-fits-requires c κs = search needs
 
 put-order-requires : tie.Need-put-order-requires
 put-order-requires c κs =
-    let k = (c .before .before) in
+    let b1 = c .before in
+    let b2 = b1 .before in
+    let b3 = b2 .before in
+    let b5 = b3 .before .before in
+    let b6 = b5 .before in
+    let b7 = b6 .before in
+    let b8 = b7 .before in
+    let b9 = b8 .before in
+    let k = b2 in
     let e = unrefused k in
     let s = start e in (
       s .pre .fits,
       fit e,
       room-for (s .args .self) _ (s .pre) (s .args .lines) (s .args .order) (s .args .lent .now) _ (e .before .before .of-order .ensures) (e .if1 .left) _ _ _
-          (c .before .before .before .before .before .before .before .before .before .command-width .ensures) (c .before .before .before .before .before .before .before .before .add-bits .ensures) (c .before .before .before .before .before .before .before .add-bits2 .ensures) _
-          (c .before .before .before .before .before .after .ensures ∙ ap (λ (p : Plan). contextAfter p (s .args .self .context) (s .args .order)) (c .before .before .before .before .before .before .default-plan .ensures))
-          _ (c .before .before .before .empty .ensures) (sym (k .room-fits .ensures) ∙ c .before .if2 .taken),
+          (b9 .command-width .ensures) (b8 .add-bits .ensures) (b7 .add-bits2 .ensures) _
+          (b5 .after .ensures ∙ ap (λ (p : Plan). contextAfter p (s .args .self .context) (s .args .order)) (b6 .default-plan .ensures))
+          _ (b3 .empty .ensures) (sym (k .room-fits .ensures) ∙ b1 .if2 .taken),
     )
 
 returns-2 : tie.Need-returns-2
 returns-2 c =
-    let k = (c .before .before .before) in
+    let b2 = c .before .before in
+    let b3 = b2 .before in
+    let b4 = b3 .before in
+    let b6 = b4 .before .before in
+    let b7 = b6 .before in
+    let b8 = b7 .before in
+    let b9 = b8 .before in
+    let b10 = b9 .before in
+    let k = b3 in
     let e = unrefused k in
     let s = start e in
     order-written (s .args .self) _ (s .pre) (s .args .lines) (s .args .order) (s .args .lent .now) _ (e .before .before .of-order .ensures) (e .if1 .left) _ _ _
-    (c .before .before .before .before .before .before .before .before .before .before .command-width .ensures) (c .before .before .before .before .before .before .before .before .before .add-bits .ensures) (c .before .before .before .before .before .before .before .before .add-bits2 .ensures) _
-    (c .before .before .before .before .before .before .after .ensures ∙ ap (λ (p : Plan). contextAfter p (s .args .self .context) (s .args .order)) (c .before .before .before .before .before .before .before .default-plan .ensures))
-    _ (c .before .before .before .before .empty .ensures) (sym (k .room-fits .ensures) ∙ c .before .before .if2 .taken) _ _ (c .put-order .ensures)
+    (b10 .command-width .ensures) (b9 .add-bits .ensures) (b8 .add-bits2 .ensures) _
+    (b6 .after .ensures ∙ ap (λ (p : Plan). contextAfter p (s .args .self .context) (s .args .order)) (b7 .default-plan .ensures))
+    _ (b4 .empty .ensures) (sym (k .room-fits .ensures) ∙ b2 .if2 .taken) _ _ (c .put-order .ensures)
 
 returns-3 : tie.Need-returns-3
 returns-3 c =
-    let k = (c .before) in
+    let b1 = c .before in
+    let b2 = b1 .before in
+    let b4 = b2 .before .before in
+    let b5 = b4 .before in
+    let b6 = b5 .before in
+    let b7 = b6 .before in
+    let b8 = b7 .before in
+    let k = b1 in
     let e = unrefused k in
     let s = start e in
     order-beyond (s .args .self) _ (s .pre) (s .args .lines) (s .args .order) (s .args .lent .now) _ (e .before .before .of-order .ensures) (e .if1 .left) _ _ _
-    (c .before .before .before .before .before .before .before .before .command-width .ensures) (c .before .before .before .before .before .before .before .add-bits .ensures) (c .before .before .before .before .before .before .add-bits2 .ensures) _
-    (c .before .before .before .before .after .ensures ∙ ap (λ (p : Plan). contextAfter p (s .args .self .context) (s .args .order)) (c .before .before .before .before .before .default-plan .ensures))
-    _ (c .before .before .empty .ensures) (sym (k .room-fits .ensures) ∙ c .if2 .left)
+    (b8 .command-width .ensures) (b7 .add-bits .ensures) (b6 .add-bits2 .ensures) _
+    (b4 .after .ensures ∙ ap (λ (p : Plan). contextAfter p (s .args .self .context) (s .args .order)) (b5 .default-plan .ensures))
+    _ (b2 .empty .ensures) (sym (k .room-fits .ensures) ∙ c .if2 .left)
 
 pub with-order-spec : {M : Type 1} → statement M
 with-order-spec =

@@ -19,10 +19,12 @@ same-length c = search needs
 
 returns : tie.Need-returns
 returns c =
-    let s = (c .before .before .before .before .before) in
+    let b2 = c .before .before in
+    let b5 = b2 .before .before .before in
+    let s = b5 in
     let r = s .args .self in
     let few = line-length (ascii "!") (r .number ∷ r .line ∷ []) (2 ∷ 8 ∷ []) refl in
-    c .before .before .refused-line .ensures ∙ put-when-fits (s .args .out .now) 0 (refusedLine (r .number) (r .line)) (omega (arith, few, s .pre))
+    b2 .refused-line .ensures ∙ put-when-fits (s .args .out .now) 0 (refusedLine (r .number) (r .line)) (omega (arith, few, s .pre))
 
 pub put-line-spec : {M : Type 1} → statement M
 put-line-spec = tie.close (tie.spec refused-line-requires same-length returns)

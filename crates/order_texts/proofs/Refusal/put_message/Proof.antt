@@ -8,7 +8,8 @@ use Rattle.order_texts.proofs.Refusal.put_message.Tie as tie
 
 put-order-requires : tie.Need-put-order-requires
 put-order-requires c κs =
-    let s = (c .before .before) in
+    let b2 = c .before .before in
+    let s = b2 in
     let r = s .args .self in
     omega (arith, order-short (r .reason) (r .line) (r .asked) (r .given), s .pre)
 
