@@ -16,7 +16,8 @@
  *
  * All else is checked. An unfit call is rejected with its number and changes
  * nothing, but for an opening, which is handed no state and gives one even
- * when it is refused. Where several numbers apply, the lowest is answered.
+ * when it is refused. Where several numbers apply, the lowest is answered; of a
+ * stream's patterns and of a list of orders the first at fault is.
  *
  * Nothing is kept between calls and there are no globals: all that a reader
  * remembers stands in the image, the store and the tray that the caller
@@ -292,11 +293,12 @@ struct kernelstill_order {
  * The four numbers are a register plan, as in kernelstill_open. CNT is
  * followed as the orders write it: 0 at the start, then as WR_REGISTER to its
  * address leaves it, and 0 again after GLOBAL_RESET_MCC. A front-end frame has
- * CNT<15:3> data bits and CNT<2:0> x 8 control bits, a WR_RECEIVER CNT<12:0> x
- * 8 bits; they stand in `frames` packed, highest bit first, each frame from a
- * byte of its own on, and bits past its count are not looked at. Ahead of each
- * order but the first lie at least the zeros that the timing table asks (see
- * the flags of a record).
+ * CNT<2:0> x 8 control bits and then CNT<15:3> data bits, a WR_RECEIVER
+ * CNT<12:0> x 8 bits; they stand in `frames` packed, highest bit first, each
+ * frame from a byte of its own on, and bits past its count are not looked at.
+ * Another count than CNT asks is WRONG_ORDER, and so are fewer bits from that
+ * byte to the end of `frames`. Ahead of each order but the first lie at least
+ * the zeros that the timing table asks (see the flags of a record).
  *
  * Reading the stream from an opening at cycle 0 with the same plan gives one
  * record an order, none of them with flip, unsteady or too close, and after
