@@ -20,8 +20,9 @@ use Rattle.orders.specs.declared.Composed.{Composed}
 use Rattle.orders.specs.Fields.{Ordered, orderFits, orderIn, ordersIn}
 use Rattle.orders.specs.Streams.{commandBits, orderBits, streamOf}
 use Rattle.orders.specs.Composing.{start, composed, contextAfter, orderNumber, refusalFrom}
+use Rattle.orders.proofs.OrderByOrder.{number-fits, refusal-later, refusal-here}
 use Rattle.composing.specs.Checked.{ordered, WidthOf, capped, checkedOf}
-use Rattle.compose_calls.proofs.OrderLists.{orders-apart, no-orders, whole-order, number-fits, refusal-later, refusal-here, cnt-narrow}
+use Rattle.compose_calls.proofs.OrderLists.{orders-apart, no-orders, whole-order, cnt-narrow}
 
 -- Counts beyond the clock's are one, however they are added up.
 pub capped-more : (a b : ℕ) → capped (capped a + b) ≡ capped (a + b)

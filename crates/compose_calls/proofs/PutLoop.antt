@@ -16,10 +16,11 @@ use Rattle.stream_writer.specs.declared.Writer.{Writer}
 use Rattle.stream_writer.specs.Writer.{Fits, Written, Wrote}
 use Rattle.stream_writer.proofs.Writing.{nothing-yet, left-as, onward}
 use Rattle.stream_writer.proofs.Rests.{room-left}
+use Rattle.orders.proofs.OrderByOrder.{number-fits, first-fits, refusal-later}
 use Rattle.composing.specs.Checked.{ordered, SomeFit, Room}
 use Rattle.composing.proofs.Rooms.{room-as, first-room}
 use Rattle.compose_calls.specs.AllFit.{AllFit}
-use Rattle.compose_calls.proofs.OrderLists.{orders-apart, no-orders, whole-order, number-fits, first-fits, refusal-later, cnt-narrow}
+use Rattle.compose_calls.proofs.OrderLists.{orders-apart, no-orders, whole-order, cnt-narrow}
 
 -- The first of fit orders is fit, and so are the others.
 module _ (x : Ordered) (xs : List Ordered) (a : AllFit (x ∷ xs)) where

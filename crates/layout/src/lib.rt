@@ -9,7 +9,8 @@ ghost use lib.Seq.{sets};
 ghost use Rattle.output.specs.Ascii.{lineFeed};
 ghost use Rattle.output.specs.Block.{block, putAll, putIfFits};
 ghost use Rattle.layout.specs.Digits.{characterOf, charactersOf};
-ghost use Rattle.layout.specs.ListingLines.{space, numbersLine, lineOf, numbersSize, recordLine, refusedLine, faultLine, byteDigits, frameLine, bytesLine};
+ghost use Rattle.layout.specs.ListingLines.{space, numbersLine, lineOf, numbersSize, recordLine, refusedLine, faultLine, byteDigits};
+ghost use Rattle.layout.specs.ListingLines.{frameLine, bytesLine};
 ghost use Rattle.layout.specs.StateLines.{registerLine, l1idLine, baseLine, runmodeLine, pointersLine, wordLine};
 
 const SPACE: u8 = b' ';

@@ -56,7 +56,8 @@ pub fault-short : (number place : ℕ) → length (faultSentence number place) �
 fault-short number place = rw length-append (omega (arith, labelled-length (ascii "bit ") place (ascii ": "), fault-reason-length number))
 
 -- Two numbers between two texts.
-numbers-length : (label : List ℕ) (asked : ℕ) (between : List ℕ) (given : ℕ) → length (askedAndGiven label asked between given) ≤ length label + length between + 41
+numbers-length : (label : List ℕ) (asked : ℕ) (between : List ℕ) (given : ℕ)
+    → length (askedAndGiven label asked between given) ≤ length label + length between + 41
 numbers-length label asked between given =
     rw length-append (omega (arith, labelled-length label asked between, labelled-length [] given (ascii "\n")))
 

@@ -44,11 +44,13 @@ module _ (reason asked given : ℕ) where
 
 -- Where two numbers tell it.
 module _ (frame : Bool) (asked given : ℕ) where
-  pub frame-numbers : frame ≡ true → orderNumbers frame asked given ≡ askedAndGiven (ascii "CNT asks for ") asked (ascii " frame bits, and the line gives ") given
+  pub frame-numbers : frame ≡ true
+      → orderNumbers frame asked given ≡ askedAndGiven (ascii "CNT asks for ") asked (ascii " frame bits, and the line gives ") given
   unfolding orderNumbers
   frame-numbers e = rw e
 
   pub zeros-numbers : frame ≡ false
-      → orderNumbers frame asked given ≡ askedAndGiven (ascii "the timing table asks for ") asked (ascii " zeros ahead of this command, and the line gives ") given
+      → orderNumbers frame asked given
+      ≡ askedAndGiven (ascii "the timing table asks for ") asked (ascii " zeros ahead of this command, and the line gives ") given
   unfolding orderNumbers
   zeros-numbers e = rw e

@@ -16,8 +16,8 @@ use Rattle.order_lines.specs.declared.FrameRead.{FrameRead}
 use Rattle.order_lines.specs.declared.OrderLine.{OrderLine}
 use Rattle.order_lines.specs.Names.{kindNamed, fieldCount}
 use Rattle.order_lines.specs.Frames.{Frame, frame, noFrame, bytesOf, FrameAs}
-use Rattle.order_lines.specs.Lines.{LineMeaning, frameLimit, blankLine, wrongLine, wrongField, unknownName, otherCount, orderLine, countFits, meant, ReadAs}
-use Rattle.order_lines.specs.Lines.{addressField, valueField, frameField, zerosField, fieldsMeaning, wordsMeaning}
+use Rattle.order_lines.specs.Lines.{LineMeaning, frameLimit, blankLine, wrongLine, wrongField, unknownName, otherCount, orderLine, countFits, meant}
+use Rattle.order_lines.specs.Lines.{ReadAs, addressField, valueField, frameField, zerosField, fieldsMeaning, wordsMeaning}
 
 -- ---- a frame
 

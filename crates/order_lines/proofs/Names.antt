@@ -14,7 +14,8 @@ use Rattle.order_lines.specs.Names.{Named, commands, kindAmong, kindName
 
 -- The names as one text.
 abbrev pub namesText : List ℕ
-namesText = ascii "lv1 bcr ecr cal sync wr-register rd-register wr-fifo rd-fifo wr-front-end rd-front-end wr-receiver en-data-take global-reset-mcc global-reset-fe"
+namesText =
+    ascii "lv1 bcr ecr cal sync wr-register rd-register wr-fifo rd-fifo wr-front-end rd-front-end wr-receiver en-data-take global-reset-mcc global-reset-fe"
 
 names-text : map (λ (c : Named). c .name) commands ≡ wordsIn namesText
 unfolding wordsFrom

@@ -78,7 +78,8 @@ module _ (text : List ℕ) (start i : ℕ) (s : start ≤ i) where
     unfolding wordsFrom
     word-goes-on b = rw (part-more, add-one i, drop-cons text i 0 h, b)
 
-    pub word-ends : isBlank (getD text i 0) ≡ true → wordsFrom (part text start i) (drop i text) ≡ endedWord (part text start i) (wordsFrom [] (drop (i + 1) text))
+    pub word-ends : isBlank (getD text i 0) ≡ true
+        → wordsFrom (part text start i) (drop i text) ≡ endedWord (part text start i) (wordsFrom [] (drop (i + 1) text))
     unfolding wordsFrom
     word-ends b = rw (add-one i, drop-cons text i 0 h, b)
 

@@ -8,8 +8,8 @@ ghost use Rattle.order_lines.specs.Words.{uncommented, isBlank, wordsIn,
 ghost use Rattle.order_lines.specs.Numbers.{digitOf, withDigit, numberOf, sized};
 ghost use Rattle.order_lines.specs.Names.{commands, nameAt, kindAt, kindNamed, oneIf, fieldCount};
 ghost use Rattle.order_lines.specs.Frames.{upToColon, areDigits, half, bytesOf, bitsSaid, frameOf, FrameAs};
-ghost use Rattle.order_lines.specs.Lines.{lineLimit, frameLimit, noOrder, blankLine, wrongLine, addressField, valueField, frameField, zerosField, fieldsMeaning};
-ghost use Rattle.order_lines.specs.Lines.{wordsMeaning, lineMeaning, meant, FieldsAsked, ReadAs};
+ghost use Rattle.order_lines.specs.Lines.{lineLimit, frameLimit, noOrder, blankLine, wrongLine, addressField, valueField, frameField, zerosField};
+ghost use Rattle.order_lines.specs.Lines.{fieldsMeaning, wordsMeaning, lineMeaning, meant, FieldsAsked, ReadAs};
 use orders::Order;
 
 // The most characters of a line, and the bytes that the digits of its frame fill.

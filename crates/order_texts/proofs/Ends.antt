@@ -42,8 +42,8 @@ module _ {s : Composition} {buffer out frame : List ℕ} (w : WellFormed s out) 
   unfolding compositionOf stillLines textsFrom
   here true b o z e = simp (not-true (eqb (s .refusal .number) 0) o)
   here false b o z e =
-      sym (no-more s out)
-      ∙ ap (stillLines s out) (sym (ap (λ (t : Bool). cond t [] (textSoFar (s .line) buffer ∷ [])) (has-none (s .line .length) buffer (eqb-true (s .line .length) 0 (z ∙ e)))))
+      let none = has-none (s .line .length) buffer (eqb-true (s .line .length) 0 (z ∙ e)) in
+      sym (no-more s out) ∙ ap (stillLines s out) (sym (ap (λ (t : Bool). cond t [] (textSoFar (s .line) buffer ∷ [])) none))
 
   pub ends-here : (over s || eqb (s .line .length) 0) ≡ true → EndsInput s buffer out s out
   ends-here e = record { well-formed = w; same = here (over s) (eqb (s .line .length) 0) refl refl e }

@@ -31,6 +31,9 @@ use Rattle.calls.proofs.SoundnessKept.{opened-sound}
 use Rattle.calls.proofs.BitCalls.{callsFor, calls-take}
 use Rattle.orders.proofs.StreamBits.{stream-binary}
 use Rattle.orders.proofs.Examples.{compose-examples}
+use Rattle.order_lines.proofs.Examples.{line-examples}
+use Rattle.order_texts.proofs.Examples.{composed-examples}
+use Rattle.order_texts.proofs.Standing.{as-read}
 use Rattle.round_trip.specs.ReadBack.{opened, Fit}
 use Rattle.round_trip.specs.Bytes.{ComposedBytes}
 use Rattle.round_trip.proofs.Bytes.{bytes}
@@ -41,6 +44,7 @@ use Rattle.promises.specs.Composing.{isWrong, hasFewZeros, orderRows, ro
 use Rattle.promises.proofs.Refusals.{not-leb, not-and, plan-row}
 use Rattle.promises.proofs.Frames.{tray-fits}
 use Rattle.promises.proofs.OrderRows.{order-rows}
+use Rattle.promises.proofs.OrderTexts.{program-composes}
 
 -- The rows of an order ahead of others.
 first-two : (a b : Bool) (rest : List Row)
@@ -317,4 +321,8 @@ sixth-promise = record {
   met = met;
   accepted-back = accepted-back;
   in-numbers = compose-examples;
+  program = program-composes;
+  lines = line-examples;
+  texts = composed-examples;
+  as-read = as-read;
 }

@@ -8,6 +8,7 @@ pub mod ManyHits
 pub mod Damage
 pub mod Acceptance
 pub mod OrderRows
+pub mod OrderTexts
 pub mod Composing
 pub mod Hosts
 pub mod HostCalls

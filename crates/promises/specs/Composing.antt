@@ -13,6 +13,7 @@ use Rattle.frames.proofs.FrameFill.{PartHolds}
 use Rattle.records.specs.declared.Record.{Record}
 use Rattle.records.specs.Records.{recordWords}
 use Rattle.registers.specs.declared.Plan.{Plan}
+use Rattle.registers.specs.Plan.{defaultPlan}
 use Rattle.timing.specs.Table.{amongKinds, zerosAsked}
 use Rattle.patterns.specs.declared.Verdict.the-variants.{Accepted}
 use Rattle.patterns.specs.Verdicts.{acceptOf}
@@ -26,6 +27,13 @@ use Rattle.orders.specs.Fields.{Ordered, isFrameKind, ordersIn}
 use Rattle.orders.specs.Streams.{frameOf, streamOf}
 use Rattle.orders.specs.Composing.{start, contextAfter, ComposeResult, composeOf}
 use Rattle.orders.specs.ComposeTable.{ComposeExamples}
+use Rattle.hexlines.specs.Lines.{linesOf}
+use Rattle.order_lines.specs.Examples.{LineExamples}
+use Rattle.order_texts.specs.Refusals as texts
+use Rattle.order_texts.specs.Refusals.{lineTexts}
+use Rattle.order_texts.specs.Composed.{outputLimit, composedOf}
+use Rattle.order_texts.specs.Examples.{ComposedExamples}
+use Rattle.order_texts.specs.Blocks.{AsRead}
 use Rattle.round_trip.specs.ReadBack.{opened, ShowsEach}
 use Rattle.round_trip.specs.Bytes.{HoldsBits}
 use Rattle.round_trip.specs.Acceptance.{OnlyTriggersAndFasts}
@@ -130,6 +138,20 @@ module _ (plan : Plan) (xs : List Ordered) (output : List ℕ) where
       OnlyTriggersAndFasts xs → length output ≤ inputLimit
       → acceptOf (composeOf plan xs output .output) 0 (composeOf plan xs output .answer .bits) ≡ Accepted
 
+-- The program `compose`: where no line is refused and the stream is not too long, it is the composing call on the orders of its lines, with the default plan
+-- and an output of a mebibyte. So what it prints reads back.
+module _ (characters : List ℕ) where
+  abbrev pub textOrders : List Ordered
+  textOrders = texts.ordersIn (lineTexts (linesOf characters))
+
+  pub record IsTheCall (output : List ℕ) : Type 0 where
+    pub accepts : Accepts defaultPlan textOrders output
+    pub bytes : composedOf characters .bytes ≡ take ((composeOf defaultPlan textOrders output .answer .bits + 7) / 8) (composeOf defaultPlan textOrders output .output)
+
+abbrev pub ProgramComposes : Type 0
+ProgramComposes =
+    (characters output : List ℕ) → composedOf characters .refusal .number ≡ 0 → length output ≡ outputLimit → IsTheCall characters output
+
 pub record SixthPromise : Type 0 where
   pub composes : (plan : Plan) (xs : List Ordered) (output : List ℕ) → Composes plan xs output
   pub writes : (plan : Plan) (xs : List Ordered) (output : List ℕ) → Accepts plan xs output → Writes plan xs output
@@ -138,3 +160,7 @@ pub record SixthPromise : Type 0 where
   pub met : (plan : Plan) (xs : List Ordered) (output : List ℕ) → Accepts plan xs output → Taken plan xs output
   pub accepted-back : (plan : Plan) (xs : List Ordered) (output : List ℕ) → Accepts plan xs output → AcceptedBack plan xs output
   pub in-numbers : ComposeExamples
+  pub program : ProgramComposes
+  pub lines : LineExamples
+  pub texts : ComposedExamples
+  pub as-read : AsRead

@@ -9,7 +9,7 @@ use lib.Seq.{take-all}
 use borrow.Author.Needs.{needs}
 use Rattle.orders.specs.Fields.{orderFits, orderIn}
 use Rattle.composing.specs.Checked.{capped}
-use Rattle.compose_calls.proofs.OrderLists.{number-fits}
+use Rattle.orders.proofs.OrderByOrder.{number-fits}
 use Rattle.compose_calls.proofs.CheckLoop.{Checking, initially, refused, six-more, again, over}
 use Rattle.compose_calls.proofs.check_orders.Statement.{statement}
 use Rattle.compose_calls.proofs.check_orders.Tie as tie

@@ -34,7 +34,8 @@ start-requires c κs = search needs
 loop-holds : tie.Need-loop-holds Inv-loop μ-loop
 loop-holds c =
     let b1 = c .before in
-    started _ (replicate 32768 0) (replicate 16384 0) (replicate 1048576 0) (sym (b1 .large-buffer .ensures)) (zeros-long 32768) (zeros-long 16384) (zeros-long 1048576) _ (c .start .ensures)
+    started _ (replicate 32768 0) (replicate 16384 0) (replicate 1048576 0) (sym (b1 .large-buffer .ensures))
+    (zeros-long 32768) (zeros-long 16384) (zeros-long 1048576) _ (c .start .ensures)
 
 is-over-requires : tie.Need-is-over-requires Inv-loop μ-loop
 is-over-requires c κs = search needs

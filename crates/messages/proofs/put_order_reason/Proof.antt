@@ -123,7 +123,8 @@ returns-5 c =
     let b6 = b5 .before in
     let b7 = b6 .before in
     let b9 = b7 .before .before in
-    let s = b9 in rw (by-numbers _ (s .args .asked) (s .args .given) (b7 .if1 .left) (b6 .if2 .left) (b5 .if3 .left) (b4 .if4 .left)) (b2 .put-order-numbers .ensures)
+    let s = b9 in
+    rw (by-numbers _ (s .args .asked) (s .args .given) (b7 .if1 .left) (b6 .if2 .left) (b5 .if3 .left) (b4 .if4 .left)) (b2 .put-order-numbers .ensures)
 
 pub put-order-reason-spec : {M : Type 1} → statement M
 put-order-reason-spec =

@@ -44,8 +44,10 @@ loop-again c =
     let b1 = c .before in
     let b3 = b1 .before .before in
     let b4 = b3 .before in
-    let b6 = b4 .before .before in
-    (omega arith, sym (digits-on (b6 .args .word .now) (b4 .loop .i) (b3 .loop-test .taken) (omega (arith, b1 .digit .ensures .0, c .if1 .left))) ∙ b4 .loop .inv .1)
+    let b6 = b4 .before .before in (
+      omega arith,
+      sym (digits-on (b6 .args .word .now) (b4 .loop .i) (b3 .loop-test .taken) (omega (arith, b1 .digit .ensures .0, c .if1 .left))) ∙ b4 .loop .inv .1,
+    )
 
 returns-2 : tie.Need-returns-2 Inv-loop μ-loop
 returns-2 c =

@@ -69,8 +69,11 @@ loop-again c =
     let b2 = b1 .before in
     let b3 = b2 .before in
     let b6 = b3 .before .before .before in
-    let d = b6 .args .digits .now in
-    (omega arith, next-put (b3 .loop .inv .1) (_ ∷ []) _ (bytes-next d (b3 .loop .n) (b2 .loop-test .taken)) _ _ (rw (b1 .half-at .ensures .0, c .half-at2 .ensures .0)))
+    let d = b6 .args .digits .now in (
+      omega arith,
+      next-put (b3 .loop .inv .1) (_ ∷ []) _ (bytes-next d (b3 .loop .n) (b2 .loop-test .taken)) _ _
+          (rw (b1 .half-at .ensures .0, c .half-at2 .ensures .0)),
+    )
 
 same-length : tie.Need-same-length Inv-loop μ-loop
 same-length c = c .before .loop .inv .1 .same-length

@@ -44,7 +44,8 @@ returns-2 c =
     let b8 = b5 .before .before .before in
     let words = wordsIn (b8 .args .text .now) in
     read-nothing (c .wrong .ensures .0) (c .wrong .ensures .1 _)
-    (no-name words (λ z. b4 .if1 .left (b5 .word-count .ensures ∙ z)) _ (b2 .kind-named .ensures ∙ ap kindNamed (b3 .word .ensures)) (b1 .if2 .taken)) (b8 .pre .1)
+    (no-name words (λ z. b4 .if1 .left (b5 .word-count .ensures ∙ z)) _ (b2 .kind-named .ensures ∙ ap kindNamed (b3 .word .ensures)) (b1 .if2 .taken))
+    (b8 .pre .1)
 
 field-count-requires : tie.Need-field-count-requires
 field-count-requires c κs = search needs

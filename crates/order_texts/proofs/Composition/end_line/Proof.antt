@@ -66,7 +66,8 @@ returns-2 c =
     let s = b14 in
     left-as (s .args .self) (s .args .line .now) _ (s .pre .0) _ (b11 .wrapping-add-u64 .ensures)
     (c .passed2 .ensures ∙ ap (passedWith (s .args .self) _) (b1 .wrong-line2 .ensures))
-    (no-order (s .args .self) (s .args .line .now) _ (s .pre .0) _ (b11 .wrapping-add-u64 .ensures) (b9 .if1 .left) _ (b6 .read-line .ensures .same) (b2 .if2 .taken))
+    (no-order (s .args .self) (s .args .line .now) _ (s .pre .0) _ (b11 .wrapping-add-u64 .ensures) (b9 .if1 .left) _
+    (b6 .read-line .ensures .same) (b2 .if2 .taken))
 
 none-requires : tie.Need-none-requires
 none-requires c κs = search needs
@@ -89,7 +90,8 @@ returns-3 c =
     let s = b15 in
     left-as (s .args .self) (s .args .line .now) _ (s .pre .0) _ (b12 .wrapping-add-u64 .ensures)
     (c .passed3 .ensures ∙ ap (passedWith (s .args .self) _) (b1 .none .ensures))
-    (blank (s .args .self) (s .args .line .now) _ (s .pre .0) _ (b12 .wrapping-add-u64 .ensures) (b10 .if1 .left) _ (b7 .read-line .ensures .same) (b3 .if2 .left) (b2 .if3 .taken))
+    (blank (s .args .self) (s .args .line .now) _ (s .pre .0) _ (b12 .wrapping-add-u64 .ensures) (b10 .if1 .left) _
+    (b7 .read-line .ensures .same) (b3 .if2 .left) (b2 .if3 .taken))
 
 slice-reshare-prefix-with-order : tie.Need-slice-reshare-prefix-with-order
 slice-reshare-prefix-with-order c =
@@ -119,7 +121,8 @@ returns-4 c =
     let b14 = b12 .before .before in
     let b17 = b14 .before .before .before in
     let s = b17 in
-    an-order (s .args .self) (s .args .line .now) _ (s .pre .0) _ (b14 .wrapping-add-u64 .ensures) (b12 .if1 .left) _ (b9 .read-line .ensures .same) (b5 .if2 .left) (b4 .if3 .left)
+    an-order (s .args .self) (s .args .line .now) _ (s .pre .0) _ (b14 .wrapping-add-u64 .ensures) (b12 .if1 .left) _
+    (b9 .read-line .ensures .same) (b5 .if2 .left) (b4 .if3 .left)
     _ _ (c .with-order .ensures)
 
 pub end-line-spec : {M : Type 1} → statement M

@@ -82,7 +82,8 @@ put-order-requires c κs =
     let s = start e in (
       s .pre .fits,
       fit e,
-      room-for (s .args .self) _ (s .pre) (s .args .lines) (s .args .order) (s .args .lent .now) _ (e .before .before .of-order .ensures) (e .if1 .left) _ _ _
+      room-for (s .args .self) _ (s .pre) (s .args .lines) (s .args .order) (s .args .lent .now) _
+          (e .before .before .of-order .ensures) (e .if1 .left) _ _ _
           (b9 .command-width .ensures) (b8 .add-bits .ensures) (b7 .add-bits2 .ensures) _
           (b5 .after .ensures ∙ ap (λ (p : Plan). contextAfter p (s .args .self .context) (s .args .order)) (b6 .default-plan .ensures))
           _ (b3 .empty .ensures) (sym (k .room-fits .ensures) ∙ b1 .if2 .taken),
@@ -101,7 +102,8 @@ returns-2 c =
     let k = b3 in
     let e = unrefused k in
     let s = start e in
-    order-written (s .args .self) _ (s .pre) (s .args .lines) (s .args .order) (s .args .lent .now) _ (e .before .before .of-order .ensures) (e .if1 .left) _ _ _
+    order-written (s .args .self) _ (s .pre) (s .args .lines) (s .args .order) (s .args .lent .now) _
+    (e .before .before .of-order .ensures) (e .if1 .left) _ _ _
     (b10 .command-width .ensures) (b9 .add-bits .ensures) (b8 .add-bits2 .ensures) _
     (b6 .after .ensures ∙ ap (λ (p : Plan). contextAfter p (s .args .self .context) (s .args .order)) (b7 .default-plan .ensures))
     _ (b4 .empty .ensures) (sym (k .room-fits .ensures) ∙ b2 .if2 .taken) _ _ (c .put-order .ensures)
@@ -118,7 +120,8 @@ returns-3 c =
     let k = b1 in
     let e = unrefused k in
     let s = start e in
-    order-beyond (s .args .self) _ (s .pre) (s .args .lines) (s .args .order) (s .args .lent .now) _ (e .before .before .of-order .ensures) (e .if1 .left) _ _ _
+    order-beyond (s .args .self) _ (s .pre) (s .args .lines) (s .args .order) (s .args .lent .now) _
+    (e .before .before .of-order .ensures) (e .if1 .left) _ _ _
     (b8 .command-width .ensures) (b7 .add-bits .ensures) (b6 .add-bits2 .ensures) _
     (b4 .after .ensures ∙ ap (λ (p : Plan). contextAfter p (s .args .self .context) (s .args .order)) (b5 .default-plan .ensures))
     _ (b2 .empty .ensures) (sym (k .room-fits .ensures) ∙ c .if2 .left)
