@@ -13,7 +13,7 @@ use borrow.Author.Tests.{le-leb, ltb-true, ltb-false, eqb-true, eqb-false}
 use Rattle.bits.specs.Bits.{bitOf}
 use Rattle.bits.proofs.Truth.{cases, and-left, and-right}
 use Rattle.bits.proofs.BitRanges.{binary}
-use Rattle.frames.specs.Tray.{storedOf, partOf}
+use Rattle.frames.specs.Tray.{storedOf, partOf, PartHolds}
 use Rattle.frames.proofs.TrayLaws.{stored-length, stored-bit, stored-before, stored-first, stored-later}
 
 -- A tray that holds a frame's bits so far, and 0 in the rest of the last byte.
@@ -88,11 +88,6 @@ fills (bit ∷ bits) xs n tray e b room held =
 filled-length : (bits : List ℕ) (n : ℕ) (tray : List ℕ) → length (filledOf n tray bits) ≡ length tray
 filled-length [] n tray = refl
 filled-length (bit ∷ bits) n tray = filled-length bits (n + 1) (storedOf tray n bit) ∙ stored-length tray n bit
-
--- The part of the tray that a frame fills: its bytes, and each of their bits.
-pub record PartHolds (frame part : List ℕ) : Type 0 where
-  pub long : length part ≡ (length frame + 7) / 8
-  pub bits : (i : ℕ) → i < 8 * length part → bitOf part i ≡ getD frame i 0
 
 pub part-holds : (frame tray : List ℕ) → T (binary frame) → length frame ≤ 8 * length tray
     → PartHolds frame (partOf (filledOf 0 tray frame) (length frame))

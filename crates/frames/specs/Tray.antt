@@ -1,10 +1,12 @@
 -- The tray, document 01's term for the buffer of frame bits ("What commands do").
 -- Assumes nothing.
+use mathlib.Core.Path.{_≡_}
 use mathlib.Core.Bool.{cond}
 use mathlib.Core.List.{List, []}
-use Prim.Native.Nat.{ℕ, _+_, _*_, _-_, _/_, _%_, _^_}
+use Prim.Native.Nat.{ℕ, _+_, _*_, _-_, _/_, _%_, _^_, _<_}
 use lib.Dec.{leb, eqb}
 use lib.ListN.{length, getD, set, take}
+use Rattle.bits.specs.Bits.{bitOf}
 use Rattle.recogniser.specs.declared.FrameBit.{FrameBit}
 use Rattle.recogniser.specs.declared.FrameBit.the-variants.{None, At}
 
@@ -29,3 +31,8 @@ trayOf tray (At place bit) = storedOf tray place bit
 -- "The frame is handed back as the part of the tray that it fills"; "a count beyond the tray's bits gives the empty part".
 abbrev pub partOf : List ℕ → ℕ → List ℕ
 partOf tray bits = cond (leb bits (8 * length tray)) (take ((bits + 7) / 8) tray) []
+
+-- A part that holds a frame's bits: its bytes, and each of their bits, 0 beyond the frame's last.
+pub record PartHolds (frame part : List ℕ) : Type 0 where
+  pub long : length part ≡ (length frame + 7) / 8
+  pub bits : (i : ℕ) → i < 8 * length part → bitOf part i ≡ getD frame i 0

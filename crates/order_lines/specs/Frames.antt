@@ -11,7 +11,7 @@ use Rattle.order_lines.specs.declared.Number.{Number}
 use Rattle.order_lines.specs.declared.FrameRead.{FrameRead}
 use Rattle.order_lines.specs.Numbers.{digitOf, number, decimal}
 
--- The digits of a frame's word, those ahead of a `:`; and the bits that it says: those that a decimal number behind the `:` says, without one "4 x the digits".
+-- The digits of a frame's word, those ahead of a `:`; and the bits that it says: those that a decimal number behind the `:` says, without one those of all its digits, four each.
 unfoldable pub upToColon : List ℕ → List ℕ
 upToColon [] = []
 upToColon (c ∷ cs) = cond (eqb c (code ":")) [] (c ∷ upToColon cs)
@@ -24,7 +24,7 @@ abbrev pub areDigits : List ℕ → Bool
 areDigits [] = true
 areDigits (c ∷ cs) = ltb (digitOf c) 16 && areDigits cs
 
--- "the first bit highest": bytes of two digits each. The last of an odd count of digits is the high half.
+-- The first bit highest: bytes of two digits each. The last of an odd count of digits is the high half.
 abbrev pub half : ℕ → ℕ
 half c = digitOf c % 16
 
@@ -45,7 +45,7 @@ frame right bits bytes = record { right = right; bits = bits; bytes = bytes }
 abbrev pub noFrame : Frame
 noFrame = frame false 0 []
 
--- "digits that give fewer bits than the count" are none.
+-- Digits that give fewer bits than the count are no frame.
 unfoldable pub frameOf : List ℕ → Frame
 frameOf word =
     let digits = upToColon word in

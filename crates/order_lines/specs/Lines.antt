@@ -59,7 +59,7 @@ valueField kind words =
 abbrev pub frameField : ℕ → List (List ℕ) → Frame
 frameField kind words = cond (isFrameKind kind) (frameOf (getD words 1 [])) (frame true 0 [])
 
--- "ZEROS: .. 0 if the word is not there", behind the name and so many fields.
+-- The zeros ahead, behind the name and so many fields; 0 if the word is not there.
 abbrev pub zerosField : ℕ → List (List ℕ) → Number
 zerosField fields words = cond (ltb (1 + fields) (length words)) (decimal (getD words (1 + fields) [])) (number 0)
 
@@ -73,7 +73,7 @@ unfoldable pub fieldsMeaning : ℕ → List (List ℕ) → LineMeaning
 fieldsMeaning kind words =
     orderLine kind (zerosField (fieldCount kind) words) (addressField kind words) (valueField kind words) (frameField kind words)
 
--- "neither name + fields nor one more" is another count.
+-- The name and its fields, or one word more, the zeros ahead; any other count is another.
 abbrev pub countFits : ℕ → ℕ → Bool
 countFits fields count = eqb count (1 + fields) || eqb count (2 + fields)
 

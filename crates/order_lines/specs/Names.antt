@@ -1,4 +1,4 @@
--- The names of the commands, and how many fields each has (document 01, "Commands"; the forms are ours).
+-- The names of the commands, and how many fields each has (document 01, "Hunting" and "Slow commands"; the forms are ours).
 -- Assumes nothing.
 use mathlib.Core.Bool.{Bool, cond}
 use mathlib.Core.List.{List, [], _∷_}

@@ -29,7 +29,7 @@ numberLimit = 2 ^ 56
 abbrev pub withDigit : ℕ → ℕ → ℕ → ℕ
 withDigit base n d = cond (ltb n numberLimit) (n * base + d) n
 
--- "one digit or more", behind the number that those before stand for.
+-- Digits, behind the number that those before stand for.
 unfoldable pub numberFrom : ℕ → ℕ → List ℕ → Number
 numberFrom base n [] = number n
 numberFrom base n (c ∷ cs) = cond (ltb (digitOf c) base) (numberFrom base (withDigit base n (digitOf c)) cs) noNumber
@@ -44,6 +44,6 @@ hexadecimal word = numberOf 16 word
 abbrev pub decimal : List ℕ → Number
 decimal word = numberOf 10 word
 
--- "the number must be of its size": so many bits.
+-- A number of so many bits; a larger one is none.
 unfoldable pub sized : ℕ → Number → Number
 sized width n = cond (n .right && ltb (n .value) (2 ^ width)) n noNumber

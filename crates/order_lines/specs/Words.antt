@@ -7,16 +7,16 @@ use Prim.Native.Nat.{ℕ}
 use lib.Dec.{eqb}
 use Rattle.hexlines.specs.Lines.{isEmpty}
 
--- "`#` and all behind it are a comment."
+-- `#` and all behind it are a comment.
 unfoldable pub uncommented : List ℕ → List ℕ
 uncommented [] = []
 uncommented (c ∷ cs) = cond (eqb c (code "#")) [] (c ∷ uncommented cs)
 
--- "Blanks are space, tab and carriage return."
+-- Blanks are space, tab and carriage return.
 abbrev pub isBlank : ℕ → Bool
 isBlank c = eqb c (code " ") || (eqb c (code "\t") || eqb c (code "\r"))
 
--- "Words are the runs of other characters": those of a text, behind the characters of a word that has begun. One without characters is none.
+-- Words are the runs of other characters: those of a text, behind the characters of a word that has begun. One without characters is none.
 abbrev pub endedWord : List ℕ → List (List ℕ) → List (List ℕ)
 endedWord word words = cond (isEmpty word) words (word ∷ words)
 

@@ -29,11 +29,11 @@ refusedWith r = composed r []
 abbrev pub tooLong : Composed
 tooLong = refusedWith (refusal 11 0 longStream 0 0)
 
--- "last of all 11 when the stream has more than 1,048,576 bytes."
+-- Last of all 11, when the output cannot hold the whole stream.
 unfoldable pub writtenOf : List ℕ → Composed
 writtenOf bits = cond (roomFits (length bits) outputLimit) (composed noRefusal (packed bits)) tooLong
 
--- The whole program: "line by line 9 .., then 10; last of all 11".
+-- The whole program: line by line 9, then 10; last of all 11.
 unfoldable pub composedOf : List ℕ → Composed
 composedOf characters =
     let texts = lineTexts (linesOf characters) in

@@ -12,7 +12,7 @@ use Rattle.messages.specs.Sentences.{orderSentence}
 use Rattle.order_texts.specs.declared.Refusal.{Refusal}
 use Rattle.order_texts.specs.Composed.{Composed}
 
--- "the stream's bytes in lines of 64 digits (32 bytes), upper case, the last line shorter", behind n bytes of the present line.
+-- The stream's bytes in lines of 64 digits, 32 bytes each, the last line shorter, behind n bytes of the present line.
 unfoldable pub linesFrom : ℕ → List ℕ → List ℕ
 linesFrom n [] = []
 linesFrom n (b ∷ bs) = charactersOf b 2 ++ cond (isEmpty bs || eqb n 31) (lineFeed ∷ linesFrom 0 bs) (linesFrom (n + 1) bs)

@@ -61,7 +61,7 @@ meaningRefusal c n m =
     cond (eqb (m .reason) 0) (cond (m .blank) noRefusal (orderRefusal c n (m .order) (length (m .lent))))
     (refusal 9 n (m .reason) 0 0)
 
--- "A line of more than 32,768 characters .. is number 9."
+-- A line of more than 32,768 characters is number 9, whatever stands in it.
 unfoldable pub lineRefusal : Context → ℕ → LineText → Refusal
 lineRefusal c n t = cond (t .long) (refusal 9 n longLine 0 0) (meaningRefusal c n (lineMeaning (t .text)))
 
@@ -79,7 +79,7 @@ meaningOrders m xs = cond (m .blank) xs (ordered (m .order) (m .lent) ∷ xs)
 abbrev pub nextLineNumber : ℕ → ℕ
 nextLineNumber n = (n + 1) % 2 ^ 64
 
--- "line by line": the first refusal, behind n lines; number 0 where there is none.
+-- Line by line: the first refusal, behind n lines; number 0 where there is none.
 unfoldable pub refusalIn : Context → ℕ → List LineText → Refusal
 refusalIn c n [] = noRefusal
 refusalIn c n (t ∷ ts) =

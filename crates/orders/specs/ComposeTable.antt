@@ -85,7 +85,8 @@ composeTable =
     ∷ refuses (plain 0x18 0 ++ plain 0x01 3) [] 10 1
     ∷ refuses (plain 0x11 0 ++ plain 0x1F 1) [] 9 1
     ∷ refuses (plain 0x12 0 ++ plain 0x14 0 ++ plain 0x00 0) [] 10 1
-    -- 97 bits into twelve bytes; 11 comes last of all
+    -- 96 bits into twelve bytes, and 97; 11 comes last of all
+    ∷ writes (plain 0x01 91) [] 96 (replicate 11 0 ++ (0x1D ∷ []))
     ∷ refuses (plain 0x01 92) [] 11 0
     ∷ refuses (plain 0x01 92 ++ plain 0x00 0) [] 9 1
     ∷ []

@@ -19,16 +19,16 @@ use Rattle.bits.proofs.Truth.{clash, choice, both}
 use Rattle.registers.specs.declared.Plan.{Plan}
 use Rattle.registers.specs.Plan.{planFits}
 use Rattle.timing.specs.Table.{isLv1Kind}
+use Rattle.orders.specs.declared.Order.{Order}
 use Rattle.orders.specs.declared.Context.{Context}
 use Rattle.orders.specs.declared.Composed.{Composed}
 use Rattle.orders.specs.Fields.{Ordered, isSlowKind, orderFits}
 use Rattle.orders.specs.Streams.{zeros, commandBits, orderBits, streamOf, packed}
 use Rattle.orders.specs.Composing.{start, composed, contextAfter, zerosFit, orderNumber, refusalFrom, roomFits, ComposeResult, composeResult, composeOf}
 use Rattle.patterns.specs.Verdicts.{verdictOf, acceptOf}
-use Rattle.decoder.specs.Opening.{openedAt}
 use Rattle.calls.specs.Calls.{carriedBits}
 use Rattle.calls.proofs.SoundnessKept.{opened-sound}
-use Rattle.calls.proofs.BitCalls.{callsFor, calls-take}
+use Rattle.calls.proofs.BitCalls.{partsFor, parts-take}
 use Rattle.orders.proofs.StreamBits.{stream-binary}
 use Rattle.orders.proofs.Examples.{compose-examples}
 use Rattle.order_lines.proofs.Examples.{line-examples}
@@ -40,7 +40,7 @@ use Rattle.round_trip.proofs.Bytes.{bytes}
 use Rattle.round_trip.proofs.CallsRoundTrip.{calls-round-trip, calls-frame-round-trip}
 use Rattle.round_trip.proofs.Acceptance.{composed-accepted}
 use Rattle.promises.specs.Refusals.{Row, row, firstOf, threeInMask, threeDiffer}
-use Rattle.promises.specs.Composing.{isWrong, hasFewZeros, orderRows, rowsFrom, composingRows, NamesFirst, Composes, Writes, Accepts, ReadsBack, FrameBack, Taken, AcceptedBack, SixthPromise}
+use Rattle.promises.specs.Composing.{isWrong, hasFewZeros, orderRows, rowsFrom, composingRows, NamesFirst, Composes, Writes, Accepts, ReadsBack, FrameBack, ReadsBackMet, AcceptedBack, SixthPromise}
 use Rattle.promises.proofs.Refusals.{not-leb, not-and, plan-row}
 use Rattle.promises.proofs.Frames.{tray-fits}
 use Rattle.promises.proofs.OrderRows.{order-rows}
@@ -148,6 +148,32 @@ no-bits plan c n (x ∷ xs) =
     choice (λ (r : Composed). r .bits ≡ 0) (eqb (orderNumber c (x .order) (length (x .lent))) 0)
     (λ _. no-bits plan (contextAfter plan c (x .order)) (n + 1) xs) (λ _. refl)
 
+-- A refusal of an order is number 9 or 10.
+order-numbers : (c : Context) (o : Order) (bytes : ℕ) → (orderNumber c o bytes ≡ 0 → ⊥) → (eqb (orderNumber c o bytes) 9 || eqb (orderNumber c o bytes) 10) ≡ true
+order-numbers c o bytes = numbers-by (orderFits (c .cnt) o bytes) (zerosFit c o)
+  where
+    numbers-by : (fits enough : Bool) → (cond {A = ℕ} fits (cond enough 0 10) 9 ≡ 0 → ⊥)
+        → (eqb (cond {A = ℕ} fits (cond enough 0 10) 9) 9 || eqb (cond {A = ℕ} fits (cond enough 0 10) 9) 10) ≡ true
+    numbers-by true true some = absurd (some refl)
+    numbers-by true false some = refl
+    numbers-by false enough some = refl
+
+not-of-order : (plan : Plan) (c : Context) (n : ℕ) (xs : List Ordered) → (refusalFrom plan c n xs .number ≡ 0 → ⊥)
+    → (eqb (refusalFrom plan c n xs .number) 9 || eqb (refusalFrom plan c n xs .number) 10) ≡ false → ⊥
+unfolding refusalFrom
+not-of-order plan c n [] some h = some refl
+not-of-order plan c n (x ∷ xs) some h =
+    of-order-by (orderNumber c (x .order) (length (x .lent))) n (refusalFrom plan (contextAfter plan c (x .order)) (n + 1) xs)
+    (order-numbers c (x .order) (length (x .lent))) (not-of-order plan (contextAfter plan c (x .order)) (n + 1) xs)
+    (eqb (orderNumber c (x .order) (length (x .lent))) 0) refl some h
+  where
+    of-order-by : (number n : ℕ) (later : Composed) → ((number ≡ 0 → ⊥) → (eqb number 9 || eqb number 10) ≡ true)
+        → ((later .number ≡ 0 → ⊥) → (eqb (later .number) 9 || eqb (later .number) 10) ≡ false → ⊥) → (none : Bool) → eqb number 0 ≡ none
+        → (cond none later (composed number n 0) .number ≡ 0 → ⊥)
+        → (eqb (cond none later (composed number n 0) .number) 9 || eqb (cond none later (composed number n 0) .number) 10) ≡ false → ⊥
+    of-order-by number n later own rest true e some h = rest some h
+    of-order-by number n later own rest false e some h = clash (own some) h
+
 -- The numbers of orders are below 256.
 refusal-low : (plan : Plan) (c : Context) (n : ℕ) (xs : List Ordered) → refusalFrom plan c n xs .number < 256
 unfolding refusalFrom
@@ -249,6 +275,13 @@ module _ (plan : Plan) (xs : List Ordered) (output : List ℕ) where
   first-by true true true e h = clash h refl
   first-by true true false e h = clash h refl
 
+  whole-by : (fits none enough : Bool) → eqb (refusal .number) 0 ≡ none → ofOrder (byTests fits none enough .answer .number) ≡ false
+      → byTests fits none enough .answer .order ≡ 0
+  whole-by false none enough e h = refl
+  whole-by true false enough e h = absurd (not-of-order plan start 0 xs (eqb-false (refusal .number) 0 e) h)
+  whole-by true true true e h = refl
+  whole-by true true false e h = refl
+
   pub composes : Composes plan xs output
   composes =
       let fits = planFits plan in
@@ -259,6 +292,7 @@ module _ (plan : Plan) (xs : List Ordered) (output : List ℕ) where
             (unchanged-by fits none room);
         named = subst (λ (r : ComposeResult). ofOrder (r .answer .number) ≡ true → NamesFirst plan xs (r .answer)) (sym result-by)
             (first-by fits none room refl);
+        whole = subst (λ (r : ComposeResult). ofOrder (r .answer .number) ≡ false → r .answer .order ≡ 0) (sym result-by) (whole-by fits none room refl);
       }
 
   enough-by : (fits none enough : Bool) → eqb (refusal .number) 0 ≡ none → byTests fits none enough .answer .number ≡ 0 → enough ≡ true
@@ -291,11 +325,11 @@ module _ (plan : Plan) (xs : List Ordered) (output : List ℕ) where
         calls-frame-round-trip plan store tray before x after ps (subst (Fit plan) parts (written .fit)) carries
         (tray-fits ps (opened plan store tray) some) took
 
-    pub met : Taken plan xs output
-    met = record {
-      calls = callsFor (streamOf xs);
-      took = calls-take (streamOf xs) (openedAt plan 0) (stream-binary xs) (opened-sound plan 0 (written .fit .plan-fits) (omega arith))
-          (omega (arith, written .clock))
+    pub met : ReadsBackMet plan xs output
+    met store tray store-long tray-long = record {
+      parts = partsFor (streamOf xs);
+      took = parts-take (streamOf xs) (opened plan store tray) store-long tray-long (stream-binary xs)
+          (opened-sound plan 0 (written .fit .plan-fits) (omega arith)) (omega (arith, written .clock))
           ∙ sym (writes .stream);
     }
 

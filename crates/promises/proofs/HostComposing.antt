@@ -12,8 +12,7 @@ use borrow.Author.Tests.{eq-eqb, ne-eqb}
 use Rattle.limits.specs.Limits.{clockLimit}
 use Rattle.bits.specs.Bits.{bitsOf}
 use Rattle.bits.proofs.Truth.{choice}
-use Rattle.frames.specs.Tray.{partOf}
-use Rattle.frames.proofs.FrameFill.{PartHolds}
+use Rattle.frames.specs.Tray.{partOf, PartHolds}
 use Rattle.registers.specs.declared.Plan.{Plan}
 use Rattle.decoder.specs.declared.Decoder.{Decoder}
 use Rattle.decoder.specs.Opening.{openedAt}

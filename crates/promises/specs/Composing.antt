@@ -6,10 +6,9 @@ use mathlib.Core.List.{List, [], _∷_, _++_}
 use Prim.Native.Nat.{ℕ, _+_, _*_, _/_, _%_, _≤_}
 use lib.Dec.{ltb, leb, eqb}
 use lib.ListN.{length, take}
-use Rattle.limits.specs.Limits.{clockLimit, inputLimit}
+use Rattle.limits.specs.Limits.{clockLimit, storeLength, trayLength, inputLimit}
 use Rattle.bits.specs.Bits.{bitsOf}
-use Rattle.frames.specs.Tray.{partOf}
-use Rattle.frames.proofs.FrameFill.{PartHolds}
+use Rattle.frames.specs.Tray.{partOf, PartHolds}
 use Rattle.records.specs.declared.Record.{Record}
 use Rattle.records.specs.Records.{recordWords}
 use Rattle.registers.specs.declared.Plan.{Plan}
@@ -17,9 +16,7 @@ use Rattle.registers.specs.Plan.{defaultPlan}
 use Rattle.timing.specs.Table.{amongKinds, zerosAsked}
 use Rattle.patterns.specs.declared.Verdict.the-variants.{Accepted}
 use Rattle.patterns.specs.Verdicts.{acceptOf}
-use Rattle.decoder.specs.Opening.{openedAt}
-use Rattle.calls.specs.Calls.{Part, carriedBits, carriedWords, carriedSystem, allBits}
-use Rattle.calls.specs.Take.{Call}
+use Rattle.calls.specs.Calls.{Part, carriedBits, carriedWords, carriedSystem}
 use Rattle.orders.specs.declared.Order.{Order}
 use Rattle.orders.specs.declared.Context.{Context}
 use Rattle.orders.specs.declared.Composed.{Composed}
@@ -90,6 +87,8 @@ pub record Composes (plan : Plan) (xs : List Ordered) (output : List ℕ) : Type
       → (composeOf plan xs output .output ≡ output) × (composeOf plan xs output .answer .bits ≡ 0)
   pub named : (eqb (composeOf plan xs output .answer .number) 9 || eqb (composeOf plan xs output .answer .number) 10) ≡ true
       → NamesFirst plan xs (composeOf plan xs output .answer)
+  pub whole : (eqb (composeOf plan xs output .answer .number) 9 || eqb (composeOf plan xs output .answer .number) 10) ≡ false
+      → composeOf plan xs output .answer .order ≡ 0
 
 -- The stream that a call has written: as many bits of its output as it answers.
 abbrev pub streamIn : ComposeResult → List ℕ
@@ -127,10 +126,13 @@ module _ (plan : Plan) (xs : List Ordered) (output : List ℕ) where
       → (store tray : List ℕ) (ps : List Part) → carriedBits (opened plan store tray) ps ≡ streamOf (before ++ (x ∷ []))
       → PartHolds (frameOf x) (partOf (carriedSystem (opened plan store tray) ps .machine .tray) (x .order .bits))
 
-  -- The premises can be met: there are calls that together take all of it.
-  pub record Taken : Type 0 where
-    pub calls : List Call
-    pub took : allBits (openedAt plan 0) calls ≡ streamIn (composeOf plan xs output)
+  -- The premises can be met: with a store and a tray of their lengths there are calls that together take all of it.
+  pub record Readable (store tray : List ℕ) : Type 0 where
+    pub parts : List Part
+    pub took : carriedBits (opened plan store tray) parts ≡ streamIn (composeOf plan xs output)
+
+  abbrev pub ReadsBackMet : Type 0
+  ReadsBackMet = (store tray : List ℕ) → length store ≡ storeLength → length tray ≡ trayLength → Readable store tray
 
   -- Of trigger and fast commands alone it is accepted by the check of document 02, F-8.
   abbrev pub AcceptedBack : Type 0
@@ -157,7 +159,7 @@ pub record SixthPromise : Type 0 where
   pub writes : (plan : Plan) (xs : List Ordered) (output : List ℕ) → Accepts plan xs output → Writes plan xs output
   pub reads-back : (plan : Plan) (xs : List Ordered) (output : List ℕ) → Accepts plan xs output → ReadsBack plan xs output
   pub frame-back : (plan : Plan) (xs : List Ordered) (output : List ℕ) → Accepts plan xs output → FrameBack plan xs output
-  pub met : (plan : Plan) (xs : List Ordered) (output : List ℕ) → Accepts plan xs output → Taken plan xs output
+  pub met : (plan : Plan) (xs : List Ordered) (output : List ℕ) → Accepts plan xs output → ReadsBackMet plan xs output
   pub accepted-back : (plan : Plan) (xs : List Ordered) (output : List ℕ) → Accepts plan xs output → AcceptedBack plan xs output
   pub in-numbers : ComposeExamples
   pub program : ProgramComposes

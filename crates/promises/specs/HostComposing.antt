@@ -7,8 +7,7 @@ use Prim.Native.Nat.{ℕ, _/_, _%_, _^_, _≤_}
 use lib.ListN.{length}
 use Rattle.limits.specs.Limits.{trayLength}
 use Rattle.bits.specs.Bits.{bitsOf}
-use Rattle.frames.specs.Tray.{partOf}
-use Rattle.frames.proofs.FrameFill.{PartHolds}
+use Rattle.frames.specs.Tray.{partOf, PartHolds}
 use Rattle.decoder.specs.Opening.{openedAt}
 use Rattle.image_fields.specs.Image.{stateOf}
 use Rattle.orders.specs.declared.Composed.{Composed}

@@ -1,8 +1,7 @@
 -- The round trip by taking calls: what calls write and leave is what the bits that they take say.
 -- Assumes nothing.
 use mathlib.Core.Path.{_∙_, sym, ap, subst}
-use Rattle.frames.specs.Tray.{partOf}
-use Rattle.frames.proofs.FrameFill.{PartHolds}
+use Rattle.frames.specs.Tray.{partOf, PartHolds}
 use Rattle.calls.specs.Run.{stateAfter, wordsAfter}
 use Rattle.calls.specs.Turn.{System, turnOf}
 use Rattle.calls.proofs.CallLists.{carried-words, carried-system}

@@ -11,8 +11,8 @@ use borrow.Author.Tests.{eqb-true}
 use Rattle.limits.specs.Limits.{trayLength}
 use Rattle.bits.proofs.Truth.{both, choice}
 use Rattle.recogniser.specs.Parts.{idle}
-use Rattle.frames.specs.Tray.{partOf}
-use Rattle.frames.proofs.FrameFill.{filledOf, PartHolds, part-holds}
+use Rattle.frames.specs.Tray.{partOf, PartHolds}
+use Rattle.frames.proofs.FrameFill.{filledOf, part-holds}
 use Rattle.records.specs.Records.{kindSlow}
 use Rattle.registers.specs.declared.Plan.{Plan}
 use Rattle.registers.specs.Plan.{planFits}

@@ -136,6 +136,7 @@ module _ (plan : Plan) (fits : planFits plan ≡ true) (c : Context) (m : Machin
         time = omega (arith, read .time, long);
         kind = t .kind;
         fields = t .fields;
+        flags = omega (arith, no-flag, t .low);
         no-flip = ap (λ n. n / 2 % 2) no-flag ∙ t .no-flip;
         no-unsteady = ap (λ n. n / 16 % 2) no-flag ∙ t .no-unsteady;
         no-crowding = omega (arith, no-flag, t .low);

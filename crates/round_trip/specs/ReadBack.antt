@@ -3,7 +3,7 @@
 use mathlib.Core.Path.{_≡_}
 use mathlib.Core.Bool.{true, cond}
 use mathlib.Core.List.{List, [], _∷_, _++_}
-use Prim.Native.Nat.{ℕ, _+_, _/_, _%_, _^_}
+use Prim.Native.Nat.{ℕ, _+_, _/_, _%_, _^_, _<_}
 use lib.Dec.{eqb}
 use lib.ListN.{length}
 use Rattle.limits.specs.Limits.{trayLength}
@@ -12,8 +12,7 @@ use Rattle.records.specs.Records.{kindSlow, recordWords, frameBitsOf}
 use Rattle.registers.specs.declared.Plan.{Plan}
 use Rattle.registers.specs.Plan.{planFits}
 use Rattle.decoder.specs.Opening.{openedAt}
-use Rattle.frames.specs.Tray.{partOf}
-use Rattle.frames.proofs.FrameFill.{PartHolds}
+use Rattle.frames.specs.Tray.{partOf, PartHolds}
 use Rattle.calls.specs.Run.{stateAfter, wordsAfter}
 use Rattle.calls.specs.Turn.{System, systemOf, turnOf}
 use Rattle.orders.specs.declared.Order.{Order}
@@ -43,12 +42,13 @@ fieldsShown kind value =
     (cond (eqb kind (kindSlow 10)) (value / 2 ∷ [])
     [])))))
 
--- "one record an order, at its cycle, with its command, its used fields": the order's last bit is that ahead of cycle n. None with flip, of an unsteady
--- group or too close to the one before: flags 02, 10 and 20.
+-- "one record an order, at its cycle, with its command, its used fields": the order's last bit is that ahead of cycle n. Its flags are a byte, so that time and
+-- kind are those of its first word. None with flip, of an unsteady group or too close to the one before: flags 02, 10 and 20.
 pub record Shows (n : ℕ) (o : Order) (r : Record) : Type 0 where
   pub time : r .time + 1 ≡ n
   pub kind : r .kind ≡ o .kind
   pub fields : fieldsShown (r .kind) (r .value) ≡ usedFields o
+  pub flags : r .flags < 256
   pub no-flip : r .flags / 2 % 2 ≡ 0
   pub no-unsteady : r .flags / 16 % 2 ≡ 0
   pub no-crowding : r .flags / 32 % 2 ≡ 0
