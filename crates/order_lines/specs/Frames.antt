@@ -11,7 +11,8 @@ use Rattle.order_lines.specs.declared.Number.{Number}
 use Rattle.order_lines.specs.declared.FrameRead.{FrameRead}
 use Rattle.order_lines.specs.Numbers.{digitOf, number, decimal}
 
--- The digits of a frame's word, those ahead of a `:`; and the bits that it says: those that a decimal number behind the `:` says, without one those of all its digits, four each.
+-- The digits of a frame's word, those ahead of a `:`; and the bits that it says: those that a decimal number behind the `:` says, without one those of all
+-- its digits, four each.
 unfoldable pub upToColon : List ℕ → List ℕ
 upToColon [] = []
 upToColon (c ∷ cs) = cond (eqb c (code ":")) [] (c ∷ upToColon cs)

@@ -40,7 +40,8 @@ use Rattle.round_trip.proofs.Bytes.{bytes}
 use Rattle.round_trip.proofs.CallsRoundTrip.{calls-round-trip, calls-frame-round-trip}
 use Rattle.round_trip.proofs.Acceptance.{composed-accepted}
 use Rattle.promises.specs.Refusals.{Row, row, firstOf, threeInMask, threeDiffer}
-use Rattle.promises.specs.Composing.{isWrong, hasFewZeros, orderRows, rowsFrom, composingRows, NamesFirst, Composes, Writes, Accepts, ReadsBack, FrameBack, ReadsBackMet, AcceptedBack, SixthPromise}
+use Rattle.promises.specs.Composing.{isWrong, hasFewZeros, orderRows, rowsFrom, composingRows, NamesFirst, Composes}
+use Rattle.promises.specs.Composing.{Writes, Accepts, ReadsBack, FrameBack, ReadsBackMet, AcceptedBack, SixthPromise}
 use Rattle.promises.proofs.Refusals.{not-leb, not-and, plan-row}
 use Rattle.promises.proofs.Frames.{tray-fits}
 use Rattle.promises.proofs.OrderRows.{order-rows}
@@ -149,7 +150,8 @@ no-bits plan c n (x ∷ xs) =
     (λ _. no-bits plan (contextAfter plan c (x .order)) (n + 1) xs) (λ _. refl)
 
 -- A refusal of an order is number 9 or 10.
-order-numbers : (c : Context) (o : Order) (bytes : ℕ) → (orderNumber c o bytes ≡ 0 → ⊥) → (eqb (orderNumber c o bytes) 9 || eqb (orderNumber c o bytes) 10) ≡ true
+order-numbers : (c : Context) (o : Order) (bytes : ℕ) → (orderNumber c o bytes ≡ 0 → ⊥)
+    → (eqb (orderNumber c o bytes) 9 || eqb (orderNumber c o bytes) 10) ≡ true
 order-numbers c o bytes = numbers-by (orderFits (c .cnt) o bytes) (zerosFit c o)
   where
     numbers-by : (fits enough : Bool) → (cond {A = ℕ} fits (cond enough 0 10) 9 ≡ 0 → ⊥)
@@ -343,7 +345,8 @@ module _ (plan : Plan) (xs : List Ordered) (output : List ℕ) where
         let after = composeOf plan xs output .output in
         let count = composeOf plan xs output .answer .bits in
         let range : rangeFits (length after) 0 count ≡ true =
-        simp (le-leb (length after) inputLimit (omega (arith, long, short)), le-leb (0 + count) (8 * length after) (omega (arith, long, fits, written .count))) in
+        let within = le-leb (0 + count) (8 * length after) (omega (arith, long, fits, written .count)) in
+        simp (le-leb (length after) inputLimit (omega (arith, long, short)), within) in
         rw range (ap verdictOf (writes .stream) ∙ composed-accepted plan xs (written .fit) only)
 
 pub sixth-promise : SixthPromise

@@ -26,7 +26,8 @@ use Rattle.orders.proofs.OrderByOrder.{refusal-later}
 use Rattle.hexlines.specs.Lines.{linesOf}
 use Rattle.order_lines.specs.Lines.{LineMeaning, lineMeaning}
 use Rattle.order_texts.specs.declared.Refusal.{Refusal}
-use Rattle.order_texts.specs.Refusals.{refusal, noRefusal, otherBits, longLine, fewZeros, LineText, lineTexts, orderRefusal, meaningRefusal, lineRefusal, meaningContext, ordered, meaningOrders, nextLineNumber, refusalIn, ordersIn}
+use Rattle.order_texts.specs.Refusals.{refusal, noRefusal, otherBits, longLine, fewZeros, LineText, lineTexts, orderRefusal, meaningRefusal}
+use Rattle.order_texts.specs.Refusals.{lineRefusal, meaningContext, ordered, nextLineNumber, refusalIn, ordersIn}
 use Rattle.order_texts.specs.Composed as texts
 use Rattle.order_texts.specs.Composed.{outputLimit, refusedWith, tooLong, writtenOf, composedOf}
 use Rattle.promises.specs.Composing.{textOrders, IsTheCall, ProgramComposes}
@@ -81,7 +82,8 @@ line-passes c n t h = line-by c n (lineMeaning (t .text)) (t .long) h
 -- A line ahead of others.
 module _ (c : Context) (m : ℕ) (x : LineMeaning) (xs : List Ordered) (later : (k : ℕ) → refusalFrom defaultPlan (meaningContext c x) k xs .number ≡ 0) where
   ahead-by : Passes c x → (blank : Bool) → x .blank ≡ blank → refusalFrom defaultPlan c m (cond blank xs (ordered (x .order) (x .lent) ∷ xs)) .number ≡ 0
-  ahead-by p true e = subst (λ (d : Context). refusalFrom defaultPlan d m xs .number ≡ 0) (ap (λ b. cond b c (contextAfter defaultPlan c (x .order))) e) (later m)
+  ahead-by p true e =
+      subst (λ (d : Context). refusalFrom defaultPlan d m xs .number ≡ 0) (ap (λ b. cond b c (contextAfter defaultPlan c (x .order))) e) (later m)
   ahead-by p false e =
       ap (λ (r : Composed). r .number) (refusal-later defaultPlan c m (ordered (x .order) (x .lent)) xs (p .fits e))
       ∙ subst (λ (d : Context). refusalFrom defaultPlan d (m + 1) xs .number ≡ 0) (ap (λ b. cond b c (contextAfter defaultPlan c (x .order))) e) (later (m + 1))

@@ -148,7 +148,8 @@ module _ (characters : List ℕ) where
 
   pub record IsTheCall (output : List ℕ) : Type 0 where
     pub accepts : Accepts defaultPlan textOrders output
-    pub bytes : composedOf characters .bytes ≡ take ((composeOf defaultPlan textOrders output .answer .bits + 7) / 8) (composeOf defaultPlan textOrders output .output)
+    pub bytes : composedOf characters .bytes
+        ≡ take ((composeOf defaultPlan textOrders output .answer .bits + 7) / 8) (composeOf defaultPlan textOrders output .output)
 
 abbrev pub ProgramComposes : Type 0
 ProgramComposes =

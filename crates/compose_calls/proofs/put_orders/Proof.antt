@@ -66,7 +66,9 @@ put-order-requires c κs =
     let a = s .args in
     let i = l .loop .inv in
     let here = r .before .before .loop-test .taken in
-    let room = subst (λ (w : Writer). Room w (a .out .now) (streamOf (ordersIn (a .frames .now) (a .words .now)))) (sym (l .before .start .ensures)) (s .pre .1) in (
+    let os = ordersIn (a .frames .now) (a .words .now) in
+    let started = sym (l .before .start .ensures) in
+    let room = subst (λ (w : Writer). Room w (a .out .now) (streamOf os)) started (s .pre .1) in (
       i .written .fits,
       this-fit i here _ _ (read-as r) (f .lent-from .ensures),
       this-room i here _ _ (read-as r) (f .lent-from .ensures) room,
