@@ -8,6 +8,8 @@ pub mod LoopInvariant
 pub mod SlowSteps
 pub mod SoundnessKept
 pub mod RecordsFit
+pub mod RecordTimes
+pub mod FrameEnds
 pub mod TurnsKept
 pub mod FrameTurns
 pub mod FrontEndTurns

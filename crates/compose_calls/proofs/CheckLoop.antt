@@ -1,24 +1,23 @@
 -- What the check of all orders keeps: what is refused of the orders that are left, and how many bits there are with theirs, is what is said of all.
 -- Assumes nothing.
 use mathlib.Core.Bool.{true, false}
-use mathlib.Core.List.{List, [], _∷_, _++_}
+use mathlib.Core.List.{List, [], _∷_}
 use mathlib.Core.Logic.{⊎-elim}
 use mathlib.Core.Path.{_≡_, _∙_, refl, sym, ap, subst}
 use Prim.Native.Nat.{ℕ, _+_, _^_, _<_, _≤_}
 use native.Mathlib.Nat.{zero-add, add-assoc}
 use native.Mathlib.Omega.{arith}
-use lib.Dec.{leb, eqb}
+use lib.Dec.{leb}
 use lib.ListN.{length, drop, length-append, length-drop, length-replicate}
 use lib.Seq.{drop-drop}
-use borrow.Author.Tests.{le-leb, lt-leb, leb-true, leb-false, eq-eqb, ne-eqb}
+use borrow.Author.Tests.{lt-leb, leb-false, ne-eqb}
 use Rattle.limits.specs.Limits.{clockLimit}
 use Rattle.bits.proofs.Truth.{cases}
 use Rattle.registers.specs.declared.Plan.{Plan}
 use Rattle.orders.specs.declared.Order.{Order}
 use Rattle.orders.specs.declared.Context.{Context}
-use Rattle.orders.specs.declared.Composed.{Composed}
 use Rattle.orders.specs.Fields.{Ordered, orderFits, orderIn, ordersIn}
-use Rattle.orders.specs.Streams.{commandBits, orderBits, streamOf}
+use Rattle.orders.specs.Streams.{commandBits, streamOf}
 use Rattle.orders.specs.Composing.{start, composed, contextAfter, orderNumber, refusalFrom}
 use Rattle.orders.proofs.OrderByOrder.{number-fits, refusal-later, refusal-here}
 use Rattle.composing.specs.Checked.{ordered, WidthOf, capped, checkedOf}

@@ -1,24 +1,21 @@
 -- The fields of a fit order: how many bits each has, and what is lent for a frame.
 -- Assumes nothing.
-use mathlib.Core.Bool.{Bool, true, false, cond, _&&_}
-use mathlib.Core.List.{List, [], _∷_, _++_}
+use mathlib.Core.Bool.{true, false}
+use mathlib.Core.List.{List, [], _∷_}
 use mathlib.Core.Logic.{⊎-elim}
-use mathlib.Core.Path.{_≡_, _∙_, refl, sym, ap}
-use Prim.Native.Nat.{ℕ, zero, suc, _+_, _*_, _-_, _/_, _^_, _<_, _≤_}
+use mathlib.Core.Path.{_≡_, _∙_, refl, ap}
+use Prim.Native.Nat.{ℕ, _*_, _-_, _/_, _≤_}
 use native.Mathlib.Omega.{arith}
-use lib.Dec.{ltb, leb, eqb}
-use lib.ListN.{length, replicate, length-append, length-replicate}
-use borrow.Author.Tests.{eqb-true, eqb-false, eq-eqb, ne-eqb, leb-true, le-leb, lt-leb, ltb-true}
-use Rattle.bits.specs.Bits.{bitsOf}
-use Rattle.bits.proofs.BitRanges.{length-bits}
+use lib.Dec.{eqb}
+use lib.ListN.{length}
+use borrow.Author.Tests.{eqb-true}
 use Rattle.bits.proofs.Truth.{cases, clash, cond-most}
 use Rattle.slow_fields.specs.Slow.{lengthOf}
 use Rattle.orders.specs.declared.Order.{Order}
-use Rattle.orders.specs.Fields.{Ordered, isFrameKind, isKnown, usesValue, valueWidth, frameCount}
-use Rattle.orders.specs.Streams.{numberBits, repeated, zeros, frameOf, fieldFrame, field4Bits, field5Bits, slowFields, commandBits}
-use Rattle.orders.proofs.FitOrders.{Fitting, fitting, frame-counted}
-use Rattle.stream_writer.proofs.Rests.{number-length}
-use Rattle.composing.specs.Checked.{ordered, SomeFit, FrameFit}
+use Rattle.orders.specs.Fields.{usesValue, valueWidth, frameCount}
+use Rattle.orders.specs.Streams.{repeated}
+use Rattle.orders.proofs.FitOrders.{fitting, frame-counted}
+use Rattle.composing.specs.Checked.{FrameFit}
 
 -- Each bit once, and how many bits each so many times are.
 pub repeated-once : (bits : List ℕ) → repeated 1 bits ≡ bits

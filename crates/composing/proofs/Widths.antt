@@ -3,10 +3,9 @@
 use mathlib.Core.Bool.{true, false}
 use mathlib.Core.List.{List}
 use mathlib.Core.Logic.{⊎-elim}
-use mathlib.Core.Path.{_≡_, _∙_, sym, ap}
+use mathlib.Core.Path.{_≡_, _∙_, ap}
 use Prim.Native.Nat.{ℕ, _+_, _*_, _-_, _≤_}
 use native.Mathlib.Omega.{arith}
-use lib.Dec.{ltb}
 use lib.ListN.{length, length-replicate}
 use borrow.Author.Tests.{ltb-true, ltb-false}
 use Rattle.bits.specs.Bits.{bitsOf}
@@ -15,7 +14,7 @@ use Rattle.bits.proofs.Truth.{cases}
 use Rattle.slow_fields.specs.Slow.{lengthOf}
 use Rattle.orders.specs.declared.Order.{Order}
 use Rattle.orders.specs.Fields.{isFrameKind, usesValue, valueWidth}
-use Rattle.orders.specs.Streams.{repeated, field5Bits, commandBits}
+use Rattle.orders.specs.Streams.{field5Bits, commandBits}
 use Rattle.stream_writer.proofs.Rests.{number-length}
 use Rattle.composing.specs.Checked.{ordered}
 use Rattle.composing.proofs.FitFields.{repeated-once, eightfold-length, value-length}

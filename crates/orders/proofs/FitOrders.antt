@@ -5,8 +5,8 @@ use mathlib.Core.Logic.{⊎-elim}
 use mathlib.Core.Path.{_≡_, _∙_, refl, sym}
 use Prim.Native.Nat.{ℕ, _+_, _*_, _-_, _/_, _^_, _<_, _≤_}
 use native.Mathlib.Omega.{arith}
-use lib.Dec.{leb, ltb, eqb}
-use borrow.Author.Tests.{eq-eqb, ne-eqb, le-leb, lt-leb, leb-true, ltb-true, eqb-true, leb-false}
+use lib.Dec.{leb, eqb}
+use borrow.Author.Tests.{ne-eqb, le-leb, lt-leb, leb-true, ltb-true, eqb-true, leb-false}
 use Rattle.bits.proofs.Truth.{both, cases, clash}
 use Rattle.orders.specs.declared.Order.{Order}
 use Rattle.orders.specs.Fields.{isKnown, isFrameKind, usesValue, valueWidth, frameCount, addressFits, valueFits, frameFits, orderFits}

@@ -4,7 +4,7 @@ use mathlib.Core.Bool.{cond}
 use mathlib.Core.List.{List, [], _∷_, _++_}
 use Prim.Native.Nat.{ℕ, zero, suc, _+_, _*_, _-_, _/_, _%_, _^_}
 use lib.Dec.{ltb, eqb}
-use lib.ListN.{length, replicate}
+use lib.ListN.{replicate}
 use Rattle.bits.specs.Bits.{bitsOf}
 use Rattle.slow_fields.specs.Slow.{lengthOf}
 use Rattle.records.specs.Records.{kindFast, kindSlow}

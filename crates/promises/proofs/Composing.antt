@@ -1,12 +1,10 @@
 -- The sixth promise, proved.
 -- Assumes nothing.
-use mathlib.Core.Path.{_≡_, _∙_, refl, sym, ap, ap₂, subst}
-use mathlib.Core.Bool.{Bool, true, false, cond, not, _&&_, _||_}
-use mathlib.Core.List.{List, [], _∷_, _++_, append-assoc}
-use mathlib.Core.Logic.{⊎-elim}
-use Prim.Native.Nat.{ℕ, zero, suc, _+_, _*_, _≤_, _<_}
+use mathlib.Core.Path.{_≡_, _∙_, refl, sym, ap, subst}
+use mathlib.Core.Bool.{Bool, true, false, cond, not, _||_}
+use mathlib.Core.List.{List, [], _∷_, _++_, append-assoc, append-nil}
+use Prim.Native.Nat.{ℕ, suc, _+_, _*_, _≤_, _<_}
 use native.Mathlib.Nat.{zero-add, add-zero}
-use native.Mathlib.Numerals.{add-one}
 use native.Mathlib.Omega.{arith}
 use lib.Dec.{ltb, leb, eqb}
 use lib.ListN.{length, take, length-append}
@@ -18,17 +16,17 @@ use Rattle.bits.specs.Range.{rangeFits}
 use Rattle.bits.proofs.Truth.{clash, choice, both}
 use Rattle.registers.specs.declared.Plan.{Plan}
 use Rattle.registers.specs.Plan.{planFits}
-use Rattle.timing.specs.Table.{isLv1Kind}
 use Rattle.orders.specs.declared.Order.{Order}
 use Rattle.orders.specs.declared.Context.{Context}
 use Rattle.orders.specs.declared.Composed.{Composed}
-use Rattle.orders.specs.Fields.{Ordered, isSlowKind, orderFits}
-use Rattle.orders.specs.Streams.{zeros, commandBits, orderBits, streamOf, packed}
+use Rattle.orders.specs.Fields.{Ordered, isFrameKind, orderFits}
+use Rattle.orders.specs.Streams.{orderBits, streamOf, packed}
 use Rattle.orders.specs.Composing.{start, composed, contextAfter, zerosFit, orderNumber, refusalFrom, roomFits, ComposeResult, composeResult, composeOf}
 use Rattle.patterns.specs.Verdicts.{verdictOf, acceptOf}
 use Rattle.calls.specs.Calls.{carriedBits}
 use Rattle.calls.proofs.SoundnessKept.{opened-sound}
 use Rattle.calls.proofs.BitCalls.{partsFor, parts-take}
+use Rattle.calls.proofs.FrameEnds.{EndsWithFrame}
 use Rattle.orders.proofs.StreamBits.{stream-binary}
 use Rattle.orders.proofs.Examples.{compose-examples}
 use Rattle.order_lines.proofs.Examples.{line-examples}
@@ -38,14 +36,16 @@ use Rattle.round_trip.specs.ReadBack.{opened, Fit}
 use Rattle.round_trip.specs.Bytes.{ComposedBytes}
 use Rattle.round_trip.proofs.Bytes.{bytes}
 use Rattle.round_trip.proofs.CallsRoundTrip.{calls-round-trip, calls-frame-round-trip}
+use Rattle.round_trip.proofs.FrameRoundTrip.{frame-ends}
 use Rattle.round_trip.proofs.Acceptance.{composed-accepted}
-use Rattle.promises.specs.Refusals.{Row, row, firstOf, threeInMask, threeDiffer}
+use Rattle.promises.specs.Refusals.{Row, row, firstOf}
 use Rattle.promises.specs.Composing.{isWrong, hasFewZeros, orderRows, rowsFrom, composingRows, NamesFirst, Composes}
-use Rattle.promises.specs.Composing.{Writes, Accepts, ReadsBack, FrameBack, ReadsBackMet, AcceptedBack, SixthPromise}
+use Rattle.promises.specs.Composing.{Writes, Accepts, ReadsBack, FrameBack, FrameStops, ReadsBackMet, AcceptedBack, SixthPromise}
 use Rattle.promises.proofs.Refusals.{not-leb, not-and, plan-row}
 use Rattle.promises.proofs.Frames.{tray-fits}
 use Rattle.promises.proofs.OrderRows.{order-rows}
 use Rattle.promises.proofs.OrderTexts.{program-composes}
+use Rattle.promises.proofs.FrameStops.{frame-stop}
 
 -- The rows of an order ahead of others.
 first-two : (a b : Bool) (rest : List Row)
@@ -128,18 +128,14 @@ named plan c n (x ∷ xs) some =
     named-by plan c n x xs (eqb (orderNumber c (x .order) (length (x .lent))) 0) refl
     (named plan (contextAfter plan c (x .order)) (n + 1) xs) some
 
--- Every command has bits.
-command-some : (x : Ordered) → 0 < length (commandBits x)
-unfolding commandBits
-command-some x =
-    choice (λ (bits : List ℕ). 0 < length bits) (isLv1Kind (x .order .kind)) (λ _. omega arith)
-    (λ _. choice (λ (bits : List ℕ). 0 < length bits) (isSlowKind (x .order .kind)) (λ _. omega arith) (λ _. omega arith))
-
-stream-some : (before : List Ordered) (x : Ordered) → 0 < length (streamOf (before ++ (x ∷ [])))
+-- The stream up to an order, and what is behind it.
+stream-parts : (before : List Ordered) (x : Ordered) (after : List Ordered)
+    → streamOf (before ++ (x ∷ after)) ≡ streamOf (before ++ (x ∷ [])) ++ streamOf after
 unfolding streamOf
-stream-some [] x =
-    omega (arith, length-append (orderBits x) [], length-append (zeros (x .order .zeros)) (commandBits x), command-some x)
-stream-some (y ∷ before) x = omega (arith, length-append (orderBits y) (streamOf (before ++ (x ∷ []))), stream-some before x)
+stream-parts [] x after = ap (λ (l : List ℕ). l ++ streamOf after) (sym (append-nil (orderBits x)))
+stream-parts (y ∷ before) x after =
+    ap (λ (l : List ℕ). orderBits y ++ l) (stream-parts before x after)
+    ∙ sym (append-assoc (orderBits y) (streamOf (before ++ (x ∷ []))) (streamOf after))
 
 -- A refusal has no bits.
 no-bits : (plan : Plan) (c : Context) (n : ℕ) (xs : List Ordered) → refusalFrom plan c n xs .bits ≡ 0
@@ -321,11 +317,27 @@ module _ (plan : Plan) (xs : List Ordered) (output : List ℕ) where
         let r = calls-round-trip plan store tray xs ps (written .fit) (took ∙ writes .stream) in
         record { records = r .records; written = r .words; shows = r .shows }
 
+    module _ (before : List Ordered) (x : Ordered) (after : List Ordered) (parts : xs ≡ before ++ (x ∷ after))
+        (carries : isFrameKind (x .order .kind) ≡ true) (store tray : List ℕ) where
+      fit : Fit plan (before ++ (x ∷ after))
+      fit = subst (Fit plan) parts (written .fit)
+
+      at-frame : EndsWithFrame (opened plan store tray) (streamOf (before ++ (x ∷ [])))
+      at-frame = frame-ends plan store tray before x after fit carries
+
     pub frame-back : FrameBack plan xs output
     frame-back before x after parts carries store tray ps took =
-        let some : 0 < length (carriedBits (opened plan store tray) ps) = omega (arith, ap length took, stream-some before x) in
-        calls-frame-round-trip plan store tray before x after ps (subst (Fit plan) parts (written .fit)) carries
+        let f = at-frame before x after parts carries store tray in
+        let some : 0 < length (carriedBits (opened plan store tray) ps) =
+        omega (arith, ap length (took ∙ f .parts), length-append (f .ahead) (f .last ∷ [])) in
+        calls-frame-round-trip plan store tray before x after ps (fit before x after parts carries store tray) carries
         (tray-fits ps (opened plan store tray) some) took
+
+    pub frame-stops : FrameStops plan xs output
+    frame-stops before x after parts carries store tray ps took =
+        frame-stop ps (opened plan store tray) (streamOf (before ++ (x ∷ []))) (streamOf after)
+        (at-frame before x after parts carries store tray)
+        (took ∙ writes .stream ∙ ap streamOf parts ∙ stream-parts before x after)
 
     pub met : ReadsBackMet plan xs output
     met store tray store-long tray-long = record {
@@ -355,6 +367,7 @@ sixth-promise = record {
   writes = writes;
   reads-back = reads-back;
   frame-back = frame-back;
+  frame-stops = frame-stops;
   met = met;
   accepted-back = accepted-back;
   in-numbers = compose-examples;

@@ -1,28 +1,19 @@
 -- The sixth promise for the library's own calls, proved.
 -- Assumes nothing.
 use mathlib.Core.Path.{_≡_, _∙_, refl, sym, ap, ap₂, subst}
-use mathlib.Core.Bool.{Bool, true, false, cond}
 use mathlib.Core.List.{List, [], _∷_, _++_}
-use mathlib.Core.Logic.{⊎-elim}
-use Prim.Native.Nat.{ℕ, _+_, _*_, _/_, _%_, _^_, _≤_, _<_}
+use Prim.Native.Nat.{ℕ, _+_, _/_, _%_, _^_, _≤_, _<_}
 use native.Mathlib.Omega.{arith}
-use lib.Dec.{eqb}
-use lib.ListN.{length}
 use borrow.Author.Tests.{eq-eqb, ne-eqb}
 use Rattle.limits.specs.Limits.{clockLimit}
 use Rattle.bits.specs.Bits.{bitsOf}
-use Rattle.bits.proofs.Truth.{choice}
 use Rattle.frames.specs.Tray.{partOf, PartHolds}
 use Rattle.registers.specs.declared.Plan.{Plan}
 use Rattle.decoder.specs.declared.Decoder.{Decoder}
-use Rattle.decoder.specs.Opening.{openedAt}
 use Rattle.calls.specs.Run.{stateAfter, wordsAfter}
 use Rattle.calls.specs.Turn.{System, systemOf, turnOf}
-use Rattle.orders.specs.declared.Context.{Context}
 use Rattle.orders.specs.declared.Composed.{Composed}
-use Rattle.orders.specs.Fields.{Ordered}
 use Rattle.orders.specs.Streams.{frameOf, streamOf}
-use Rattle.orders.specs.Composing.{orderNumber, contextAfter, refusalFrom, ComposeResult, composeOf}
 use Rattle.kernelstill.specs.Open.{planOf}
 use Rattle.kernelstill.specs.Compose.{composeWord, composeWordsOf}
 use Rattle.round_trip.specs.ReadBack.{opened, Fit}
@@ -32,7 +23,7 @@ use Rattle.round_trip.proofs.RoundTrip.{round-trip}
 use Rattle.round_trip.proofs.FrameRoundTrip.{frame-round-trip}
 use Rattle.promises.specs.Composing.{ReadAs}
 use Rattle.promises.specs.HostCalls.{Carried, HostPart, standsFor, hostBits, hostWords, hostLeft}
-use Rattle.promises.specs.HostComposing.{ComposeCall, wordsLeft, ordersOf, answerOf, SameComposing, Opened, HostReadsBack, HostFrameBack, HostComposing}
+use Rattle.promises.specs.HostComposing.{ComposeCall, wordsLeft, ordersOf, answerOf, SameComposing, Opened, HostComposing}
 use Rattle.promises.proofs.Composing.{number-low, bits-low}
 use Rattle.promises.proofs.HostDemands.{host-demands}
 

@@ -9,6 +9,7 @@ pub mod Damage
 pub mod Acceptance
 pub mod OrderRows
 pub mod OrderTexts
+pub mod FrameStops
 pub mod Composing
 pub mod Hosts
 pub mod HostCalls

@@ -2,9 +2,8 @@
 -- Assumes nothing.
 use mathlib.Core.Path.{_≡_, _∙_, refl, sym, ap}
 use mathlib.Core.Bool.{Bool, true, false, cond, not, _&&_, _||_}
-use mathlib.Core.List.{List, [], _∷_, _++_}
 use mathlib.Core.Logic.{⊎-elim}
-use Prim.Native.Nat.{ℕ, _+_, _*_, _/_, _%_, _<_, _≤_}
+use Prim.Native.Nat.{ℕ, _+_, _*_, _/_, _%_, _≤_}
 use native.Mathlib.Omega.{arith}
 use lib.Dec.{ltb, leb, eqb}
 use lib.ListN.{length}
@@ -15,7 +14,7 @@ use Rattle.timing.specs.Table.{amongKinds, zerosAsked}
 use Rattle.orders.specs.declared.Order.{Order}
 use Rattle.orders.specs.declared.Context.{Context}
 use Rattle.orders.specs.Fields.{Ordered, order, isKnown, addressFits, valueFits, frameFits, orderFits}
-use Rattle.orders.specs.Composing.{zerosFit, orderNumber}
+use Rattle.orders.specs.Composing.{orderNumber}
 use Rattle.orders.proofs.FitOrders.{unknown-above}
 use Rattle.round_trip.proofs.KnownKinds.{EachKind, known-case}
 use Rattle.promises.specs.Refusals.{firstOf}

@@ -34,7 +34,7 @@ module _ (d : Decoder) (c : Call) where
   run : Run System
   run = runOf turnOf (offered c) (lent d c) (length (c .list) - c .free)
 
-  ends : Ends d c
+  pub ends : Ends d c
   unfolding takenOf run
   ends =
       let e = run-ended turnOf (offered c) (lent d c) (length (c .list) - c .free) in

@@ -16,11 +16,12 @@ use Rattle.registers.specs.Plan.{defaultPlan}
 use Rattle.timing.specs.Table.{amongKinds, zerosAsked}
 use Rattle.patterns.specs.declared.Verdict.the-variants.{Accepted}
 use Rattle.patterns.specs.Verdicts.{acceptOf}
+use Rattle.calls.specs.Turn.{System}
 use Rattle.calls.specs.Calls.{Part, carriedBits, carriedWords, carriedSystem}
 use Rattle.orders.specs.declared.Order.{Order}
 use Rattle.orders.specs.declared.Context.{Context}
 use Rattle.orders.specs.declared.Composed.{Composed}
-use Rattle.orders.specs.Fields.{Ordered, isFrameKind, ordersIn}
+use Rattle.orders.specs.Fields.{Ordered, isFrameKind}
 use Rattle.orders.specs.Streams.{frameOf, streamOf}
 use Rattle.orders.specs.Composing.{start, contextAfter, ComposeResult, composeOf}
 use Rattle.orders.specs.ComposeTable.{ComposeExamples}
@@ -109,6 +110,13 @@ pub record ReadAs (words : List ℕ) (xs : List Ordered) : Type 0 where
   pub written : words ≡ recordWords records
   pub shows : ShowsEach 0 xs records
 
+-- Some first ones of a list of calls took such bits.
+pub record FirstCalls (s : System) (ps : List Part) (bits : List ℕ) : Type 0 where
+  pub first : List Part
+  pub rest : List Part
+  pub calls : ps ≡ first ++ rest
+  pub took : carriedBits s first ≡ bits
+
 -- With its premise, that a call was not refused.
 module _ (plan : Plan) (xs : List Ordered) (output : List ℕ) where
   abbrev pub Accepts : Type 0
@@ -125,6 +133,13 @@ module _ (plan : Plan) (xs : List Ordered) (output : List ℕ) where
       (before : List Ordered) (x : Ordered) (after : List Ordered) → xs ≡ before ++ (x ∷ after) → isFrameKind (x .order .kind) ≡ true
       → (store tray : List ℕ) (ps : List Part) → carriedBits (opened plan store tray) ps ≡ streamOf (before ++ (x ∷ []))
       → PartHolds (frameOf x) (partOf (carriedSystem (opened plan store tray) ps .machine .tray) (x .order .bits))
+
+  -- Calls that together take all of it take all up to there with some first ones of them: one stops there by itself.
+  abbrev pub FrameStops : Type 0
+  FrameStops =
+      (before : List Ordered) (x : Ordered) (after : List Ordered) → xs ≡ before ++ (x ∷ after) → isFrameKind (x .order .kind) ≡ true
+      → (store tray : List ℕ) (ps : List Part) → carriedBits (opened plan store tray) ps ≡ streamIn (composeOf plan xs output)
+      → FirstCalls (opened plan store tray) ps (streamOf (before ++ (x ∷ [])))
 
   -- The premises can be met: with a store and a tray of their lengths there are calls that together take all of it.
   pub record Readable (store tray : List ℕ) : Type 0 where
@@ -160,6 +175,7 @@ pub record SixthPromise : Type 0 where
   pub writes : (plan : Plan) (xs : List Ordered) (output : List ℕ) → Accepts plan xs output → Writes plan xs output
   pub reads-back : (plan : Plan) (xs : List Ordered) (output : List ℕ) → Accepts plan xs output → ReadsBack plan xs output
   pub frame-back : (plan : Plan) (xs : List Ordered) (output : List ℕ) → Accepts plan xs output → FrameBack plan xs output
+  pub frame-stops : (plan : Plan) (xs : List Ordered) (output : List ℕ) → Accepts plan xs output → FrameStops plan xs output
   pub met : (plan : Plan) (xs : List Ordered) (output : List ℕ) → Accepts plan xs output → ReadsBackMet plan xs output
   pub accepted-back : (plan : Plan) (xs : List Ordered) (output : List ℕ) → Accepts plan xs output → AcceptedBack plan xs output
   pub in-numbers : ComposeExamples

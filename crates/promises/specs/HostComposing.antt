@@ -3,7 +3,7 @@
 use mathlib.Core.Path.{_≡_}
 use mathlib.Core.Bool.{true}
 use mathlib.Core.List.{List, [], _∷_, _++_}
-use Prim.Native.Nat.{ℕ, _/_, _%_, _^_, _≤_}
+use Prim.Native.Nat.{ℕ, _/_, _%_, _^_}
 use lib.ListN.{length}
 use Rattle.limits.specs.Limits.{trayLength}
 use Rattle.bits.specs.Bits.{bitsOf}

@@ -1,11 +1,11 @@
 -- What is left to be written, taken apart: its first bit or byte, and the rest.
 -- Assumes nothing.
-use mathlib.Core.List.{List, [], _∷_, _++_}
+use mathlib.Core.List.{List, _∷_, _++_}
 use mathlib.Core.Path.{_≡_, _∙_, refl, ap}
 use Prim.Native.Nat.{ℕ, zero, suc, _+_, _*_, _-_, _/_, _%_, _^_, _<_, _≤_}
 use native.Mathlib.Nat.{zero-add, suc-add}
 use native.Mathlib.Omega.{arith}
-use lib.ListN.{length, getD, replicate, length-replicate, length-append}
+use lib.ListN.{length, getD, replicate}
 use Rattle.bits.specs.Bits.{bitOf, bitsOf}
 use Rattle.bits.proofs.Below.{below-at}
 use Rattle.orders.specs.Streams.{numberBits, zeros, repeated}

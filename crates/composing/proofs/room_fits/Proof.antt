@@ -1,7 +1,6 @@
 -- `room_fits` compares bytes, so that no product can wrap.
 -- Assumes nothing.
-use mathlib.Core.Path.{_∙_, sym}
-use native.Mathlib.Omega.{arith}
+use mathlib.Core.Path.{_∙_}
 use borrow.Author.Needs.{needs}
 use borrow.Author.Tests.{le-leb, lt-leb}
 use Rattle.orders.proofs.FitOrders.{by-bytes}

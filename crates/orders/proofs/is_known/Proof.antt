@@ -1,6 +1,6 @@
 -- `is_known` tells the kinds of commands, by their halves: LV1's, the Slows' and the Fasts'.
 -- Assumes nothing.
-use mathlib.Core.Path.{_∙_, sym}
+use mathlib.Core.Path.{_∙_}
 use Prim.Native.Nat.{_-_}
 use native.Mathlib.Omega.{arith}
 use borrow.Author.Needs.{needs}

@@ -1,7 +1,6 @@
 -- `value_width` is the width of the number that an order gives for Field 5.
 -- Assumes nothing.
 use native.Mathlib.Omega.{arith}
-use borrow.Author.Needs.{needs}
 use borrow.Author.Tests.{eq-eqb, ne-eqb}
 use Rattle.orders.proofs.value_width.Statement.{statement}
 use Rattle.orders.proofs.value_width.Tie as tie

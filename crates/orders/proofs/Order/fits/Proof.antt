@@ -1,6 +1,5 @@
 -- `Order::fits` is the test of its four parts.
 -- Assumes nothing.
-use mathlib.Core.Path.{_∙_, sym}
 use borrow.Author.Needs.{needs}
 use Rattle.orders.specs.Fields.{orderFits}
 use Rattle.orders.proofs.Order.fits.Statement.{statement}

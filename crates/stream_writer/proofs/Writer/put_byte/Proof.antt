@@ -1,6 +1,5 @@
 -- `Writer::put_byte` writes the bits held with the first of the byte, and holds the others.
 -- Assumes nothing.
-use mathlib.Core.Path.{_≡_}
 use native.Mathlib.Omega.{arith}
 use borrow.Author.Needs.{needs}
 use Rattle.stream_writer.proofs.Packing.{Parts, parts}

@@ -1,15 +1,13 @@
 -- `Writer::put_eightfold` writes a byte of equal bits at each turn.
 -- Assumes nothing.
-use mathlib.Core.List.{List, _∷_, _++_}
+use mathlib.Core.List.{List, _++_}
 use mathlib.Core.Path.{_≡_, _∙_, sym, ap}
 use Prim.Native.Nat.{ℕ, _+_, _*_, _-_, _<_, _≤_}
 use native.Mathlib.Omega.{arith}
-use lib.ListN.{length, replicate}
 use borrow.Author.Needs.{needs}
 use Rattle.bits.specs.Bits.{bitOf, bitsOf}
 use Rattle.bits.specs.declared.Cursor.{Cursor}
 use Rattle.bits.specs.Place.{cursorAt, placeUnder}
-use Rattle.bits.proofs.BitRanges.{length-bits}
 use Rattle.bits.proofs.Places.{Stands, stands, bits-left}
 use Rattle.orders.specs.Streams.{numberBits, repeated}
 use Rattle.stream_writer.specs.Writer.{Written}
