@@ -79,7 +79,8 @@ calls-take (bit ∷ bits) d b s h =
     let store = replicate {A = ℕ} storeLength 0 in
     let tray = replicate {A = ℕ} trayLength 0 in
     let one = next-cycle d bit store tray words bytes s low (omega arith) in
-    ap₂ _++_ (takes-bit d bit store tray words bytes s low (omega arith)) (calls-take bits next (and-right (ltb bit 2) (binary bits) b) (take-sound d (callFor bit) s) (omega arith))
+    ap₂ _++_ (takes-bit d bit store tray words bytes s low (omega arith))
+    (calls-take bits next (and-right (ltb bit 2) (binary bits) b) (take-sound d (callFor bit) s) (omega arith))
 
 -- The bits of a list of calls are bits.
 pub carried-binary : (s : System) (ps : List Part) → T (binary (carriedBits s ps))
