@@ -2,9 +2,8 @@
 //! that are not: what the other situations lend it is refused at its first
 //! line.
 
-use crate::programs::errors::{EINTR, EIO, ENOENT};
-use crate::programs::faults::Faults;
-use crate::programs::situation::{ErrorOutput, Input, Output, Situation};
+use super::ways;
+use crate::programs::situation::{Output, Situation};
 use reader::Program;
 
 /// Streams by name: accepted, each number of a pattern at fault, and lines
@@ -39,40 +38,12 @@ pub fn situations() -> Vec<Situation> {
     let mut all = Vec::new();
     for (name, contents) in STREAMS {
         let new = |how: &str| new(format!("stream {name}, {how}"), contents);
-        all.extend([
-            new("- for standard input").word("-"),
-            new("named").named(),
-            new("by its name").word("/dev/stdin"),
-            new("standard error closed").error(ErrorOutput::Closed),
-            new("standard error full").error(ErrorOutput::Full),
-            new("standard error with standard output").error(ErrorOutput::Joined),
-            new("standard input closed").input(Input::Closed),
-            new("a missing file").not_opened("missing.hex", ENOENT),
-            new("standard input and output closed")
-                .input(Input::Closed)
-                .output(Output::Closed),
-        ]);
-        let gone = |ignored| Output::Leaves { after: 0, ignored };
-        for (output, how) in [
-            (Output::Closed, "standard output closed"),
-            (Output::Full, "standard output full"),
-            (Output::Limited(0), "a file of no bytes"),
-            (gone(true), "a closed pipe, SIGPIPE ignored"),
-            (gone(false), "a closed pipe, SIGPIPE not ignored"),
-        ] {
-            all.push(new(how).output(output));
-            let how = format!("{how}, named");
-            all.push(new(&how).named().output(output));
-        }
+        all.extend(ways::ways(new, "missing.hex"));
     }
     for (name, end) in LARGE {
         let contents = large(end);
         let new = |how: &str| new(format!("large stream {name}, {how}"), &contents);
-        all.extend([
-            new("named").named(),
-            new("standard output full").output(Output::Full),
-            new("standard output closed").output(Output::Closed),
-        ]);
+        all.extend(ways::large_ways(new));
     }
     let characters = (0..=255).filter(|byte| *byte != b'\n');
     all.extend(characters.map(each_character));
@@ -96,64 +67,13 @@ fn each_character(byte: u8) -> Situation {
 pub fn calls() -> Vec<Situation> {
     let mut all = Vec::new();
     for (name, contents) in STREAMS {
-        for at in 0..=contents.len() {
-            let faults = Faults {
-                read_fails_at: Some(at),
-                ..Faults::NONE
-            };
-            let name = format!("stream {name}, a read fails at {at}");
-            all.push(new(name.clone(), contents).faults(faults));
-            all.push(new(name + ", named", contents).named().faults(faults));
-        }
-        for at in [0, 1, 5, 12, 16] {
-            let fails = Faults {
-                write_fails_at: Some(at),
-                ..Faults::NONE
-            };
-            let stops = Faults {
-                write_stops_at: Some(at),
-                ..Faults::NONE
-            };
-            for (how, faults) in [("fails", fails), ("takes nothing", stops)] {
-                let name = format!("stream {name}, a write {how} at {at}");
-                all.push(new(name, contents).faults(faults));
-            }
-        }
-        for (how, error) in [("fails", EIO), ("is interrupted", EINTR)] {
-            let faults = Faults {
-                close_error: Some(error),
-                ..Faults::NONE
-            };
-            let name = format!("stream {name}, closing {how}");
-            all.push(new(name, contents).faults(faults));
-        }
-        for times in [1, 5] {
-            let faults = Faults {
-                read_most: Some(1),
-                write_most: Some(1),
-                interrupt: Some(times),
-                ..Faults::NONE
-            };
-            let name = format!("stream {name}, interrupted {times} times");
-            all.push(new(name, contents).faults(faults));
-        }
+        let new = |how: &str| new(format!("stream {name}, {how}"), contents);
+        all.extend(ways::calls(new, contents.len(), &[0, 1, 5, 12, 16]));
     }
     for (name, end) in LARGE {
         let contents = large(end);
-        for at in [65_535, 65_536, 65_537, 131_072] {
-            let faults = Faults {
-                read_fails_at: Some(at),
-                ..Faults::NONE
-            };
-            let name = format!("large stream {name}, a read fails at {at}");
-            all.push(new(name, &contents).faults(faults));
-        }
-        let whole = Faults {
-            interrupt: Some(5),
-            ..Faults::NONE
-        };
-        let name = format!("large stream {name}, interrupted");
-        all.push(new(name, &contents).faults(whole));
+        let new = |how: &str| new(format!("large stream {name}, {how}"), &contents);
+        all.extend(ways::large_calls(new));
     }
     all
 }

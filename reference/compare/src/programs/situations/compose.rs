@@ -2,9 +2,9 @@
 //! and ones that are not: what the other situations lend it is refused at its
 //! first line.
 
-use crate::programs::errors::{EINTR, EIO, ENOENT};
+use super::ways;
 use crate::programs::faults::Faults;
-use crate::programs::situation::{ErrorOutput, Input, Output, Situation};
+use crate::programs::situation::{Output, Situation};
 use reader::Program;
 
 /// Texts by name: composed, refused with each number, and without an order.
@@ -46,31 +46,7 @@ pub fn situations() -> Vec<Situation> {
     let mut all = Vec::new();
     for (name, contents) in TEXTS {
         let new = |how: &str| new(format!("orders {name}, {how}"), contents);
-        all.extend([
-            new("- for standard input").word("-"),
-            new("named").named(),
-            new("by its name").word("/dev/stdin"),
-            new("standard error closed").error(ErrorOutput::Closed),
-            new("standard error full").error(ErrorOutput::Full),
-            new("standard error with standard output").error(ErrorOutput::Joined),
-            new("standard input closed").input(Input::Closed),
-            new("a missing file").not_opened("missing.txt", ENOENT),
-            new("standard input and output closed")
-                .input(Input::Closed)
-                .output(Output::Closed),
-        ]);
-        let gone = |ignored| Output::Leaves { after: 0, ignored };
-        for (output, how) in [
-            (Output::Closed, "standard output closed"),
-            (Output::Full, "standard output full"),
-            (Output::Limited(0), "a file of no bytes"),
-            (gone(true), "a closed pipe, SIGPIPE ignored"),
-            (gone(false), "a closed pipe, SIGPIPE not ignored"),
-        ] {
-            all.push(new(how).output(output));
-            let how = format!("{how}, named");
-            all.push(new(&how).named().output(output));
-        }
+        all.extend(ways::ways(new, "missing.txt"));
     }
     all.extend(large_texts());
     let characters = (0..=255).filter(|byte| *byte != b'\n');
@@ -84,11 +60,7 @@ fn large_texts() -> Vec<Situation> {
     for (name, end) in LARGE {
         let contents = large(end);
         let new = |how: &str| new(format!("large orders {name}, {how}"), &contents);
-        all.extend([
-            new("named").named(),
-            new("standard output full").output(Output::Full),
-            new("standard output closed").output(Output::Closed),
-        ]);
+        all.extend(ways::large_ways(new));
     }
     let contents = large(LARGE[0].1);
     let new = |how: &str| new(format!("large orders composed, {how}"), &contents);
@@ -129,77 +101,13 @@ fn each_character(byte: u8) -> Vec<Situation> {
 pub fn calls() -> Vec<Situation> {
     let mut all = Vec::new();
     for (name, contents) in TEXTS {
-        for at in 0..=contents.len() {
-            let faults = Faults {
-                read_fails_at: Some(at),
-                ..Faults::NONE
-            };
-            let name = format!("orders {name}, a read fails at {at}");
-            all.push(new(name.clone(), contents).faults(faults));
-            all.push(new(name + ", named", contents).named().faults(faults));
-        }
-        let written = written_faults().into_iter();
-        all.extend(written.map(|(how, faults)| {
-            let name = format!("orders {name}, {how}");
-            new(name, contents).faults(faults)
-        }));
+        let new = |how: &str| new(format!("orders {name}, {how}"), contents);
+        all.extend(ways::calls(new, contents.len(), &[0, 1, 5, 12]));
     }
-    all.extend(large_calls());
-    all
-}
-
-/// What may happen to writes and to the closing, and interruptions.
-fn written_faults() -> Vec<(String, Faults)> {
-    let mut all = Vec::new();
-    for at in [0, 1, 5, 12] {
-        let fails = Faults {
-            write_fails_at: Some(at),
-            ..Faults::NONE
-        };
-        let stops = Faults {
-            write_stops_at: Some(at),
-            ..Faults::NONE
-        };
-        all.push((format!("a write fails at {at}"), fails));
-        all.push((format!("a write takes nothing at {at}"), stops));
-    }
-    for (how, error) in [("fails", EIO), ("is interrupted", EINTR)] {
-        let faults = Faults {
-            close_error: Some(error),
-            ..Faults::NONE
-        };
-        all.push((format!("closing {how}"), faults));
-    }
-    for times in [1, 5] {
-        let faults = Faults {
-            read_most: Some(1),
-            write_most: Some(1),
-            interrupt: Some(times),
-            ..Faults::NONE
-        };
-        all.push((format!("interrupted {times} times"), faults));
-    }
-    all
-}
-
-fn large_calls() -> Vec<Situation> {
-    let mut all = Vec::new();
     for (name, end) in LARGE {
         let contents = large(end);
-        for at in [65_535, 65_536, 65_537, 131_072] {
-            let faults = Faults {
-                read_fails_at: Some(at),
-                ..Faults::NONE
-            };
-            let name = format!("large orders {name}, a read fails at {at}");
-            all.push(new(name, &contents).faults(faults));
-        }
-        let whole = Faults {
-            interrupt: Some(5),
-            ..Faults::NONE
-        };
-        let name = format!("large orders {name}, interrupted");
-        all.push(new(name, &contents).faults(whole));
+        let new = |how: &str| new(format!("large orders {name}, {how}"), &contents);
+        all.extend(ways::large_calls(new));
     }
     let contents = large(LARGE[0].1);
     for at in [64, 65, 65_535, 65_536, 65_537, 500_000] {

@@ -6,6 +6,7 @@ mod calls;
 mod compose;
 mod inputs;
 mod outputs;
+mod ways;
 mod words;
 
 use super::disk;
