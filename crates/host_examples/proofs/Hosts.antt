@@ -18,7 +18,7 @@ use Rattle.layout.specs.ListingLines.{numbersLine}
 use Rattle.image_fields.specs.Image.{imageOf, stateOf, imageFits}
 use Rattle.kernelstill.specs.Open.{openResultOf}
 use Rattle.kernelstill.specs.Take.{takeResultOf}
-use Rattle.kernelstill.specs.Lines.{recordResultOf}
+use Rattle.host_lines.specs.Lines.{recordResultOf}
 use Rattle.host_examples.specs.HostTable.{HostImage, HostBuffers}
 use Rattle.host_examples.specs.HostExamples.{HostExamples}
 

@@ -14,7 +14,7 @@ use Rattle.image_fields.specs.Image.{imageOf, stateOf}
 use Rattle.output.specs.Ascii.{ascii}
 use Rattle.kernelstill.specs.Open.{openResult, openResultOf}
 use Rattle.kernelstill.specs.Take.{takeResultOf}
-use Rattle.kernelstill.specs.Lines.{lineResult, hexResultOf, recordResultOf}
+use Rattle.host_lines.specs.Lines.{lineResult, hexResultOf, recordResultOf}
 use Rattle.worked_examples.specs.CommandBits.{packed, lv1, enDataTake, wrFrontEnd}
 use Rattle.worked_examples.specs.Example.{opening}
 

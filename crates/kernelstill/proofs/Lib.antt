@@ -1,4 +1,3 @@
 pub mod OpenCases
 pub mod TakeCases
-pub mod LineCases
 pub mod WidthsKept

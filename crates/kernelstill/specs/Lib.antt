@@ -1,5 +1,2 @@
 pub mod Open
 pub mod Take
-pub mod Lines
-pub mod Accept
-pub mod Compose

@@ -1,25 +1,14 @@
 -- Opening by numbers, with the start state as an image.
 -- Assumes nothing.
-use mathlib.Core.Bool.{cond, _&&_}
+use mathlib.Core.Bool.{cond}
 use mathlib.Core.List.{List}
-use Prim.Native.Nat.{ℕ, _^_}
-use lib.Dec.{ltb, eqb}
+use Prim.Native.Nat.{ℕ}
+use lib.Dec.{eqb}
 use lib.ListN.{length}
-use Rattle.registers.specs.declared.Plan.{Plan}
 use Rattle.decoder.specs.declared.Opened.{Opened}
 use Rattle.decoder.specs.Opening.{openOf, openingNumber}
+use Rattle.host_plans.specs.Plans.{planOf}
 use Rattle.image_fields.specs.Image.{imageLength, imageOf}
-
--- The plan without a register; it does not open.
-abbrev pub emptyPlan : Plan
-emptyPlan = record { mask = 0; csr = 0; feen = 0; cnt = 0 }
-
--- The plan of four numbers of any size: those wider than a plan's make the empty one.
-abbrev pub planOf : ℕ → ℕ → ℕ → ℕ → Plan
-planOf mask csr feen cnt =
-    cond (ltb mask (2 ^ 16) && (ltb csr (2 ^ 8) && (ltb feen (2 ^ 8) && ltb cnt (2 ^ 8))))
-    (record { mask = mask; csr = csr; feen = feen; cnt = cnt })
-    emptyPlan
 
 -- A refusal number, 0 for none, and the image's later contents.
 pub record OpenResult : Type 0 where

@@ -14,8 +14,8 @@ use Rattle.calls.specs.Run.{stateAfter, wordsAfter}
 use Rattle.calls.specs.Turn.{System, systemOf, turnOf}
 use Rattle.orders.specs.declared.Composed.{Composed}
 use Rattle.orders.specs.Streams.{frameOf, streamOf}
-use Rattle.kernelstill.specs.Open.{planOf}
-use Rattle.kernelstill.specs.Compose.{composeWord, composeWordsOf}
+use Rattle.host_plans.specs.Plans.{planOf}
+use Rattle.host_streams.specs.Compose.{composeWord, composeWordsOf}
 use Rattle.round_trip.specs.ReadBack.{opened, Fit}
 use Rattle.round_trip.specs.Bytes.{ComposedBytes}
 use Rattle.round_trip.proofs.Bytes.{bytes}

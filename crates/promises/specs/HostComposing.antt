@@ -14,8 +14,8 @@ use Rattle.orders.specs.declared.Composed.{Composed}
 use Rattle.orders.specs.Fields.{Ordered, isFrameKind, ordersIn}
 use Rattle.orders.specs.Streams.{frameOf, streamOf}
 use Rattle.orders.specs.Composing.{composeOf}
-use Rattle.kernelstill.specs.Open.{planOf}
-use Rattle.kernelstill.specs.Compose.{ComposeWords, composeWordsOf}
+use Rattle.host_plans.specs.Plans.{planOf}
+use Rattle.host_streams.specs.Compose.{ComposeWords, composeWordsOf}
 use Rattle.promises.specs.Composing.{ReadAs}
 use Rattle.promises.specs.HostCalls.{Carried, HostPart, hostBits, hostWords, hostLeft}
 

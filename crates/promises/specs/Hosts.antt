@@ -11,7 +11,8 @@ use Rattle.decoder.specs.Opening.{openOf, openingNumber}
 use Rattle.calls.specs.Take.{Call, takeWithin, takeOf}
 use Rattle.image_fields.specs.Image.{imageLength, imageOf, stateOf, imageFits, Widths, Formed}
 use Rattle.image_fields.specs.InNumbers.{LayoutInNumbers}
-use Rattle.kernelstill.specs.Open.{emptyPlan, planOf, openResultOf}
+use Rattle.host_plans.specs.Plans.{emptyPlan, planOf}
+use Rattle.kernelstill.specs.Open.{openResultOf}
 use Rattle.kernelstill.specs.Take.{resultLength, refusedCall, answered, takeResultBy, takeResultOf}
 
 -- The image of a state is well-formed, and read back it is that state.

@@ -10,7 +10,8 @@ use Rattle.decoder.specs.declared.Opened.{Opened}
 use Rattle.decoder.specs.Opening.{openOf}
 use Rattle.calls.proofs.SoundnessKept.{start-sound}
 use Rattle.image_fields.specs.Image.{imageLength, imageOf, stateOf}
-use Rattle.kernelstill.specs.Open.{planOf, openedInto, openResultOf}
+use Rattle.host_plans.specs.Plans.{planOf}
+use Rattle.kernelstill.specs.Open.{openedInto, openResultOf}
 use Rattle.kernelstill.specs.Take.{Holds}
 use Rattle.kernelstill.proofs.OpenCases.{filled, no-room, no-room-refused}
 use Rattle.kernelstill.proofs.TakeCases.{holds}

@@ -1,9 +1,9 @@
 -- `kernelstill_record_line` puts the line at the start, or nothing where it has no room.
 -- Assumes nothing.
-use Rattle.kernelstill.proofs.LineCases.{line-left-out, line-put}
+use Rattle.host_lines.proofs.LineCases.{line-left-out, line-put}
 use borrow.Author.Needs.{needs}
-use Rattle.kernelstill.proofs.kernelstill_record_line.Statement.{statement}
-use Rattle.kernelstill.proofs.kernelstill_record_line.Tie as tie
+use Rattle.host_lines.proofs.kernelstill_record_line.Statement.{statement}
+use Rattle.host_lines.proofs.kernelstill_record_line.Tie as tie
 
 record-line-requires : tie.Need-record-line-requires
 record-line-requires c κs = search needs

@@ -3,9 +3,9 @@
 use mathlib.Core.Path.{ap}
 use borrow.Author.Needs.{needs}
 use Rattle.hexlines.specs.Line.{Read}
-use Rattle.kernelstill.specs.Lines.{lineResult}
-use Rattle.kernelstill.proofs.kernelstill_hex_line.Statement.{statement}
-use Rattle.kernelstill.proofs.kernelstill_hex_line.Tie as tie
+use Rattle.host_lines.specs.Lines.{lineResult}
+use Rattle.host_lines.proofs.kernelstill_hex_line.Statement.{statement}
+use Rattle.host_lines.proofs.kernelstill_hex_line.Tie as tie
 
 read-line-requires : tie.Need-read-line-requires
 read-line-requires c κs = search needs

@@ -4,8 +4,8 @@ use mathlib.Core.Bool.{Bool, cond}
 use mathlib.Core.Path.{sym, ap, _∙_}
 use borrow.Author.Needs.{needs}
 use Rattle.records.specs.Records.{kindOf, frameBitsOf}
-use Rattle.kernelstill.proofs.kernelstill_frame_bits.Statement.{statement}
-use Rattle.kernelstill.proofs.kernelstill_frame_bits.Tie as tie
+use Rattle.host_lines.proofs.kernelstill_frame_bits.Statement.{statement}
+use Rattle.host_lines.proofs.kernelstill_frame_bits.Tie as tie
 
 is-frame-head-requires : tie.Need-is-frame-head-requires
 is-frame-head-requires c κs = search needs

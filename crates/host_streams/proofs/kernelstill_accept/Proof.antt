@@ -6,9 +6,9 @@ use native.Mathlib.Omega.{arith}
 use borrow.Author.Needs.{needs}
 use Rattle.limits.specs.Limits.{inputLimit}
 use Rattle.patterns.proofs.WithinRange.{accept-near}
-use Rattle.kernelstill.specs.Accept.{acceptWord}
-use Rattle.kernelstill.proofs.kernelstill_accept.Statement.{statement}
-use Rattle.kernelstill.proofs.kernelstill_accept.Tie as tie
+use Rattle.host_streams.specs.Accept.{acceptWord}
+use Rattle.host_streams.proofs.kernelstill_accept.Statement.{statement}
+use Rattle.host_streams.proofs.kernelstill_accept.Tie as tie
 
 -- The place lies within the longest range.
 low : (c : tie.After-place) → c .place .result ≤ 8 * inputLimit

@@ -3,8 +3,8 @@
 use mathlib.Core.Path.{ap}
 use lib.ListN.{length}
 use borrow.Author.Needs.{needs}
-use Rattle.kernelstill.proofs.kernelstill_frame_part.Statement.{statement}
-use Rattle.kernelstill.proofs.kernelstill_frame_part.Tie as tie
+use Rattle.host_lines.proofs.kernelstill_frame_part.Statement.{statement}
+use Rattle.host_lines.proofs.kernelstill_frame_part.Tie as tie
 
 frame-part-requires : tie.Need-frame-part-requires
 frame-part-requires c κs = search needs

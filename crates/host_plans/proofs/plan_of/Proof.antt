@@ -2,8 +2,8 @@
 -- Assumes nothing.
 use borrow.Author.Tests.{le-ltb, lt-ltb}
 use borrow.Author.Needs.{needs}
-use Rattle.kernelstill.proofs.plan_of.Statement.{statement}
-use Rattle.kernelstill.proofs.plan_of.Tie as tie
+use Rattle.host_plans.proofs.plan_of.Statement.{statement}
+use Rattle.host_plans.proofs.plan_of.Tie as tie
 
 empty-plan-requires : tie.Need-empty-plan-requires
 empty-plan-requires c κs = search needs

@@ -5,9 +5,9 @@ use borrow.Author.Needs.{needs}
 use Rattle.registers.specs.declared.Plan.{Plan}
 use Rattle.orders.specs.Fields.{ordersIn}
 use Rattle.orders.specs.Composing.{composeOf}
-use Rattle.kernelstill.specs.Compose.{composeWords, wordsOf, composeWordsOf}
-use Rattle.kernelstill.proofs.kernelstill_compose.Statement.{statement}
-use Rattle.kernelstill.proofs.kernelstill_compose.Tie as tie
+use Rattle.host_streams.specs.Compose.{composeWords, wordsOf, composeWordsOf}
+use Rattle.host_streams.proofs.kernelstill_compose.Statement.{statement}
+use Rattle.host_streams.proofs.kernelstill_compose.Tie as tie
 
 plan-of-requires : tie.Need-plan-of-requires
 plan-of-requires c κs = search needs

@@ -3,8 +3,8 @@
 use native.Mathlib.Nat.{add-zero}
 use borrow.Author.Needs.{needs}
 use borrow.Author.Tests.{ne-eqb}
-use Rattle.kernelstill.proofs.compose_word.Statement.{statement}
-use Rattle.kernelstill.proofs.compose_word.Tie as tie
+use Rattle.host_streams.proofs.compose_word.Statement.{statement}
+use Rattle.host_streams.proofs.compose_word.Tie as tie
 
 mul-result : tie.Need-mul-result
 mul-result c = search needs

@@ -15,7 +15,7 @@ use Rattle.output.specs.Block.{Block, block, putIfFits}
 use Rattle.output.proofs.Pieces.{put-when-fits, put-when-full}
 use Rattle.layout.specs.ListingLines.{recordLine}
 use Rattle.layout.proofs.LineLengths.{record-line-length}
-use Rattle.kernelstill.specs.Lines.{lineResult, recordResultOf}
+use Rattle.host_lines.specs.Lines.{lineResult, recordResultOf}
 
 module _ (head value : ℕ) (line after : List ℕ) (next : ℕ) (e : block after next ≡ putIfFits line 0 (recordLine head value)) where
   abbrev text : List ℕ

@@ -7,7 +7,7 @@ use lib.Dec.{eqb}
 use Rattle.orders.specs.declared.Composed.{Composed}
 use Rattle.orders.specs.Fields.{ordersIn}
 use Rattle.orders.specs.Composing.{ComposeResult, composeOf}
-use Rattle.kernelstill.specs.Open.{planOf}
+use Rattle.host_plans.specs.Plans.{planOf}
 
 -- It stands above the number, which is below 256, by its low 56 bits: no stream has more, and no memory holds more orders.
 abbrev pub composeWord : Composed → ℕ
