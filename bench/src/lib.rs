@@ -1,4 +1,4 @@
-//! The proved calls, linked from the archive that `rt staticlib kernelstill`
+//! The proved calls, linked from the archive that `host/build`
 //! writes; include/kernelstill.h says what each does.
 
 use reader::Plan;
