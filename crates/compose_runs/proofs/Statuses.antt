@@ -12,7 +12,8 @@ use Rattle.bits.proofs.Truth.{cond-most}
 use Rattle.output.specs.Block.{blockLength}
 use Rattle.runs.specs.Status.{statusOf, IsStatus}
 use Rattle.runs.specs.Runs.{Finished}
-use Rattle.order_lines.specs.Lines.{lineLimit, frameLimit}
+use Rattle.text_words.specs.Words.{lineLimit}
+use Rattle.text_frames.specs.Frames.{frameLimit}
 use Rattle.order_texts.specs.declared.Composition.{Composition}
 use Rattle.order_texts.specs.declared.Outcome.{Outcome}
 use Rattle.order_texts.specs.Composed.{Composed, outputLimit, composedOf}

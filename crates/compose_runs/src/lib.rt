@@ -78,8 +78,8 @@ fn compose(name: &[u8], source: &[u8], fd: i32) -> u8
     ensures { λ r. ⌜ ComposedRun r ⌝ }
 {
     let mut input = io::large_buffer();
-    let mut line = [0u8; order_lines::LINE_LIMIT];
-    let mut frame = [0u8; order_lines::FRAME_LIMIT];
+    let mut line = [0u8; text_words::LINE_LIMIT];
+    let mut frame = [0u8; text_frames::FRAME_LIMIT];
     let mut out = [0u8; order_texts::OUTPUT_LIMIT];
     let mut state = Composition::start();
     let mut ended = false;

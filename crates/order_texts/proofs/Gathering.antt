@@ -13,7 +13,7 @@ use borrow.Author.Tests.{lt-ltb, le-ltb, ne-eqb, ltb-true, ltb-false}
 use Rattle.bits.proofs.Truth.{choice-under}
 use Rattle.output.specs.Ascii.{lineFeed}
 use Rattle.hexlines.specs.Lines.{isEmpty, linesFrom, linesOf}
-use Rattle.order_lines.specs.Lines.{lineLimit}
+use Rattle.text_words.specs.Words.{lineLimit}
 use Rattle.order_texts.specs.declared.Gathered.{Gathered}
 use Rattle.order_texts.specs.Refusals.{LineText, lineText, lineTexts}
 use Rattle.order_texts.specs.Running.{textsFrom, Gathers}

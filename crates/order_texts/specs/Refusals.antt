@@ -11,7 +11,8 @@ use Rattle.orders.specs.declared.Order.{Order}
 use Rattle.orders.specs.declared.Context.{Context}
 use Rattle.orders.specs.Fields.{Ordered, frameCount}
 use Rattle.orders.specs.Composing.{contextAfter, orderNumber}
-use Rattle.order_lines.specs.Lines.{LineMeaning, lineLimit, lineMeaning}
+use Rattle.text_words.specs.Words.{lineLimit}
+use Rattle.order_lines.specs.Lines.{LineMeaning, lineMeaning}
 use Rattle.order_texts.specs.declared.Refusal.{Refusal}
 
 -- A refusal: its number, 0 for none; the line's number from 1, 0 for the whole stream; the reason for the message, and the two numbers that some reasons

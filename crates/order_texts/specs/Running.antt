@@ -16,7 +16,8 @@ use Rattle.stream_writer.specs.Writer as writer
 use Rattle.stream_writer.specs.Writer.{placeOf, Fits}
 use Rattle.output.specs.Ascii.{lineFeed}
 use Rattle.hexlines.specs.Lines.{isEmpty}
-use Rattle.order_lines.specs.Lines.{lineLimit, frameLimit}
+use Rattle.text_words.specs.Words.{lineLimit}
+use Rattle.text_frames.specs.Frames.{frameLimit}
 use Rattle.order_texts.specs.declared.Gathered.{Gathered}
 use Rattle.order_texts.specs.declared.Refusal.{Refusal}
 use Rattle.order_texts.specs.declared.Composition.{Composition}

@@ -7,16 +7,16 @@ ghost use lib.ListN.{length};
 ghost use Rattle.output.specs.Ascii.{lineFeed};
 ghost use Rattle.output.specs.Block.{blockLength, block, putAll};
 ghost use Rattle.layout.specs.ListingLines.{refusedLine};
-ghost use Rattle.order_lines.specs.Lines.{lineLimit};
+ghost use Rattle.text_words.specs.Words.{lineLimit};
 ghost use Rattle.order_texts.specs.Refusals.{refusal, noRefusal, orderRefusal, nextLineNumber};
 ghost use Rattle.order_texts.specs.Printing.{streamText, messageOf, partLimit};
 ghost use Rattle.order_texts.specs.Running.{emptyLine, start, passedWith, WellFormed, Lent};
 ghost use Rattle.order_texts.specs.Running.{Gathers, AddsOrder, EndsLine, ComposesBlock, EndsInput, Finishes};
-use order_lines::LINE_LIMIT;
 use orders::Context;
 use orders::Order;
 use registers::Plan;
 use stream_writer::Writer;
+use text_words::LINE_LIMIT;
 
 // The most bytes of a stream that the program composes.
 pub const OUTPUT_LIMIT: usize = 1048576;
