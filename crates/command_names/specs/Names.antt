@@ -4,9 +4,9 @@ use mathlib.Core.Bool.{Bool, cond}
 use mathlib.Core.List.{List, [], _∷_}
 use Prim.Native.Nat.{ℕ, _+_}
 use lib.ListN.{getD}
-use Rattle.output.specs.Ascii.{ascii}
 use Rattle.records.specs.Records.{kindLv1, kindFast, kindSlow}
 use Rattle.orders.specs.Fields.{usesAddress, usesValue, isFrameKind}
+use Rattle.output.specs.Ascii.{ascii}
 use Rattle.text_words.specs.Words.{sameWord}
 
 -- A command by its name and the kind of its record.

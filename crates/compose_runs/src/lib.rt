@@ -5,7 +5,7 @@ ghost use lib.ListN.{length};
 ghost use Rattle.output.specs.Block.{blockLength};
 ghost use Rattle.runs.specs.Status.{IsStatus};
 ghost use Rattle.runs.specs.Runs.{Finished};
-ghost use Rattle.order_texts.specs.Printing.{partLimit};
+ghost use Rattle.stream_lines.specs.StreamLines.{partLimit};
 ghost use Rattle.compose_runs.specs.Runs.{ComposedRun};
 use libc::STDOUT_FILENO;
 use order_texts::Composition;
@@ -16,10 +16,10 @@ fn part_end(length: usize, at: usize) -> usize
     requires { ⌜ at ≤ length ⌝ }
     ensures { λ r. ⌜ r ≡ min length (at + partLimit) ⌝ }
 {
-    if length - at < order_texts::PART_BYTES {
+    if length - at < stream_lines::PART_BYTES {
         return length;
     }
-    at + order_texts::PART_BYTES
+    at + stream_lines::PART_BYTES
 }
 
 // Writes the hexadecimal lines of the stream, part by part, and tells whether it could.
@@ -29,7 +29,7 @@ fn write_stream(bytes: &[u8], text: &mut [u8]) -> bool
     let mut at: usize = 0;
     while at < bytes.len() {
         let end = part_end(bytes.len(), at);
-        let n = order_texts::put_stream(&bytes[at..end], text);
+        let n = stream_lines::put_stream(&bytes[at..end], text);
         if !posix::write_whole(STDOUT_FILENO, &text[..n]) {
             return false;
         }

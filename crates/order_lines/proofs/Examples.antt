@@ -3,8 +3,8 @@
 use mathlib.Core.Path.{refl}
 use Rattle.text_words.specs.Words.{upTo, wordsFrom, sameWord}
 use Rattle.text_numbers.specs.Numbers.{numberFrom, numberOf, sized}
-use Rattle.command_names.specs.Names.{kindAmong}
 use Rattle.text_frames.specs.Frames.{bitsSaid, frameOf}
+use Rattle.command_names.specs.Names.{kindAmong}
 use Rattle.order_lines.specs.Lines.{fieldsMeaning, wordsMeaning}
 use Rattle.order_lines.specs.Examples.{LineExamples}
 

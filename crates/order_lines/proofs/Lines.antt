@@ -2,8 +2,8 @@
 -- Assumes nothing.
 use mathlib.Core.Bool.{Bool, true, false, cond, not, _&&_, _||_}
 use mathlib.Core.List.{List, []}
-use mathlib.Core.Path.{_≡_, _∙_, refl, sym, ap}
-use Prim.Native.Nat.{ℕ, _+_, _≤_}
+use mathlib.Core.Path.{_≡_, _∙_, refl, sym}
+use Prim.Native.Nat.{ℕ, _+_}
 use native.Mathlib.Omega.{arith}
 use lib.Dec.{eqb}
 use lib.ListN.{length, getD, take}
@@ -15,8 +15,8 @@ use Rattle.text_frames.specs.Frames.{frameLimit, frame, FrameAs}
 use Rattle.command_names.specs.Names.{kindNamed, fieldCount}
 use Rattle.order_fields.specs.Fields.{addressField, valueField, frameField, zerosField}
 use Rattle.order_lines.specs.declared.OrderLine.{OrderLine}
-use Rattle.order_lines.specs.Lines.{LineMeaning, blankLine, wrongLine, wrongField, unknownName, otherCount, orderLine, countFits, meant}
-use Rattle.order_lines.specs.Lines.{ReadAs, fieldsMeaning, wordsMeaning}
+use Rattle.order_lines.specs.Lines.{LineMeaning, blankLine, wrongLine, wrongField, unknownName, otherCount, orderLine, countFits, meant, ReadAs}
+use Rattle.order_lines.specs.Lines.{fieldsMeaning, wordsMeaning}
 
 -- ---- the fields
 

@@ -14,12 +14,12 @@ use Rattle.bits.proofs.Truth.{clash}
 use Rattle.orders.specs.Streams.{streamOf, packedFrom}
 use Rattle.orders.specs.Composing.{roomFits}
 use Rattle.hexlines.specs.Lines.{isEmpty}
-use Rattle.order_texts.specs.declared.Refusal.{Refusal}
+use Rattle.gathered_lines.specs.Gathering.{textSoFar, textsFrom}
+use Rattle.order_refusals.specs.declared.Refusal.{Refusal}
+use Rattle.order_refusals.specs.Refusals.{refusal, noRefusal, longStream, refusalIn, ordersIn}
 use Rattle.order_texts.specs.declared.Composition.{Composition}
-use Rattle.order_texts.specs.Refusals.{refusal, noRefusal, longStream, refusalIn, ordersIn}
 use Rattle.order_texts.specs.Composed.{outputLimit}
-use Rattle.order_texts.specs.Running.{textSoFar, textsFrom, withLines, stillLines, stillComposed, compositionOf}
-use Rattle.order_texts.specs.Running.{WellFormed, Lent, EndsLine, EndsInput, Finishes}
+use Rattle.order_texts.specs.Running.{withLines, stillLines, stillComposed, compositionOf, WellFormed, Lent, EndsLine, EndsInput, Finishes}
 use Rattle.order_texts.proofs.Rooms.{has-room}
 use Rattle.order_texts.proofs.BlockLoop.{over}
 

@@ -1,9 +1,7 @@
-pub mod Rooms
-pub mod Orders
-pub mod LineEnds
-pub mod Gathering
-pub mod BlockLoop
-pub mod Ends
-pub mod Parts
+mod Rooms
+mod Orders
+mod LineEnds
+mod BlockLoop
+mod Ends
 pub mod Standing
 pub mod Examples

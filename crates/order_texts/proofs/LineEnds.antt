@@ -9,12 +9,13 @@ use lib.Dec.{eqb}
 use borrow.Author.Tests.{eq-eqb, ne-eqb}
 use Rattle.orders.specs.Streams.{streamOf}
 use Rattle.order_lines.specs.Lines.{LineMeaning, lineMeaning}
-use Rattle.order_texts.specs.declared.Refusal.{Refusal}
+use Rattle.gathered_lines.specs.Gathering.{LineText, textSoFar}
+use Rattle.order_refusals.specs.declared.Refusal.{Refusal}
+use Rattle.order_refusals.specs.Refusals.{refusal, noRefusal, longLine, nextLineNumber, meaningContext, meaningOrders, meaningRefusal, lineRefusal, refusalIn}
+use Rattle.order_refusals.specs.Refusals.{ordersIn}
 use Rattle.order_texts.specs.declared.Composition.{Composition}
-use Rattle.order_texts.specs.Refusals.{refusal, noRefusal, longLine, LineText, nextLineNumber, meaningContext, meaningOrders}
-use Rattle.order_texts.specs.Refusals.{meaningRefusal, lineRefusal, refusalIn, ordersIn}
 use Rattle.order_texts.specs.Composed.{Composed, refusedWith}
-use Rattle.order_texts.specs.Running.{passedWith, textSoFar, endWith, unlessRefused, withLines, stillLines, orderAnd, WellFormed, AddsOrder, EndsLine}
+use Rattle.order_texts.specs.Running.{passedWith, endWith, unlessRefused, withLines, stillLines, orderAnd, WellFormed, AddsOrder, EndsLine}
 
 -- A refusal ahead of others.
 pub refused-ahead : (r : Refusal) (c : Composed) → (r .number ≡ 0 → ⊥) → unlessRefused r c ≡ refusedWith r

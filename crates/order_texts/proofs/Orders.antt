@@ -1,6 +1,6 @@
 -- An order on a line: it is refused, its bits are written, or there is no room for them.
 -- Assumes nothing.
-use mathlib.Core.Bool.{Bool, true, false}
+use mathlib.Core.Bool.{true, false}
 use mathlib.Core.List.{List, _++_}
 use mathlib.Core.Path.{_≡_, _∙_, refl, sym}
 use Prim.Native.Nat.{ℕ, _+_}
@@ -9,56 +9,22 @@ use lib.ListN.{length, length-append, length-replicate}
 use borrow.Author.Tests.{eq-eqb, ne-eqb}
 use Rattle.bits.proofs.Truth.{clash}
 use Rattle.registers.specs.Plan.{defaultPlan}
-use Rattle.timing.specs.Table.{zerosAsked}
 use Rattle.orders.specs.declared.Order.{Order}
 use Rattle.orders.specs.declared.Context.{Context}
-use Rattle.orders.specs.Fields.{Ordered, orderFits, frameCount}
+use Rattle.orders.specs.Fields.{Ordered}
 use Rattle.orders.specs.Streams.{zeros, commandBits, orderBits, streamOf}
-use Rattle.orders.specs.Composing.{contextAfter, orderNumber, roomFits}
+use Rattle.orders.specs.Composing.{contextAfter, roomFits}
 use Rattle.stream_writer.specs.declared.Writer.{Writer}
 use Rattle.stream_writer.specs.Writer.{placeOf, Wrote}
 use Rattle.composing.specs.Checked.{WidthOf, Room, capped}
-use Rattle.order_texts.specs.declared.Gathered.{Gathered}
-use Rattle.order_texts.specs.declared.Refusal.{Refusal}
+use Rattle.gathered_lines.specs.declared.Gathered.{Gathered}
+use Rattle.gathered_lines.specs.Gathering.{LineText, emptyLine}
+use Rattle.order_refusals.specs.declared.Refusal.{Refusal}
+use Rattle.order_refusals.specs.Refusals.{refusal, ordered, orderRefusal, refusalIn, ordersIn}
 use Rattle.order_texts.specs.declared.Composition.{Composition}
-use Rattle.order_texts.specs.Refusals.{refusal, noRefusal, otherBits, fewZeros, LineText, ordered, orderRefusal, refusalIn, ordersIn}
 use Rattle.order_texts.specs.Composed.{outputLimit}
-use Rattle.order_texts.specs.Running.{emptyLine, passedWith, endOf, endWith, unlessRefused, withLines, stillLines, orderAnd, WellFormed, AddsOrder}
+use Rattle.order_texts.specs.Running.{passedWith, endOf, endWith, unlessRefused, withLines, stillLines, orderAnd, WellFormed, AddsOrder}
 use Rattle.order_texts.proofs.Rooms.{has-room, gives-room, no-room, beyond, capped-least, capped-whole}
-
--- ---- its refusal
-
-module _ (c : Context) (n : ℕ) (o : Order) (bytes number : ℕ) (e : number ≡ orderNumber c o bytes) where
-  pub none-refused : number ≡ 0 → noRefusal ≡ orderRefusal c n o bytes
-  unfolding orderRefusal
-  none-refused z = rw (← e) (simp (eq-eqb number 0 z))
-
-  pub bits-refused : (number ≡ 0 → ⊥) → number ≡ 9 → refusal 9 n otherBits (frameCount (o .kind) (c .cnt)) (o .bits) ≡ orderRefusal c n o bytes
-  unfolding orderRefusal
-  bits-refused z m = rw (← e) (simp (ne-eqb number 0 z, eq-eqb number 9 m))
-
-  pub zeros-refused : (number ≡ 0 → ⊥) → (number ≡ 9 → ⊥)
-      → refusal number n fewZeros (zerosAsked (c .last) (o .kind)) (o .zeros) ≡ orderRefusal c n o bytes
-  unfolding orderRefusal
-  zeros-refused z m = rw (← e) (simp (ne-eqb number 0 z, ne-eqb number 9 m))
-
--- An order whose number is not 9 is fit.
-pub not-nine-fits : (c : Context) (o : Order) (bytes : ℕ) → (orderNumber c o bytes ≡ 9 → ⊥) → orderFits (c .cnt) o bytes ≡ true
-not-nine-fits c o bytes n = by (orderFits (c .cnt) o bytes) refl
-  where
-    by : (b : Bool) → orderFits (c .cnt) o bytes ≡ b → orderFits (c .cnt) o bytes ≡ true
-    by true e = e
-    by false e = absurd (n (rw e))
-
-pub unrefused-fits : (c : Context) (n : ℕ) (o : Order) (bytes : ℕ) → orderRefusal c n o bytes .number ≡ 0 → orderFits (c .cnt) o bytes ≡ true
-unfolding orderRefusal
-unrefused-fits c n o bytes z = by (orderFits (c .cnt) o bytes) refl
-  where
-    by : (b : Bool) → orderFits (c .cnt) o bytes ≡ b → orderFits (c .cnt) o bytes ≡ true
-    by true e = e
-    by false e = let nine : orderRefusal c n o bytes .number ≡ 9 = rw e in absurd (omega (arith, nine, z))
-
--- ---- the run after it
 
 module _ (s : Composition) (out : List ℕ) (w : WellFormed s out) (n : ℕ) (o : Order) (lent : List ℕ)
     (told : Refusal) (e : told ≡ orderRefusal (s .context) n o (length lent)) where

@@ -8,8 +8,9 @@ use lib.ListN.{length}
 use Rattle.orders.specs.Streams.{streamOf, packed}
 use Rattle.orders.specs.Composing.{start, roomFits}
 use Rattle.hexlines.specs.Lines.{linesOf}
-use Rattle.order_texts.specs.declared.Refusal.{Refusal}
-use Rattle.order_texts.specs.Refusals.{refusal, noRefusal, longStream, lineTexts, refusalIn, ordersIn}
+use Rattle.gathered_lines.specs.Gathering.{lineTexts}
+use Rattle.order_refusals.specs.declared.Refusal.{Refusal}
+use Rattle.order_refusals.specs.Refusals.{refusal, noRefusal, longStream, refusalIn, ordersIn}
 
 -- The most bytes of a stream that the program composes.
 abbrev pub outputLimit : ℕ

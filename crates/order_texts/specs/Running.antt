@@ -1,10 +1,10 @@
 -- A run of `compose` under way: what is still composed, and what each step keeps.
 -- Assumes nothing.
 use mathlib.Core.Path.{_≡_}
-use mathlib.Core.Bool.{true, false, cond}
+use mathlib.Core.Bool.{true, cond}
 use mathlib.Core.List.{List, [], _∷_, _++_}
 use Prim.Native.Nat.{ℕ, _+_, _/_, _≤_}
-use lib.Dec.{ltb, eqb}
+use lib.Dec.{eqb}
 use lib.ListN.{length, take}
 use lib.Seq.{sets}
 use Rattle.registers.specs.Plan.{defaultPlan}
@@ -14,20 +14,14 @@ use Rattle.orders.specs.Composing as orders
 use Rattle.orders.specs.Composing.{contextAfter, roomFits}
 use Rattle.stream_writer.specs.Writer as writer
 use Rattle.stream_writer.specs.Writer.{placeOf, Fits}
-use Rattle.output.specs.Ascii.{lineFeed}
-use Rattle.hexlines.specs.Lines.{isEmpty}
 use Rattle.text_words.specs.Words.{lineLimit}
 use Rattle.text_frames.specs.Frames.{frameLimit}
-use Rattle.order_texts.specs.declared.Gathered.{Gathered}
-use Rattle.order_texts.specs.declared.Refusal.{Refusal}
+use Rattle.gathered_lines.specs.Gathering.{LineText, emptyLine, textSoFar, textsFrom}
+use Rattle.order_refusals.specs.declared.Refusal.{Refusal}
+use Rattle.order_refusals.specs.Refusals.{noRefusal, ordered, orderRefusal, refusalIn, ordersIn}
 use Rattle.order_texts.specs.declared.Composition.{Composition}
 use Rattle.order_texts.specs.declared.Outcome.{Outcome}
-use Rattle.order_texts.specs.Refusals.{noRefusal, LineText, ordered, orderRefusal, refusalIn, ordersIn}
 use Rattle.order_texts.specs.Composed.{outputLimit, Composed, composed, refusedWith, tooLong}
-
--- No characters yet.
-abbrev pub emptyLine : Gathered
-emptyLine = record { length = 0; long = false }
 
 abbrev pub start : Composition
 start = record { context = orders.start; writer = writer.start; bits = 0; line = emptyLine; lines = 0; refusal = noRefusal }
@@ -35,18 +29,6 @@ start = record { context = orders.start; writer = writer.start; bits = 0; line =
 -- A line has ended, with a refusal or none, and leaves nothing to the stream.
 abbrev pub passedWith : Composition → ℕ → Refusal → Composition
 passedWith s lines r = record { context = s .context; writer = s .writer; bits = s .bits; line = emptyLine; lines = lines; refusal = r }
-
--- The present line so far, in the buffer that it is gathered in.
-abbrev pub textSoFar : Gathered → List ℕ → LineText
-textSoFar g buffer = record { long = g .long; text = take (g .length) buffer }
-
--- The lines of characters, gathered one by one: past 32,768 of them only that there are more is kept.
-unfoldable pub textsFrom : LineText → List ℕ → List LineText
-textsFrom t [] = cond (isEmpty (t .text)) [] (t ∷ [])
-textsFrom t (c ∷ cs) =
-    cond (eqb c lineFeed) (t ∷ textsFrom (record { long = false; text = [] }) cs)
-    (cond (ltb (length (t .text)) lineLimit) (textsFrom (record { long = t .long; text = t .text ++ (c ∷ []) }) cs)
-    (textsFrom (record { long = true; text = t .text }) cs))
 
 -- What stands in the output, if the stream ends after so many bits.
 abbrev pub endOf : ℕ → List ℕ → Composed
@@ -81,12 +63,6 @@ pub record WellFormed (s : Composition) (out : List ℕ) : Type 0 where
 pub record Lent (line frame : List ℕ) : Type 0 where
   pub line-long : length line ≡ lineLimit
   pub frame-long : length frame ≡ frameLimit
-
--- A character of the present line.
-pub record Gathers (g : Gathered) (buffer : List ℕ) (c : ℕ) (r : Gathered) (now : List ℕ) : Type 0 where
-  pub short : r .length ≤ lineLimit
-  pub kept : length now ≡ length buffer
-  pub same : (characters : List ℕ) → textsFrom (textSoFar r now) characters ≡ textsFrom (textSoFar g buffer) (c ∷ characters)
 
 -- An order on line n, with the lines behind it.
 unfoldable pub orderAnd : Composition → List ℕ → ℕ → Order → List ℕ → List LineText → Composed

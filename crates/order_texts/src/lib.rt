@@ -1,41 +1,17 @@
 // A run of `compose` but for its reads and writes: from the characters of a text of orders to the stream that they make, and to what is printed.
 ghost use mathlib.Core.Path.{_≡_};
 ghost use mathlib.Core.Bool.{not};
-ghost use Prim.Native.Nat.{_+_, _≤_, min};
 ghost use lib.Dec.{eqb};
-ghost use lib.ListN.{length};
-ghost use Rattle.output.specs.Ascii.{lineFeed};
-ghost use Rattle.output.specs.Block.{blockLength, block, putAll};
-ghost use Rattle.layout.specs.ListingLines.{refusedLine};
-ghost use Rattle.text_words.specs.Words.{lineLimit};
-ghost use Rattle.order_texts.specs.Refusals.{refusal, noRefusal, orderRefusal, nextLineNumber};
-ghost use Rattle.order_texts.specs.Printing.{streamText, messageOf, partLimit};
-ghost use Rattle.order_texts.specs.Running.{emptyLine, start, passedWith, WellFormed, Lent};
-ghost use Rattle.order_texts.specs.Running.{Gathers, AddsOrder, EndsLine, ComposesBlock, EndsInput, Finishes};
+ghost use Rattle.order_texts.specs.Running.{start, passedWith, WellFormed, Lent, AddsOrder, EndsLine, ComposesBlock, EndsInput, Finishes};
+use gathered_lines::Gathered;
+use order_refusals::Refusal;
 use orders::Context;
 use orders::Order;
 use registers::Plan;
 use stream_writer::Writer;
-use text_words::LINE_LIMIT;
 
 // The most bytes of a stream that the program composes.
 pub const OUTPUT_LIMIT: usize = 1048576;
-
-// The present line so far, in a buffer that is lent: its characters up to the limit, and whether it has more.
-pub struct Gathered {
-    pub length: usize,
-    pub long: bool,
-}
-
-// A refusal: its number, 0 for none; the line's number from 1, 0 for the whole stream; the reason for the message, and the two numbers that some reasons
-// have.
-pub struct Refusal {
-    pub number: u8,
-    pub line: u64,
-    pub reason: u8,
-    pub asked: u64,
-    pub given: u64,
-}
 
 // The state of a run under way.
 pub struct Composition {
@@ -55,103 +31,6 @@ pub struct Composition {
 pub struct Outcome {
     pub refusal: Refusal,
     pub bytes: usize,
-}
-
-// The refusal numbers.
-const WRONG_ORDER: u8 = 9;
-
-const STREAM_TOO_LONG: u8 = 11;
-
-// The reasons beside those of `order_lines`.
-const OTHER_BITS: u8 = 4;
-
-const LONG_LINE: u8 = 5;
-
-const FEW_ZEROS: u8 = 6;
-
-const LONG_STREAM: u8 = 7;
-
-impl Gathered {
-    pub fn empty() -> Gathered
-        ensures { λ r. ⌜ r ≡ emptyLine ⌝ }
-    {
-        Gathered {
-            length: 0,
-            long: false,
-        }
-    }
-
-    // A character more.
-    fn with_character(self, line: &mut [u8], character: u8) -> Gathered
-        requires { ⌜ (self .length ≤ lineLimit) × (length (now line) ≡ lineLimit) × (character ≡ lineFeed → ⊥) ⌝ }
-        ensures { λ r. ⌜ Gathers self (now (line .entry)) character r (now (line .exit)) ⌝ }
-    {
-        let n = self.length;
-        if LINE_LIMIT <= n {
-            return Gathered {
-                length: n,
-                long: true,
-            };
-        }
-        line[n] = character;
-        Gathered {
-            length: n + 1,
-            long: self.long,
-        }
-    }
-}
-
-impl Refusal {
-    pub fn none() -> Refusal
-        ensures { λ r. ⌜ r ≡ noRefusal ⌝ }
-    {
-        Refusal {
-            number: 0,
-            line: 0,
-            reason: 0,
-            asked: 0,
-            given: 0,
-        }
-    }
-
-    // A line that is refused, by its reason alone.
-    fn wrong_line(line: u64, reason: u8) -> Refusal
-        ensures { λ r. ⌜ r ≡ refusal 9 line reason 0 0 ⌝ }
-    {
-        Refusal {
-            number: WRONG_ORDER,
-            line: line,
-            reason: reason,
-            asked: 0,
-            given: 0,
-        }
-    }
-
-    // The refusal of an order that is read, by the bytes lent for its frame.
-    fn of_order(context: Context, line: u64, order: Order, bytes: usize) -> Refusal
-        ensures { λ r. ⌜ r ≡ orderRefusal context line order bytes ⌝ }
-    {
-        let number = context.number(order, bytes);
-        if number == 0 {
-            return Refusal::none();
-        }
-        if number == WRONG_ORDER {
-            return Refusal {
-                number: WRONG_ORDER,
-                line: line,
-                reason: OTHER_BITS,
-                asked: orders::frame_count(order.kind, context.cnt),
-                given: order.bits,
-            };
-        }
-        Refusal {
-            number: number,
-            line: line,
-            reason: FEW_ZEROS,
-            asked: timing::zeros_asked(context.last, order.kind as u8) as u64,
-            given: order.zeros,
-        }
-    }
 }
 
 impl Composition {
@@ -236,7 +115,7 @@ impl Composition {
         let lines = std::num::wrapping_add_u64(self.lines, 1);
         let gathered = self.line;
         if gathered.long {
-            return self.passed(lines, Refusal::wrong_line(lines, LONG_LINE));
+            return self.passed(lines, Refusal::wrong_line(lines, order_refusals::LONG_LINE));
         }
         let length = gathered.length;
         let read = order_lines::read_line(&line[..length], frame);
@@ -310,9 +189,9 @@ impl Composition {
         if !composing::room_fits(self.bits, OUTPUT_LIMIT) {
             return Outcome {
                 refusal: Refusal {
-                    number: STREAM_TOO_LONG,
+                    number: order_refusals::STREAM_TOO_LONG,
                     line: 0,
-                    reason: LONG_STREAM,
+                    reason: order_refusals::LONG_STREAM,
                     asked: 0,
                     given: 0,
                 },
@@ -325,54 +204,5 @@ impl Composition {
             refusal: Refusal::none(),
             bytes: ((self.bits + 7) / 8) as usize,
         }
-    }
-}
-
-// The bytes of a line of the stream, and of as many lines as a block of text holds.
-pub const LINE_BYTES: usize = 32;
-
-pub const PART_BYTES: usize = 32256;
-
-// Where a line of bytes ends that begins at a place.
-fn line_end(length: usize, at: usize) -> usize
-    requires { ⌜ at ≤ length ⌝ }
-    ensures { λ r. ⌜ r ≡ min length (at + 32) ⌝ }
-{
-    if length - at < LINE_BYTES {
-        return length;
-    }
-    at + LINE_BYTES
-}
-
-// The hexadecimal lines of a part of the stream; the answer is how many bytes they take.
-pub fn put_stream(bytes: &[u8], out: &mut [u8]) -> usize
-    requires { ⌜ (length (now bytes) ≤ partLimit) × (length (now out) ≡ blockLength) ⌝ }
-    ensures { λ r. ⌜ block (now (out .exit)) r ≡ putAll (now (out .entry)) 0 (streamText (now (bytes .entry))) ⌝ }
-{
-    let mut place: usize = 0;
-    let mut at: usize = 0;
-    while at < bytes.len() {
-        let end = line_end(bytes.len(), at);
-        place = layout::bytes_line(out, place, &bytes[at..end]);
-        at = end;
-    }
-    place
-}
-
-impl Refusal {
-    // The line that a refusal prints; the answer is how many bytes it takes.
-    pub fn put_line(self, out: &mut [u8]) -> usize
-        requires { ⌜ length (now out) ≡ blockLength ⌝ }
-        ensures { λ r. ⌜ block (now (out .exit)) r ≡ putAll (now (out .entry)) 0 (refusedLine (self .number) (self .line)) ⌝ }
-    {
-        layout::refused_line(out, 0, self.number, self.line)
-    }
-
-    // The sentence of a refusal; the answer is how many bytes it takes.
-    pub fn put_message(self, out: &mut [u8]) -> usize
-        requires { ⌜ length (now out) ≡ blockLength ⌝ }
-        ensures { λ r. ⌜ block (now (out .exit)) r ≡ putAll (now (out .entry)) 0 (messageOf self) ⌝ }
-    {
-        messages::put_order(out, 0, self.reason, self.line, self.asked, self.given)
     }
 }

@@ -8,8 +8,8 @@ use native.Mathlib.Omega.{arith}
 use lib.ListN.{length, take}
 use lib.Seq.{length-take-le}
 use Rattle.text_words.specs.Words.{uncommented, wordsIn}
-use Rattle.order_lines.specs.Lines.{wordsMeaning}
 use Rattle.text_words.proofs.Words.{up-to-within, up-to-take}
+use Rattle.order_lines.specs.Lines.{wordsMeaning}
 use borrow.Author.Needs.{needs}
 use Rattle.order_lines.proofs.read_line.Statement.{statement}
 use Rattle.order_lines.proofs.read_line.Tie as tie

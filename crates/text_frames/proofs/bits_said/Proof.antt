@@ -4,8 +4,8 @@ use mathlib.Core.Path.{_∙_, sym, ap}
 use Prim.Native.Char.{code}
 use Prim.Native.Nat.{_+_}
 use native.Mathlib.Omega.{arith}
-use Rattle.text_numbers.specs.Numbers.{decimal}
 use Rattle.text_words.proofs.Words.{up-to-within, part-rest}
+use Rattle.text_numbers.specs.Numbers.{decimal}
 use Rattle.text_frames.proofs.Frames.{said-behind, said-by-digits}
 use borrow.Author.Needs.{needs}
 use Rattle.text_frames.proofs.bits_said.Statement.{statement}

@@ -7,8 +7,9 @@ use lib.ListN.{length}
 use Rattle.registers.specs.declared.Plan.{Plan}
 use Rattle.orders.specs.Composing.{contextAfter}
 use Rattle.composing.specs.Checked.{SomeFit}
-use Rattle.order_texts.specs.declared.Refusal.{Refusal}
-use Rattle.order_texts.proofs.Orders.{unrefused-fits, order-refused, room-for, order-written, order-beyond}
+use Rattle.order_refusals.specs.declared.Refusal.{Refusal}
+use Rattle.order_refusals.proofs.Refusals.{unrefused-fits}
+use Rattle.order_texts.proofs.Orders.{order-refused, room-for, order-written, order-beyond}
 use borrow.Author.Needs.{needs}
 use Rattle.order_texts.proofs.Composition.with_order.Statement.{statement}
 use Rattle.order_texts.proofs.Composition.with_order.Tie as tie

@@ -3,8 +3,8 @@
 use native.Mathlib.Omega.{arith}
 use Rattle.messages.proofs.Lengths.{order-short}
 use borrow.Author.Needs.{needs}
-use Rattle.order_texts.proofs.Refusal.put_message.Statement.{statement}
-use Rattle.order_texts.proofs.Refusal.put_message.Tie as tie
+use Rattle.order_refusals.proofs.Refusal.put_message.Statement.{statement}
+use Rattle.order_refusals.proofs.Refusal.put_message.Tie as tie
 
 put-order-requires : tie.Need-put-order-requires
 put-order-requires c κs =

@@ -14,9 +14,8 @@ use Rattle.bits.proofs.Truth.{choice-under}
 use Rattle.output.specs.Ascii.{lineFeed}
 use Rattle.hexlines.specs.Lines.{isEmpty, linesFrom, linesOf}
 use Rattle.text_words.specs.Words.{lineLimit}
-use Rattle.order_texts.specs.declared.Gathered.{Gathered}
-use Rattle.order_texts.specs.Refusals.{LineText, lineText, lineTexts}
-use Rattle.order_texts.specs.Running.{textsFrom, Gathers}
+use Rattle.gathered_lines.specs.declared.Gathered.{Gathered}
+use Rattle.gathered_lines.specs.Gathering.{LineText, lineText, lineTexts, textsFrom, Gathers}
 
 module _ (g : Gathered) (buffer : List ℕ) (h : g .length ≤ lineLimit) (long : length buffer ≡ lineLimit) (c : ℕ) (n : c ≡ lineFeed → ⊥) where
   so-far : length (take (g .length) buffer) ≡ g .length

@@ -1,19 +1,20 @@
--- Why a line of a text of orders is refused (document 02, F-2; the text is ours).
+-- Why a line of a text of orders is refused, and what standard error gets of it (document 02, F-2; the text is ours).
 -- Assumes nothing.
-use mathlib.Core.Bool.{Bool, cond}
+use mathlib.Core.Bool.{cond}
 use mathlib.Core.List.{List, [], _∷_}
 use Prim.Native.Nat.{ℕ, _+_, _%_, _^_}
-use lib.Dec.{ltb, eqb}
-use lib.ListN.{length, take}
+use lib.Dec.{eqb}
+use lib.ListN.{length}
 use Rattle.registers.specs.Plan.{defaultPlan}
 use Rattle.timing.specs.Table.{zerosAsked}
 use Rattle.orders.specs.declared.Order.{Order}
 use Rattle.orders.specs.declared.Context.{Context}
 use Rattle.orders.specs.Fields.{Ordered, frameCount}
 use Rattle.orders.specs.Composing.{contextAfter, orderNumber}
-use Rattle.text_words.specs.Words.{lineLimit}
 use Rattle.order_lines.specs.Lines.{LineMeaning, lineMeaning}
-use Rattle.order_texts.specs.declared.Refusal.{Refusal}
+use Rattle.gathered_lines.specs.Gathering.{LineText}
+use Rattle.messages.specs.Sentences.{orderSentence}
+use Rattle.order_refusals.specs.declared.Refusal.{Refusal}
 
 -- A refusal: its number, 0 for none; the line's number from 1, 0 for the whole stream; the reason for the message, and the two numbers that some reasons
 -- have.
@@ -35,18 +36,6 @@ fewZeros = 6
 
 abbrev pub longStream : ℕ
 longStream = 7
-
--- A line as it is gathered: its first 32,768 characters, and whether it has more.
-pub record LineText : Type 0 where
-  pub long : Bool
-  pub text : List ℕ
-
-abbrev pub lineText : List ℕ → LineText
-lineText line = record { long = ltb lineLimit (length line); text = take lineLimit line }
-
-unfoldable pub lineTexts : List (List ℕ) → List LineText
-lineTexts [] = []
-lineTexts (line ∷ lines) = lineText line ∷ lineTexts lines
 
 -- An order on line n that is read: number 9, which only its frame's bits can still give, then 10.
 unfoldable pub orderRefusal : Context → ℕ → Order → ℕ → Refusal
@@ -92,3 +81,7 @@ refusalIn c n (t ∷ ts) =
 unfoldable pub ordersIn : List LineText → List Ordered
 ordersIn [] = []
 ordersIn (t ∷ ts) = meaningOrders (lineMeaning (t .text)) (ordersIn ts)
+
+-- What standard error gets of a refusal.
+abbrev pub messageOf : Refusal → List ℕ
+messageOf r = orderSentence (r .reason) (r .line) (r .asked) (r .given)

@@ -5,11 +5,11 @@ use Prim.Native.Nat.{_-_, _≤_}
 use native.Mathlib.Omega.{arith}
 use lib.ListN.{length, drop, drop-of-length-le}
 use Rattle.output.proofs.Pieces.{PartlyPut, none-put, next-put-if-fits, all-put}
-use Rattle.order_texts.specs.Printing.{linesFrom, streamText}
-use Rattle.order_texts.proofs.Parts.{next-line, part-short}
+use Rattle.stream_lines.specs.StreamLines.{linesFrom, streamText}
+use Rattle.stream_lines.proofs.Parts.{next-line, part-short}
 use borrow.Author.Needs.{needs}
-use Rattle.order_texts.proofs.put_stream.Statement.{statement}
-use Rattle.order_texts.proofs.put_stream.Tie as tie
+use Rattle.stream_lines.proofs.put_stream.Statement.{statement}
+use Rattle.stream_lines.proofs.put_stream.Tie as tie
 
 abbrev Inv-loop : tie.InvT-loop
 Inv-loop bytes out₀ place₀ at₀ out place at = (at ≤ length bytes) × PartlyPut out₀ 0 (streamText bytes) out place (streamText (drop at bytes))

@@ -2,10 +2,10 @@
 -- Assumes nothing.
 use mathlib.Core.Path.{_∙_}
 use Rattle.orders.proofs.FitOrders.{fitting, kind-low}
-use Rattle.order_texts.proofs.Orders.{none-refused, bits-refused, zeros-refused, not-nine-fits}
+use Rattle.order_refusals.proofs.Refusals.{none-refused, bits-refused, zeros-refused, not-nine-fits}
 use borrow.Author.Needs.{needs}
-use Rattle.order_texts.proofs.Refusal.of_order.Statement.{statement}
-use Rattle.order_texts.proofs.Refusal.of_order.Tie as tie
+use Rattle.order_refusals.proofs.Refusal.of_order.Statement.{statement}
+use Rattle.order_refusals.proofs.Refusal.of_order.Tie as tie
 
 number-requires : tie.Need-number-requires
 number-requires c κs = search needs

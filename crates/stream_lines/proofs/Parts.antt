@@ -16,7 +16,7 @@ use Rattle.hexlines.specs.Lines.{isEmpty}
 use Rattle.layout.specs.Digits.{charactersOf}
 use Rattle.layout.specs.ListingLines.{byteDigits, bytesLine}
 use Rattle.layout.proofs.Digits.{digits-length}
-use Rattle.order_texts.specs.Printing.{linesFrom, streamText, partLimit}
+use Rattle.stream_lines.specs.StreamLines.{linesFrom, streamText, partLimit}
 
 -- A line of bytes, behind n others: as many as make 32, or all that are left.
 abbrev Ends : ℕ → List ℕ → Type 0

@@ -1,9 +1,9 @@
 -- `Gathered::with_character` meets its contract: the character is kept, or only that there is one more.
 -- Assumes nothing.
-use Rattle.order_texts.proofs.Gathering.{kept-out, kept}
+use Rattle.gathered_lines.proofs.Gathering.{kept-out, kept}
 use borrow.Author.Needs.{needs}
-use Rattle.order_texts.proofs.Gathered.with_character.Statement.{statement}
-use Rattle.order_texts.proofs.Gathered.with_character.Tie as tie
+use Rattle.gathered_lines.proofs.Gathered.with_character.Statement.{statement}
+use Rattle.gathered_lines.proofs.Gathered.with_character.Tie as tie
 
 returns : tie.Need-returns
 returns c = let s = (c .before) in kept-out _ _ (s .pre .0) (s .pre .1) _ (s .pre .2) (c .if1 .taken)

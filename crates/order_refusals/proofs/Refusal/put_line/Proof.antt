@@ -8,8 +8,8 @@ use Rattle.output.proofs.Pieces.{put-when-fits}
 use Rattle.layout.specs.ListingLines.{refusedLine}
 use Rattle.layout.proofs.LineLengths.{line-length}
 use borrow.Author.Needs.{needs}
-use Rattle.order_texts.proofs.Refusal.put_line.Statement.{statement}
-use Rattle.order_texts.proofs.Refusal.put_line.Tie as tie
+use Rattle.order_refusals.proofs.Refusal.put_line.Statement.{statement}
+use Rattle.order_refusals.proofs.Refusal.put_line.Tie as tie
 
 refused-line-requires : tie.Need-refused-line-requires
 refused-line-requires c κs = search needs
