@@ -3,13 +3,13 @@ ghost use mathlib.Core.Path.{_≡_};
 ghost use Prim.Native.Nat.{_+_, _≤_, min};
 ghost use lib.ListN.{length};
 ghost use Rattle.output.specs.Block.{blockLength};
+ghost use Rattle.stream_lines.specs.StreamLines.{partLimit};
 ghost use Rattle.runs.specs.Status.{IsStatus};
 ghost use Rattle.runs.specs.Runs.{Finished};
-ghost use Rattle.stream_lines.specs.StreamLines.{partLimit};
 ghost use Rattle.compose_runs.specs.Runs.{ComposedRun};
+use compositions::Composition;
+use compositions::Outcome;
 use libc::STDOUT_FILENO;
-use order_texts::Composition;
-use order_texts::Outcome;
 
 // Where a part of the stream ends that begins at a place: its text fills a block.
 fn part_end(length: usize, at: usize) -> usize
@@ -80,7 +80,7 @@ fn compose(name: &[u8], source: &[u8], fd: i32) -> u8
     let mut input = io::large_buffer();
     let mut line = [0u8; text_words::LINE_LIMIT];
     let mut frame = [0u8; text_frames::FRAME_LIMIT];
-    let mut out = [0u8; order_texts::OUTPUT_LIMIT];
+    let mut out = [0u8; compositions::OUTPUT_LIMIT];
     let mut state = Composition::start();
     let mut ended = false;
     let mut turns = posix::TURNS;
@@ -92,13 +92,13 @@ fn compose(name: &[u8], source: &[u8], fd: i32) -> u8
             return runs::FAILED;
         }
         let count = got.count;
-        state = state.compose_block(&input[..count], &mut line, &mut frame, &mut out);
+        state = order_texts::compose_block(state, &input[..count], &mut line, &mut frame, &mut out);
         ended = count == 0;
     }
     if !(state.is_over() | ended) {
         return runs::FAILED;
     }
-    let last = state.end_input(&line, &mut frame, &mut out);
+    let last = order_texts::end_input(state, &line, &mut frame, &mut out);
     let outcome = last.outcome(&mut out);
     finish(name, source, outcome, &out, &mut input)
 }

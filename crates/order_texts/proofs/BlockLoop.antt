@@ -15,9 +15,9 @@ use Rattle.bits.proofs.Truth.{cases, both, not-other, true-holds}
 use Rattle.output.specs.Ascii.{lineFeed}
 use Rattle.gathered_lines.specs.declared.Gathered.{Gathered}
 use Rattle.gathered_lines.specs.Gathering.{LineText, textSoFar, textsFrom, Gathers}
-use Rattle.order_texts.specs.declared.Composition.{Composition}
-use Rattle.order_texts.specs.Composed.{refusedWith}
-use Rattle.order_texts.specs.Running.{withLines, stillLines, stillComposed, WellFormed, Lent, EndsLine, ComposesBlock}
+use Rattle.compositions.specs.declared.Composition.{Composition}
+use Rattle.compositions.specs.Compositions.{refusedWith, withLines, stillLines, WellFormed}
+use Rattle.order_texts.specs.Running.{stillComposed, Lent, EndsLine, ComposesBlock}
 
 -- Whether the run is over, as the code tests it.
 abbrev pub over : Composition → Bool

@@ -1,5 +1,3 @@
-mod Rooms
-mod Orders
 mod LineEnds
 mod BlockLoop
 mod Ends

@@ -13,9 +13,9 @@ use Rattle.gathered_lines.specs.Gathering.{LineText, textSoFar}
 use Rattle.order_refusals.specs.declared.Refusal.{Refusal}
 use Rattle.order_refusals.specs.Refusals.{refusal, noRefusal, longLine, nextLineNumber, meaningContext, meaningOrders, meaningRefusal, lineRefusal, refusalIn}
 use Rattle.order_refusals.specs.Refusals.{ordersIn}
-use Rattle.order_texts.specs.declared.Composition.{Composition}
-use Rattle.order_texts.specs.Composed.{Composed, refusedWith}
-use Rattle.order_texts.specs.Running.{passedWith, endWith, unlessRefused, withLines, stillLines, orderAnd, WellFormed, AddsOrder, EndsLine}
+use Rattle.compositions.specs.declared.Composition.{Composition}
+use Rattle.compositions.specs.Compositions.{Composed, refusedWith, passedWith, endWith, unlessRefused, withLines, stillLines, orderAnd, WellFormed, AddsOrder}
+use Rattle.order_texts.specs.Running.{EndsLine}
 
 -- A refusal ahead of others.
 pub refused-ahead : (r : Refusal) (c : Composed) → (r .number ≡ 0 → ⊥) → unlessRefused r c ≡ refusedWith r

@@ -6,7 +6,7 @@ use Prim.Native.Nat.{ℕ}
 use lib.Dec.{eqb}
 use Rattle.layout.specs.ListingLines.{refusedLine}
 use Rattle.stream_lines.specs.StreamLines.{streamText}
-use Rattle.order_texts.specs.Composed.{Composed}
+use Rattle.compositions.specs.Compositions.{Composed}
 
 -- A refusal prints its one line, and no digits.
 unfoldable pub textOf : Composed → List ℕ

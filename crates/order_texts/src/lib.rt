@@ -1,208 +1,78 @@
-// A run of `compose` but for its reads and writes: from the characters of a text of orders to the stream that they make, and to what is printed.
-ghost use mathlib.Core.Path.{_≡_};
-ghost use mathlib.Core.Bool.{not};
-ghost use lib.Dec.{eqb};
-ghost use Rattle.order_texts.specs.Running.{start, passedWith, WellFormed, Lent, AddsOrder, EndsLine, ComposesBlock, EndsInput, Finishes};
-use gathered_lines::Gathered;
+// A run of `compose` but for its reads and writes, from the characters of a text of orders: its lines, its blocks and its end.
+ghost use Rattle.compositions.specs.Compositions.{WellFormed};
+ghost use Rattle.order_texts.specs.Running.{Lent, EndsLine, ComposesBlock, EndsInput};
+use compositions::Composition;
+use compositions::OUTPUT_LIMIT;
 use order_refusals::Refusal;
-use orders::Context;
-use orders::Order;
-use registers::Plan;
-use stream_writer::Writer;
 
-// The most bytes of a stream that the program composes.
-pub const OUTPUT_LIMIT: usize = 1048576;
-
-// The state of a run under way.
-pub struct Composition {
-    // What the next order goes by, and where its bits go; beyond the output's room they go nowhere.
-    pub context: Context,
-    pub writer: Writer,
-    // The bits of the orders so far; all counts beyond the clock's are one.
-    pub bits: u64,
-    // The present line so far, and how many lines have ended.
-    pub line: Gathered,
-    pub lines: u64,
-    // What has ended the run.
-    pub refusal: Refusal,
+// The present line has ended.
+fn end_line(
+    state: Composition,
+    line: &[u8],
+    frame: &mut [u8],
+    out: &mut [u8; OUTPUT_LIMIT],
+) -> Composition
+    requires { ⌜ WellFormed state (now out) × Lent (now line) (now frame) ⌝ }
+    ensures { λ r. ⌜ EndsLine state (now (line .entry)) (now (out .entry)) r (now (out .exit)) ⌝ }
+{
+    let lines = std::num::wrapping_add_u64(state.lines, 1);
+    let gathered = state.line;
+    if gathered.long {
+        return state.passed(lines, Refusal::wrong_line(lines, order_refusals::LONG_LINE));
+    }
+    let length = gathered.length;
+    let read = order_lines::read_line(&line[..length], frame);
+    if read.reason != 0 {
+        return state.passed(lines, Refusal::wrong_line(lines, read.reason));
+    }
+    if read.blank {
+        return state.passed(lines, Refusal::none());
+    }
+    let order = read.order;
+    let bytes = read.bytes;
+    state.with_order(lines, order, &frame[..bytes], out)
 }
 
-// The outcome: a refusal, or so many bytes of the stream, from the output's first on.
-pub struct Outcome {
-    pub refusal: Refusal,
-    pub bytes: usize,
+// The characters of a block, up to its end or to a refusal.
+pub fn compose_block(
+    from: Composition,
+    input: &[u8],
+    line: &mut [u8],
+    frame: &mut [u8],
+    out: &mut [u8; OUTPUT_LIMIT],
+) -> Composition
+    requires { ⌜ WellFormed from (now out) × Lent (now line) (now frame) ⌝ }
+    ensures { λ r. ⌜ ComposesBlock from (now (line .entry)) (now (out .entry)) (now (input .entry)) r (now (line .exit)) (now (out .exit)) ⌝ }
+{
+    let mut state = from;
+    let mut next: usize = 0;
+    while (next < input.len()) & !state.is_over() {
+        let character = input[next];
+        next += 1;
+        if character == output::LINE_FEED {
+            state = end_line(state, line, frame, out);
+        } else {
+            let gathered = state.line;
+            let longer = gathered.with_character(line, character);
+            state.line = longer;
+        }
+    }
+    state
 }
 
-impl Composition {
-    pub fn start() -> Composition
-        ensures { λ r. ⌜ r ≡ start ⌝ }
-    {
-        Composition {
-            context: Context::start(),
-            writer: Writer::start(),
-            bits: 0,
-            line: Gathered::empty(),
-            lines: 0,
-            refusal: Refusal::none(),
-        }
+// The input has ended, and with it a line that has begun.
+pub fn end_input(
+    state: Composition,
+    line: &[u8],
+    frame: &mut [u8],
+    out: &mut [u8; OUTPUT_LIMIT],
+) -> Composition
+    requires { ⌜ WellFormed state (now out) × Lent (now line) (now frame) ⌝ }
+    ensures { λ r. ⌜ EndsInput state (now (line .entry)) (now (out .entry)) r (now (out .exit)) ⌝ }
+{
+    let gathered = state.line;
+    if state.is_over() | (gathered.length == 0) {
+        return state;
     }
-
-    // Whether a refusal has ended the run.
-    pub fn is_over(self) -> bool
-        ensures { λ r. ⌜ r ≡ not (eqb (self .refusal .number) 0) ⌝ }
-    {
-        let refusal = self.refusal;
-        refusal.number != 0
-    }
-
-    // A line has ended, with a refusal or none, and leaves nothing to the stream.
-    fn passed(self, lines: u64, refusal: Refusal) -> Composition
-        ensures { λ r. ⌜ r ≡ passedWith self lines refusal ⌝ }
-    {
-        let context = self.context;
-        let writer = self.writer;
-        Composition {
-            context: context,
-            writer: writer,
-            bits: self.bits,
-            line: Gathered::empty(),
-            lines: lines,
-            refusal: refusal,
-        }
-    }
-
-    // An order on a line, with the bytes lent for its frame: it is refused, or its bits are written where they fit.
-    fn with_order(
-        self,
-        lines: u64,
-        order: Order,
-        lent: &[u8],
-        out: &mut [u8; OUTPUT_LIMIT],
-    ) -> Composition
-        requires { ⌜ WellFormed self (now out) ⌝ }
-        ensures { λ r. ⌜ AddsOrder self (now (out .entry)) lines order (now (lent .entry)) r (now (out .exit)) ⌝ }
-    {
-        let context = self.context;
-        let refusal = Refusal::of_order(context, lines, order, lent.len());
-        if refusal.number != 0 {
-            return self.passed(lines, refusal);
-        }
-        let width = composing::command_width(order, lent.len());
-        let ahead = composing::add_bits(self.bits, order.zeros);
-        let bits = composing::add_bits(ahead, width);
-        let next = context.after(Plan::default_plan(), order, lent.len());
-        let writer = self.writer;
-        let mut later = Composition {
-            context: next,
-            writer: writer,
-            bits: bits,
-            line: Gathered::empty(),
-            lines: lines,
-            refusal: refusal,
-        };
-        if composing::room_fits(bits, OUTPUT_LIMIT) {
-            let written = composing::put_order(writer, out, order, lent);
-            later.writer = written;
-        }
-        later
-    }
-
-    // The present line has ended.
-    fn end_line(self, line: &[u8], frame: &mut [u8], out: &mut [u8; OUTPUT_LIMIT]) -> Composition
-        requires { ⌜ WellFormed self (now out) × Lent (now line) (now frame) ⌝ }
-        ensures { λ r. ⌜ EndsLine self (now (line .entry)) (now (out .entry)) r (now (out .exit)) ⌝ }
-    {
-        let lines = std::num::wrapping_add_u64(self.lines, 1);
-        let gathered = self.line;
-        if gathered.long {
-            return self.passed(lines, Refusal::wrong_line(lines, order_refusals::LONG_LINE));
-        }
-        let length = gathered.length;
-        let read = order_lines::read_line(&line[..length], frame);
-        if read.reason != 0 {
-            return self.passed(lines, Refusal::wrong_line(lines, read.reason));
-        }
-        if read.blank {
-            return self.passed(lines, Refusal::none());
-        }
-        let order = read.order;
-        let bytes = read.bytes;
-        self.with_order(lines, order, &frame[..bytes], out)
-    }
-
-    // The characters of a block, up to its end or to a refusal.
-    pub fn compose_block(
-        self,
-        input: &[u8],
-        line: &mut [u8],
-        frame: &mut [u8],
-        out: &mut [u8; OUTPUT_LIMIT],
-    ) -> Composition
-        requires { ⌜ WellFormed self (now out) × Lent (now line) (now frame) ⌝ }
-        ensures { λ r. ⌜ ComposesBlock self (now (line .entry)) (now (out .entry)) (now (input .entry)) r (now (line .exit)) (now (out .exit)) ⌝ }
-    {
-        let mut state = self;
-        let mut next: usize = 0;
-        while (next < input.len()) & !state.is_over() {
-            let character = input[next];
-            next += 1;
-            if character == output::LINE_FEED {
-                state = state.end_line(line, frame, out);
-            } else {
-                let gathered = state.line;
-                let longer = gathered.with_character(line, character);
-                state.line = longer;
-            }
-        }
-        state
-    }
-
-    // The input has ended, and with it a line that has begun.
-    pub fn end_input(
-        self,
-        line: &[u8],
-        frame: &mut [u8],
-        out: &mut [u8; OUTPUT_LIMIT],
-    ) -> Composition
-        requires { ⌜ WellFormed self (now out) × Lent (now line) (now frame) ⌝ }
-        ensures { λ r. ⌜ EndsInput self (now (line .entry)) (now (out .entry)) r (now (out .exit)) ⌝ }
-    {
-        let gathered = self.line;
-        if self.is_over() | (gathered.length == 0) {
-            return self;
-        }
-        self.end_line(line, frame, out)
-    }
-
-    // The outcome, if the run ends here: the last byte is filled up.
-    pub fn outcome(self, out: &mut [u8; OUTPUT_LIMIT]) -> Outcome
-        requires { ⌜ WellFormed self (now out) ⌝ }
-        ensures { λ r. ⌜ Finishes self (now (out .entry)) r (now (out .exit)) ⌝ }
-    {
-        let refusal = self.refusal;
-        if refusal.number != 0 {
-            return Outcome {
-                refusal: refusal,
-                bytes: 0,
-            };
-        }
-        if !composing::room_fits(self.bits, OUTPUT_LIMIT) {
-            return Outcome {
-                refusal: Refusal {
-                    number: order_refusals::STREAM_TOO_LONG,
-                    line: 0,
-                    reason: order_refusals::LONG_STREAM,
-                    asked: 0,
-                    given: 0,
-                },
-                bytes: 0,
-            };
-        }
-        let writer = self.writer;
-        writer.finish(out);
-        Outcome {
-            refusal: Refusal::none(),
-            bytes: ((self.bits + 7) / 8) as usize,
-        }
-    }
+    end_line(state, line, frame, out)
 }

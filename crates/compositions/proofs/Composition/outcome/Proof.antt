@@ -5,12 +5,12 @@ use mathlib.Core.Bool.{true}
 use native.Mathlib.Omega.{arith}
 use borrow.Author.Tests.{not-true, not-false}
 use Rattle.orders.specs.Composing.{roomFits}
-use Rattle.order_texts.specs.Composed.{outputLimit}
-use Rattle.order_texts.proofs.Rooms.{has-room}
-use Rattle.order_texts.proofs.Ends.{outcome-refused, outcome-long, outcome-whole}
+use Rattle.compositions.specs.Compositions.{outputLimit}
+use Rattle.compositions.proofs.Rooms.{has-room}
+use Rattle.compositions.proofs.Outcomes.{outcome-refused, outcome-long, outcome-whole}
 use borrow.Author.Needs.{needs}
-use Rattle.order_texts.proofs.Composition.outcome.Statement.{statement}
-use Rattle.order_texts.proofs.Composition.outcome.Tie as tie
+use Rattle.compositions.proofs.Composition.outcome.Statement.{statement}
+use Rattle.compositions.proofs.Composition.outcome.Tie as tie
 
 -- there is room
 room : (e : tie.Else2) → roomFits (e .before .before .before .before .before .args .self .bits) outputLimit ≡ true

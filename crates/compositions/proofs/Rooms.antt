@@ -11,8 +11,7 @@ use Rattle.limits.specs.Limits.{clockLimit}
 use Rattle.bits.proofs.Truth.{both, clash, choice}
 use Rattle.orders.specs.Composing.{roomFits}
 use Rattle.composing.specs.Checked.{capped}
-use Rattle.order_texts.specs.Composed.{outputLimit, tooLong}
-use Rattle.order_texts.specs.Running.{endOf}
+use Rattle.compositions.specs.Compositions.{outputLimit, tooLong, endOf}
 
 pub has-room : (n : ℕ) → roomFits n outputLimit ≡ true → n ≤ 8388608
 has-room n e = leb-true n (8 * outputLimit) (both (leb n clockLimit) (leb n (8 * outputLimit)) e .1)

@@ -1,4 +1,4 @@
--- `Composition::compose_block` meets its contract: at each character, what is still composed is what the whole block's beginning says.
+-- `compose_block` meets its contract: at each character, what is still composed is what the whole block's beginning says.
 -- Assumes nothing.
 use mathlib.Core.Path.{_≡_, _∙_, refl, sym, ap}
 use mathlib.Core.Bool.{Bool, false, not, _&&_}
@@ -8,8 +8,8 @@ use lib.Dec.{ltb}
 use lib.ListN.{length}
 use Rattle.order_texts.proofs.BlockLoop.{Invariant, over, goes-on, initially, line-ended, line-open, stops}
 use borrow.Author.Needs.{needs}
-use Rattle.order_texts.proofs.Composition.compose_block.Statement.{statement}
-use Rattle.order_texts.proofs.Composition.compose_block.Tie as tie
+use Rattle.order_texts.proofs.compose_block.Statement.{statement}
+use Rattle.order_texts.proofs.compose_block.Tie as tie
 
 abbrev Inv-loop : tie.InvT-loop
 Inv-loop input line₀ frame₀ out₀ state₀ next₀ line frame out state next = Invariant state₀ line₀ out₀ input next state line frame out

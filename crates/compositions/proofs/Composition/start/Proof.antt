@@ -1,8 +1,8 @@
 -- `Composition::start` meets its contract.
 -- Assumes nothing.
 use borrow.Author.Needs.{needs}
-use Rattle.order_texts.proofs.Composition.start.Statement.{statement}
-use Rattle.order_texts.proofs.Composition.start.Tie as tie
+use Rattle.compositions.proofs.Composition.start.Statement.{statement}
+use Rattle.compositions.proofs.Composition.start.Tie as tie
 
 start-requires : tie.Need-start-requires
 start-requires c κs = search needs

@@ -9,10 +9,10 @@ use Rattle.orders.specs.Composing.{contextAfter}
 use Rattle.composing.specs.Checked.{SomeFit}
 use Rattle.order_refusals.specs.declared.Refusal.{Refusal}
 use Rattle.order_refusals.proofs.Refusals.{unrefused-fits}
-use Rattle.order_texts.proofs.Orders.{order-refused, room-for, order-written, order-beyond}
+use Rattle.compositions.proofs.Orders.{order-refused, room-for, order-written, order-beyond}
 use borrow.Author.Needs.{needs}
-use Rattle.order_texts.proofs.Composition.with_order.Statement.{statement}
-use Rattle.order_texts.proofs.Composition.with_order.Tie as tie
+use Rattle.compositions.proofs.Composition.with_order.Statement.{statement}
+use Rattle.compositions.proofs.Composition.with_order.Tie as tie
 
 -- The start, by the branch in which the order is not refused, and that branch by the test of the room.
 abbrev start : tie.Else1 → tie.Start

@@ -21,10 +21,10 @@ use Rattle.gathered_lines.specs.declared.Gathered.{Gathered}
 use Rattle.gathered_lines.specs.Gathering.{LineText, emptyLine}
 use Rattle.order_refusals.specs.declared.Refusal.{Refusal}
 use Rattle.order_refusals.specs.Refusals.{refusal, ordered, orderRefusal, refusalIn, ordersIn}
-use Rattle.order_texts.specs.declared.Composition.{Composition}
-use Rattle.order_texts.specs.Composed.{outputLimit}
-use Rattle.order_texts.specs.Running.{passedWith, endOf, endWith, unlessRefused, withLines, stillLines, orderAnd, WellFormed, AddsOrder}
-use Rattle.order_texts.proofs.Rooms.{has-room, gives-room, no-room, beyond, capped-least, capped-whole}
+use Rattle.compositions.specs.declared.Composition.{Composition}
+use Rattle.compositions.specs.Compositions.{outputLimit, passedWith, endOf, endWith, unlessRefused, withLines, stillLines, orderAnd, WellFormed}
+use Rattle.compositions.specs.Compositions.{AddsOrder}
+use Rattle.compositions.proofs.Rooms.{has-room, gives-room, no-room, beyond, capped-least, capped-whole}
 
 module _ (s : Composition) (out : List ℕ) (w : WellFormed s out) (n : ℕ) (o : Order) (lent : List ℕ)
     (told : Refusal) (e : told ≡ orderRefusal (s .context) n o (length lent)) where

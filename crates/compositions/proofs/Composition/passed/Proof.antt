@@ -1,8 +1,8 @@
 -- `Composition::passed` meets its contract.
 -- Assumes nothing.
 use borrow.Author.Needs.{needs}
-use Rattle.order_texts.proofs.Composition.passed.Statement.{statement}
-use Rattle.order_texts.proofs.Composition.passed.Tie as tie
+use Rattle.compositions.proofs.Composition.passed.Statement.{statement}
+use Rattle.compositions.proofs.Composition.passed.Tie as tie
 
 empty-requires : tie.Need-empty-requires
 empty-requires c κs = search needs

@@ -1,17 +1,17 @@
--- `Composition::end_line` meets its contract: the line is too long, is no order, is blank, or is an order.
+-- `end_line` meets its contract: the line is too long, is no order, is blank, or is an order.
 -- Assumes nothing.
 use mathlib.Core.Path.{_∙_, sym, ap}
 use Prim.Native.Nat.{_≤_}
 use native.Mathlib.Omega.{arith}
 use lib.ListN.{length}
 use lib.Seq.{length-take-le}
-use Rattle.order_texts.specs.Running.{passedWith}
+use Rattle.compositions.specs.Compositions.{passedWith}
 use Rattle.order_texts.proofs.LineEnds.{left-as, too-long, no-order, blank, an-order}
 use borrow.Author.Needs.{needs}
-use Rattle.order_texts.proofs.Composition.end_line.Statement.{statement}
-use Rattle.order_texts.proofs.Composition.end_line.Tie as tie
+use Rattle.order_texts.proofs.end_line.Statement.{statement}
+use Rattle.order_texts.proofs.end_line.Tie as tie
 
-within : (s : tie.Start) → s .args .self .line .length ≤ length (s .args .line .now)
+within : (s : tie.Start) → s .args .state .line .length ≤ length (s .args .line .now)
 within s = omega (arith, s .pre .0 .short, s .pre .1 .line-long)
 
 wrapping-add-u64-requires : tie.Need-wrapping-add-u64-requires
@@ -30,9 +30,9 @@ returns c =
     let b4 = b2 .before .before in
     let b7 = b4 .before .before .before in
     let s = b7 in
-    left-as (s .args .self) (s .args .line .now) _ (s .pre .0) _ (b4 .wrapping-add-u64 .ensures)
-    (c .passed .ensures ∙ ap (passedWith (s .args .self) _) (b1 .wrong-line .ensures))
-    (too-long (s .args .self) (s .args .line .now) _ (s .pre .0) _ (b4 .wrapping-add-u64 .ensures) (b2 .if1 .taken))
+    left-as (s .args .state) (s .args .line .now) _ (s .pre .0) _ (b4 .wrapping-add-u64 .ensures)
+    (c .passed .ensures ∙ ap (passedWith (s .args .state) _) (b1 .wrong-line .ensures))
+    (too-long (s .args .state) (s .args .line .now) _ (s .pre .0) _ (b4 .wrapping-add-u64 .ensures) (b2 .if1 .taken))
 
 slice-aggregate-read-line : tie.Need-slice-aggregate-read-line
 slice-aggregate-read-line c =
@@ -43,7 +43,7 @@ read-line-requires : tie.Need-read-line-requires
 read-line-requires c κs =
     let b7 = c .before .before .before .before .before .before .before in
     let s = b7 in
-    let short = length-take-le (s .args .self .line .length) (s .args .line .now) (within s) in
+    let short = length-take-le (s .args .state .line .length) (s .args .line .now) (within s) in
     (omega (arith, short, s .pre .0 .short), s .pre .1 .frame-long)
 
 wrong-line-requires-2 : tie.Need-wrong-line-requires-2
@@ -64,9 +64,9 @@ returns-2 c =
     let b11 = b9 .before .before in
     let b14 = b11 .before .before .before in
     let s = b14 in
-    left-as (s .args .self) (s .args .line .now) _ (s .pre .0) _ (b11 .wrapping-add-u64 .ensures)
-    (c .passed2 .ensures ∙ ap (passedWith (s .args .self) _) (b1 .wrong-line2 .ensures))
-    (no-order (s .args .self) (s .args .line .now) _ (s .pre .0) _ (b11 .wrapping-add-u64 .ensures) (b9 .if1 .left) _
+    left-as (s .args .state) (s .args .line .now) _ (s .pre .0) _ (b11 .wrapping-add-u64 .ensures)
+    (c .passed2 .ensures ∙ ap (passedWith (s .args .state) _) (b1 .wrong-line2 .ensures))
+    (no-order (s .args .state) (s .args .line .now) _ (s .pre .0) _ (b11 .wrapping-add-u64 .ensures) (b9 .if1 .left) _
     (b6 .read-line .ensures .same) (b2 .if2 .taken))
 
 none-requires : tie.Need-none-requires
@@ -88,9 +88,9 @@ returns-3 c =
     let b12 = b10 .before .before in
     let b15 = b12 .before .before .before in
     let s = b15 in
-    left-as (s .args .self) (s .args .line .now) _ (s .pre .0) _ (b12 .wrapping-add-u64 .ensures)
-    (c .passed3 .ensures ∙ ap (passedWith (s .args .self) _) (b1 .none .ensures))
-    (blank (s .args .self) (s .args .line .now) _ (s .pre .0) _ (b12 .wrapping-add-u64 .ensures) (b10 .if1 .left) _
+    left-as (s .args .state) (s .args .line .now) _ (s .pre .0) _ (b12 .wrapping-add-u64 .ensures)
+    (c .passed3 .ensures ∙ ap (passedWith (s .args .state) _) (b1 .none .ensures))
+    (blank (s .args .state) (s .args .line .now) _ (s .pre .0) _ (b12 .wrapping-add-u64 .ensures) (b10 .if1 .left) _
     (b7 .read-line .ensures .same) (b3 .if2 .left) (b2 .if3 .taken))
 
 slice-reshare-prefix-with-order : tie.Need-slice-reshare-prefix-with-order
@@ -121,7 +121,7 @@ returns-4 c =
     let b14 = b12 .before .before in
     let b17 = b14 .before .before .before in
     let s = b17 in
-    an-order (s .args .self) (s .args .line .now) _ (s .pre .0) _ (b14 .wrapping-add-u64 .ensures) (b12 .if1 .left) _
+    an-order (s .args .state) (s .args .line .now) _ (s .pre .0) _ (b14 .wrapping-add-u64 .ensures) (b12 .if1 .left) _
     (b9 .read-line .ensures .same) (b5 .if2 .left) (b4 .if3 .left)
     _ _ (c .with-order .ensures)
 
