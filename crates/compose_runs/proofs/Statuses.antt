@@ -16,7 +16,8 @@ use Rattle.compositions.specs.declared.Composition.{Composition}
 use Rattle.compositions.specs.declared.Outcome.{Outcome}
 use Rattle.compositions.specs.Compositions.{Composed, outputLimit, start, Finishes}
 use Rattle.order_texts.specs.Composed.{composedOf}
-use Rattle.order_texts.specs.Running.{Lent, ComposesBlock, EndsInput}
+use Rattle.line_ends.specs.LineEnds.{Lent}
+use Rattle.order_texts.specs.Running.{ComposesBlock, EndsInput}
 use Rattle.order_texts.proofs.Standing.{Stands, start-stands, block-stands, end-stands}
 use Rattle.runs.specs.Status.{statusOf, IsStatus}
 use Rattle.runs.specs.Runs.{Finished}

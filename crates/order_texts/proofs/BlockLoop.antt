@@ -17,7 +17,8 @@ use Rattle.gathered_lines.specs.declared.Gathered.{Gathered}
 use Rattle.gathered_lines.specs.Gathering.{LineText, textSoFar, textsFrom, Gathers}
 use Rattle.compositions.specs.declared.Composition.{Composition}
 use Rattle.compositions.specs.Compositions.{refusedWith, withLines, stillLines, WellFormed}
-use Rattle.order_texts.specs.Running.{stillComposed, Lent, EndsLine, ComposesBlock}
+use Rattle.line_ends.specs.LineEnds.{Lent, EndsLine}
+use Rattle.order_texts.specs.Running.{stillComposed, ComposesBlock}
 
 -- Whether the run is over, as the code tests it.
 abbrev pub over : Composition → Bool

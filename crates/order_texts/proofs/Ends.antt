@@ -15,7 +15,8 @@ use Rattle.gathered_lines.specs.Gathering.{textSoFar, textsFrom}
 use Rattle.order_refusals.specs.Refusals.{refusal, refusalIn, ordersIn}
 use Rattle.compositions.specs.declared.Composition.{Composition}
 use Rattle.compositions.specs.Compositions.{withLines, stillLines, compositionOf, WellFormed}
-use Rattle.order_texts.specs.Running.{stillComposed, Lent, EndsLine, EndsInput}
+use Rattle.line_ends.specs.LineEnds.{Lent, EndsLine}
+use Rattle.order_texts.specs.Running.{stillComposed, EndsInput}
 use Rattle.order_texts.proofs.BlockLoop.{over}
 
 -- No lines more.

@@ -1,4 +1,3 @@
-mod LineEnds
 mod BlockLoop
 mod Ends
 pub mod Standing

@@ -1,37 +1,9 @@
-// A run of `compose` but for its reads and writes, from the characters of a text of orders: its lines, its blocks and its end.
+// A run of `compose` but for its reads and writes, from the characters of a text of orders: its blocks and its end.
 ghost use Rattle.compositions.specs.Compositions.{WellFormed};
-ghost use Rattle.order_texts.specs.Running.{Lent, EndsLine, ComposesBlock, EndsInput};
+ghost use Rattle.line_ends.specs.LineEnds.{Lent};
+ghost use Rattle.order_texts.specs.Running.{ComposesBlock, EndsInput};
 use compositions::Composition;
 use compositions::OUTPUT_LIMIT;
-use order_refusals::Refusal;
-
-// The present line has ended.
-fn end_line(
-    state: Composition,
-    line: &[u8],
-    frame: &mut [u8],
-    out: &mut [u8; OUTPUT_LIMIT],
-) -> Composition
-    requires { ⌜ WellFormed state (now out) × Lent (now line) (now frame) ⌝ }
-    ensures { λ r. ⌜ EndsLine state (now (line .entry)) (now (out .entry)) r (now (out .exit)) ⌝ }
-{
-    let lines = std::num::wrapping_add_u64(state.lines, 1);
-    let gathered = state.line;
-    if gathered.long {
-        return state.passed(lines, Refusal::wrong_line(lines, order_refusals::LONG_LINE));
-    }
-    let length = gathered.length;
-    let read = order_lines::read_line(&line[..length], frame);
-    if read.reason != 0 {
-        return state.passed(lines, Refusal::wrong_line(lines, read.reason));
-    }
-    if read.blank {
-        return state.passed(lines, Refusal::none());
-    }
-    let order = read.order;
-    let bytes = read.bytes;
-    state.with_order(lines, order, &frame[..bytes], out)
-}
 
 // The characters of a block, up to its end or to a refusal.
 pub fn compose_block(
@@ -50,7 +22,7 @@ pub fn compose_block(
         let character = input[next];
         next += 1;
         if character == output::LINE_FEED {
-            state = end_line(state, line, frame, out);
+            state = line_ends::end_line(state, line, frame, out);
         } else {
             let gathered = state.line;
             let longer = gathered.with_character(line, character);
@@ -74,5 +46,5 @@ pub fn end_input(
     if state.is_over() | (gathered.length == 0) {
         return state;
     }
-    end_line(state, line, frame, out)
+    line_ends::end_line(state, line, frame, out)
 }

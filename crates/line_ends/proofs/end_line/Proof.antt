@@ -6,10 +6,10 @@ use native.Mathlib.Omega.{arith}
 use lib.ListN.{length}
 use lib.Seq.{length-take-le}
 use Rattle.compositions.specs.Compositions.{passedWith}
-use Rattle.order_texts.proofs.LineEnds.{left-as, too-long, no-order, blank, an-order}
+use Rattle.line_ends.proofs.LineEnds.{left-as, too-long, no-order, blank, an-order}
 use borrow.Author.Needs.{needs}
-use Rattle.order_texts.proofs.end_line.Statement.{statement}
-use Rattle.order_texts.proofs.end_line.Tie as tie
+use Rattle.line_ends.proofs.end_line.Statement.{statement}
+use Rattle.line_ends.proofs.end_line.Tie as tie
 
 within : (s : tie.Start) → s .args .state .line .length ≤ length (s .args .line .now)
 within s = omega (arith, s .pre .0 .short, s .pre .1 .line-long)

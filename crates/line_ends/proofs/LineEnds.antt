@@ -15,7 +15,7 @@ use Rattle.order_refusals.specs.Refusals.{refusal, noRefusal, longLine, nextLin
 use Rattle.order_refusals.specs.Refusals.{ordersIn}
 use Rattle.compositions.specs.declared.Composition.{Composition}
 use Rattle.compositions.specs.Compositions.{Composed, refusedWith, passedWith, endWith, unlessRefused, withLines, stillLines, orderAnd, WellFormed, AddsOrder}
-use Rattle.order_texts.specs.Running.{EndsLine}
+use Rattle.line_ends.specs.LineEnds.{EndsLine}
 
 -- A refusal ahead of others.
 pub refused-ahead : (r : Refusal) (c : Composed) → (r .number ≡ 0 → ⊥) → unlessRefused r c ≡ refusedWith r
