@@ -10,14 +10,17 @@ use lib.ListN.{length, replicate, length-replicate}
 use borrow.Author.Tests.{eq-eqb, ne-eqb}
 use Rattle.bits.proofs.Truth.{cond-most}
 use Rattle.output.specs.Block.{blockLength}
+use Rattle.text_words.specs.Words.{lineLimit}
+use Rattle.text_frames.specs.Frames.{frameLimit}
+use Rattle.compositions.specs.declared.Composition.{Composition}
+use Rattle.compositions.specs.declared.Outcome.{Outcome}
+use Rattle.compositions.specs.Compositions.{Composed, outputLimit, start, Finishes}
+use Rattle.order_texts.specs.Composed.{composedOf}
+use Rattle.line_ends.specs.LineEnds.{Lent}
+use Rattle.order_texts.specs.Running.{ComposesBlock, EndsInput}
+use Rattle.order_texts.proofs.Standing.{Stands, start-stands, block-stands, end-stands}
 use Rattle.runs.specs.Status.{statusOf, IsStatus}
 use Rattle.runs.specs.Runs.{Finished}
-use Rattle.order_lines.specs.Lines.{lineLimit, frameLimit}
-use Rattle.order_texts.specs.declared.Composition.{Composition}
-use Rattle.order_texts.specs.declared.Outcome.{Outcome}
-use Rattle.order_texts.specs.Composed.{Composed, outputLimit, composedOf}
-use Rattle.order_texts.specs.Running.{start, Lent, ComposesBlock, EndsInput, Finishes}
-use Rattle.order_texts.proofs.Standing.{Stands, start-stands, block-stands, end-stands}
 use Rattle.compose_runs.specs.Runs.{ComposedOn, ComposedRun}
 
 module _ (number : ℕ) where

@@ -3,23 +3,23 @@ ghost use mathlib.Core.Path.{_≡_};
 ghost use Prim.Native.Nat.{_+_, _≤_, min};
 ghost use lib.ListN.{length};
 ghost use Rattle.output.specs.Block.{blockLength};
+ghost use Rattle.stream_lines.specs.StreamLines.{partLimit};
 ghost use Rattle.runs.specs.Status.{IsStatus};
 ghost use Rattle.runs.specs.Runs.{Finished};
-ghost use Rattle.order_texts.specs.Printing.{partLimit};
 ghost use Rattle.compose_runs.specs.Runs.{ComposedRun};
+use compositions::Composition;
+use compositions::Outcome;
 use libc::STDOUT_FILENO;
-use order_texts::Composition;
-use order_texts::Outcome;
 
 // Where a part of the stream ends that begins at a place: its text fills a block.
 fn part_end(length: usize, at: usize) -> usize
     requires { ⌜ at ≤ length ⌝ }
     ensures { λ r. ⌜ r ≡ min length (at + partLimit) ⌝ }
 {
-    if length - at < order_texts::PART_BYTES {
+    if length - at < stream_lines::PART_BYTES {
         return length;
     }
-    at + order_texts::PART_BYTES
+    at + stream_lines::PART_BYTES
 }
 
 // Writes the hexadecimal lines of the stream, part by part, and tells whether it could.
@@ -29,7 +29,7 @@ fn write_stream(bytes: &[u8], text: &mut [u8]) -> bool
     let mut at: usize = 0;
     while at < bytes.len() {
         let end = part_end(bytes.len(), at);
-        let n = order_texts::put_stream(&bytes[at..end], text);
+        let n = stream_lines::put_stream(&bytes[at..end], text);
         if !posix::write_whole(STDOUT_FILENO, &text[..n]) {
             return false;
         }
@@ -78,9 +78,9 @@ fn compose(name: &[u8], source: &[u8], fd: i32) -> u8
     ensures { λ r. ⌜ ComposedRun r ⌝ }
 {
     let mut input = io::large_buffer();
-    let mut line = [0u8; order_lines::LINE_LIMIT];
-    let mut frame = [0u8; order_lines::FRAME_LIMIT];
-    let mut out = [0u8; order_texts::OUTPUT_LIMIT];
+    let mut line = [0u8; text_words::LINE_LIMIT];
+    let mut frame = [0u8; text_frames::FRAME_LIMIT];
+    let mut out = [0u8; compositions::OUTPUT_LIMIT];
     let mut state = Composition::start();
     let mut ended = false;
     let mut turns = posix::TURNS;
@@ -92,13 +92,13 @@ fn compose(name: &[u8], source: &[u8], fd: i32) -> u8
             return runs::FAILED;
         }
         let count = got.count;
-        state = state.compose_block(&input[..count], &mut line, &mut frame, &mut out);
+        state = order_texts::compose_block(state, &input[..count], &mut line, &mut frame, &mut out);
         ended = count == 0;
     }
     if !(state.is_over() | ended) {
         return runs::FAILED;
     }
-    let last = state.end_input(&line, &mut frame, &mut out);
+    let last = order_texts::end_input(state, &line, &mut frame, &mut out);
     let outcome = last.outcome(&mut out);
     finish(name, source, outcome, &out, &mut input)
 }

@@ -1,15 +1,15 @@
 -- The lines of the examples, computed.
 -- Assumes nothing.
 use mathlib.Core.Path.{refl}
-use Rattle.order_lines.specs.Words.{uncommented, wordsFrom, sameWord}
-use Rattle.order_lines.specs.Numbers.{numberFrom, numberOf, sized}
-use Rattle.order_lines.specs.Names.{kindAmong}
-use Rattle.order_lines.specs.Frames.{upToColon, bitsSaid, frameOf}
+use Rattle.text_words.specs.Words.{upTo, wordsFrom, sameWord}
+use Rattle.text_numbers.specs.Numbers.{numberFrom, numberOf, sized}
+use Rattle.text_frames.specs.Frames.{bitsSaid, frameOf}
+use Rattle.command_names.specs.Names.{kindAmong}
 use Rattle.order_lines.specs.Lines.{fieldsMeaning, wordsMeaning}
 use Rattle.order_lines.specs.Examples.{LineExamples}
 
 pub line-examples : LineExamples
-unfolding uncommented wordsFrom sameWord numberFrom numberOf sized kindAmong upToColon bitsSaid frameOf fieldsMeaning wordsMeaning
+unfolding upTo wordsFrom sameWord numberFrom numberOf sized kindAmong bitsSaid frameOf fieldsMeaning wordsMeaning
 line-examples = record {
   comment = refl;
   name = refl;

@@ -2,34 +2,21 @@
 -- Assumes nothing.
 use mathlib.Core.Bool.{Bool, true, false, cond, not, _&&_, _||_}
 use mathlib.Core.List.{List, []}
-use mathlib.Core.Path.{_≡_, _∙_, refl, sym, ap}
-use Prim.Native.Nat.{ℕ, _+_, _≤_}
+use mathlib.Core.Path.{_≡_, _∙_, refl, sym}
+use Prim.Native.Nat.{ℕ, _+_}
 use native.Mathlib.Omega.{arith}
 use lib.Dec.{eqb}
 use lib.ListN.{length, getD, take}
 use borrow.Author.Tests.{eq-eqb, ne-eqb}
-use Rattle.output.specs.Block.{block, putAll}
-use Rattle.output.proofs.Pieces.{put-prefix, put-end-within}
 use Rattle.orders.specs.Fields.{order}
-use Rattle.order_lines.specs.declared.Number.{Number}
-use Rattle.order_lines.specs.declared.FrameRead.{FrameRead}
+use Rattle.text_numbers.specs.declared.Number.{Number}
+use Rattle.text_frames.specs.declared.FrameRead.{FrameRead}
+use Rattle.text_frames.specs.Frames.{frameLimit, frame, FrameAs}
+use Rattle.command_names.specs.Names.{kindNamed, fieldCount}
+use Rattle.order_fields.specs.Fields.{addressField, valueField, frameField, zerosField}
 use Rattle.order_lines.specs.declared.OrderLine.{OrderLine}
-use Rattle.order_lines.specs.Names.{kindNamed, fieldCount}
-use Rattle.order_lines.specs.Frames.{Frame, frame, noFrame, bytesOf, FrameAs}
-use Rattle.order_lines.specs.Lines.{LineMeaning, frameLimit, blankLine, wrongLine, wrongField, unknownName, otherCount, orderLine, countFits, meant}
-use Rattle.order_lines.specs.Lines.{ReadAs, addressField, valueField, frameField, zerosField, fieldsMeaning, wordsMeaning}
-
--- ---- a frame
-
-pub frame-wrong : (buffer : List ℕ) {f : Frame} → noFrame ≡ f → FrameAs (record { right = false; bits = 0; bytes = 0 }) buffer f
-frame-wrong buffer e = record { same = e; within = omega arith }
-
-pub frame-put : (buffer digits out : List ℕ) (bits next : ℕ) {f : Frame} → block out next ≡ putAll buffer 0 (bytesOf digits)
-    → length (bytesOf digits) ≤ length buffer → frame true bits (bytesOf digits) ≡ f → FrameAs (record { right = true; bits = bits; bytes = next }) out f
-frame-put buffer digits out bits next e h same = record {
-  same = ap (frame true bits) (put-prefix buffer (bytesOf digits) out 0 next e (omega arith)) ∙ same;
-  within = put-end-within buffer (bytesOf digits) out 0 next e (omega arith);
-}
+use Rattle.order_lines.specs.Lines.{LineMeaning, blankLine, wrongLine, wrongField, unknownName, otherCount, orderLine, countFits, meant, ReadAs}
+use Rattle.order_lines.specs.Lines.{fieldsMeaning, wordsMeaning}
 
 -- ---- the fields
 

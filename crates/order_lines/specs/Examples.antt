@@ -4,9 +4,9 @@ use mathlib.Core.Path.{_≡_}
 use mathlib.Core.Bool.{false}
 use mathlib.Core.List.{List, [], _∷_}
 use Prim.Native.Nat.{ℕ}
-use Rattle.output.specs.Ascii.{ascii}
 use Rattle.orders.specs.declared.Order.{Order}
 use Rattle.orders.specs.Fields.{order}
+use Rattle.output.specs.Ascii.{ascii}
 use Rattle.order_lines.specs.Lines.{LineMeaning, blankLine, wrongLine, lineMeaning}
 
 abbrev pub fitLine : Order → List ℕ → LineMeaning

@@ -4,23 +4,16 @@ use mathlib.Core.Bool.{Bool, true, false, cond, _&&_, _||_}
 use mathlib.Core.List.{List, []}
 use mathlib.Core.Path.{_≡_}
 use Prim.Native.Nat.{ℕ, _+_, _≤_}
-use lib.Dec.{ltb, eqb}
+use lib.Dec.{eqb}
 use lib.ListN.{length, getD, take}
 use Rattle.orders.specs.declared.Order.{Order}
-use Rattle.orders.specs.Fields.{usesAddress, usesValue, valueWidth, isFrameKind, order}
-use Rattle.order_lines.specs.declared.Number.{Number}
+use Rattle.orders.specs.Fields.{order}
+use Rattle.text_words.specs.Words.{lineLimit, wordsIn, wordsOf}
+use Rattle.text_numbers.specs.declared.Number.{Number}
+use Rattle.text_frames.specs.Frames.{frameLimit, Frame}
+use Rattle.command_names.specs.Names.{kindNamed, fieldCount}
+use Rattle.order_fields.specs.Fields.{addressField, valueField, frameField, zerosField}
 use Rattle.order_lines.specs.declared.OrderLine.{OrderLine}
-use Rattle.order_lines.specs.Words.{wordsIn, wordsOf}
-use Rattle.order_lines.specs.Numbers.{number, hexadecimal, decimal, sized}
-use Rattle.order_lines.specs.Names.{kindNamed, oneIf, fieldCount}
-use Rattle.order_lines.specs.Frames.{Frame, frame, frameOf}
-
--- The most characters of a line, and the bytes that the digits of its frame fill.
-abbrev pub lineLimit : ℕ
-lineLimit = 32768
-
-abbrev pub frameLimit : ℕ
-frameLimit = 16384
 
 -- A line without words; the reason why one is no order, 0 for none; its order, whose frame is the bytes lent here.
 pub record LineMeaning : Type 0 where
@@ -48,21 +41,7 @@ otherCount = 2
 abbrev pub wrongField : ℕ
 wrongField = 3
 
--- The fields by the line's words, the name being word 0; one that the command does not use is 0.
-abbrev pub addressField : ℕ → List (List ℕ) → Number
-addressField kind words = cond (usesAddress kind) (sized 4 (hexadecimal (getD words 1 []))) (number 0)
-
-abbrev pub valueField : ℕ → List (List ℕ) → Number
-valueField kind words =
-    cond (usesValue kind) (sized (valueWidth kind) (hexadecimal (getD words (1 + oneIf (usesAddress kind)) []))) (number 0)
-
-abbrev pub frameField : ℕ → List (List ℕ) → Frame
-frameField kind words = cond (isFrameKind kind) (frameOf (getD words 1 [])) (frame true 0 [])
-
--- The zeros ahead, behind the name and so many fields; 0 if the word is not there.
-abbrev pub zerosField : ℕ → List (List ℕ) → Number
-zerosField fields words = cond (ltb (1 + fields) (length words)) (decimal (getD words (1 + fields) [])) (number 0)
-
+-- An order of its fields; one of them wrong is the third reason.
 abbrev pub orderLine : ℕ → Number → Number → Number → Frame → LineMeaning
 orderLine kind zeros address value frame =
     cond (zeros .right && (address .right && (value .right && frame .right)))

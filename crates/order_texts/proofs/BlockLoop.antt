@@ -13,12 +13,12 @@ use lib.Seq.{drop-cons}
 use borrow.Author.Tests.{eq-eqb, ltb-true, ltb-false, not-true, not-false}
 use Rattle.bits.proofs.Truth.{cases, both, not-other, true-holds}
 use Rattle.output.specs.Ascii.{lineFeed}
-use Rattle.order_texts.specs.declared.Gathered.{Gathered}
-use Rattle.order_texts.specs.declared.Composition.{Composition}
-use Rattle.order_texts.specs.Refusals.{LineText}
-use Rattle.order_texts.specs.Composed.{refusedWith}
-use Rattle.order_texts.specs.Running.{textSoFar, textsFrom, withLines, stillLines, stillComposed}
-use Rattle.order_texts.specs.Running.{WellFormed, Lent, Gathers, EndsLine, ComposesBlock}
+use Rattle.gathered_lines.specs.declared.Gathered.{Gathered}
+use Rattle.gathered_lines.specs.Gathering.{LineText, textSoFar, textsFrom, Gathers}
+use Rattle.compositions.specs.declared.Composition.{Composition}
+use Rattle.compositions.specs.Compositions.{refusedWith, withLines, stillLines, WellFormed}
+use Rattle.line_ends.specs.LineEnds.{Lent, EndsLine}
+use Rattle.order_texts.specs.Running.{stillComposed, ComposesBlock}
 
 -- Whether the run is over, as the code tests it.
 abbrev pub over : Composition → Bool

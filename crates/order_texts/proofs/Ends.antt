@@ -1,26 +1,22 @@
--- The input's end, and the outcome of a run.
+-- The input's end.
 -- Assumes nothing.
 use mathlib.Core.Bool.{Bool, true, false, cond, _||_}
 use mathlib.Core.List.{List, [], _∷_}
 use mathlib.Core.Path.{_≡_, _∙_, refl, sym, ap}
-use Prim.Native.Nat.{ℕ, zero, suc, _+_, _/_, _≤_}
-use native.Mathlib.Nat.{add-zero}
+use Prim.Native.Nat.{ℕ, zero, suc, _≤_}
 use native.Mathlib.Omega.{arith}
 use lib.Dec.{eqb}
 use lib.ListN.{length, take}
-use lib.Seq.{sets, length-sets}
-use borrow.Author.Tests.{eq-eqb, ne-eqb, eqb-true, eqb-false, not-true, not-false}
+use borrow.Author.Tests.{eqb-true, eqb-false, not-true, not-false}
 use Rattle.bits.proofs.Truth.{clash}
-use Rattle.orders.specs.Streams.{streamOf, packedFrom}
-use Rattle.orders.specs.Composing.{roomFits}
+use Rattle.orders.specs.Streams.{streamOf}
 use Rattle.hexlines.specs.Lines.{isEmpty}
-use Rattle.order_texts.specs.declared.Refusal.{Refusal}
-use Rattle.order_texts.specs.declared.Composition.{Composition}
-use Rattle.order_texts.specs.Refusals.{refusal, noRefusal, longStream, refusalIn, ordersIn}
-use Rattle.order_texts.specs.Composed.{outputLimit}
-use Rattle.order_texts.specs.Running.{textSoFar, textsFrom, withLines, stillLines, stillComposed, compositionOf}
-use Rattle.order_texts.specs.Running.{WellFormed, Lent, EndsLine, EndsInput, Finishes}
-use Rattle.order_texts.proofs.Rooms.{has-room}
+use Rattle.gathered_lines.specs.Gathering.{textSoFar, textsFrom}
+use Rattle.order_refusals.specs.Refusals.{refusal, refusalIn, ordersIn}
+use Rattle.compositions.specs.declared.Composition.{Composition}
+use Rattle.compositions.specs.Compositions.{withLines, stillLines, compositionOf, WellFormed}
+use Rattle.line_ends.specs.LineEnds.{Lent, EndsLine}
+use Rattle.order_texts.specs.Running.{stillComposed, EndsInput}
 use Rattle.order_texts.proofs.BlockLoop.{over}
 
 -- No lines more.
@@ -62,25 +58,3 @@ module _ {s : Composition} {buffer out frame : List ℕ} (w : WellFormed s out) 
         well-formed = ended .well-formed;
         same = sym (no-more r now) ∙ ended .same [] ∙ sym (simp (not-false (eqb (s .refusal .number) 0) (n .0), some));
       }
-
--- ---- the outcome
-
-module _ (s : Composition) (out : List ℕ) (w : WellFormed s out) where
-  pub outcome-refused : (s .refusal .number ≡ 0 → ⊥) → Finishes s out (record { refusal = s .refusal; bytes = 0 }) out
-  unfolding compositionOf
-  outcome-refused n = record { same = simp (ne-eqb (s .refusal .number) 0 n); within = omega arith; long = w .whole }
-
-  module _ (z : s .refusal .number ≡ 0) where
-    pub outcome-long : roomFits (s .bits) outputLimit ≡ false → Finishes s out (record { refusal = refusal 11 0 longStream 0 0; bytes = 0 }) out
-    unfolding compositionOf
-    outcome-long r = record { same = simp (eq-eqb (s .refusal .number) 0 z, add-zero, r); within = omega arith; long = w .whole }
-
-    pub outcome-whole : roomFits (s .bits) outputLimit ≡ true → (now : List ℕ)
-        → now ≡ sets out (s .writer .at) (packedFrom (s .writer .held) (s .writer .filled) [])
-        → (none : Refusal) → none ≡ noRefusal → Finishes s out (record { refusal = none; bytes = (s .bits + 7) / 8 }) now
-    unfolding compositionOf
-    outcome-whole r now e none f = record {
-      same = simp (eq-eqb (s .refusal .number) 0 z, add-zero, r) (rw (e, f));
-      within = omega (arith, has-room (s .bits) r);
-      long = ap length e ∙ length-sets out (s .writer .at) (packedFrom (s .writer .held) (s .writer .filled) []) ∙ w .whole;
-    }

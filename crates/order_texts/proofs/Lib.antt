@@ -1,9 +1,4 @@
-pub mod Rooms
-pub mod Orders
-pub mod LineEnds
-pub mod Gathering
-pub mod BlockLoop
-pub mod Ends
-pub mod Parts
+mod BlockLoop
+mod Ends
 pub mod Standing
 pub mod Examples

@@ -12,14 +12,15 @@ use Rattle.orders.specs.Streams.{streamOf, packed}
 use Rattle.orders.specs.Composing.{roomFits}
 use Rattle.orders.proofs.Packing.{packed-length}
 use Rattle.hexlines.specs.Lines.{linesOf}
-use Rattle.order_texts.specs.declared.Composition.{Composition}
-use Rattle.order_texts.specs.Refusals.{noRefusal, lineTexts, refusalIn, ordersIn}
-use Rattle.order_texts.specs.Composed.{outputLimit, composed, tooLong, writtenOf, composedOf}
-use Rattle.order_texts.specs.Running.{start, endWith, unlessRefused, withLines, stillLines, stillComposed, compositionOf, WellFormed}
-use Rattle.order_texts.specs.Running.{ComposesBlock, EndsInput}
+use Rattle.gathered_lines.specs.Gathering.{lineTexts}
+use Rattle.gathered_lines.proofs.Gathering.{texts}
+use Rattle.order_refusals.specs.Refusals.{noRefusal, refusalIn, ordersIn}
+use Rattle.compositions.specs.declared.Composition.{Composition}
+use Rattle.compositions.specs.Compositions.{outputLimit, composed, tooLong, start, endWith, unlessRefused, withLines, stillLines, compositionOf, WellFormed}
+use Rattle.compositions.proofs.Rooms.{has-room}
+use Rattle.order_texts.specs.Composed.{writtenOf, composedOf}
+use Rattle.order_texts.specs.Running.{stillComposed, ComposesBlock, EndsInput}
 use Rattle.order_texts.specs.Blocks.{Run, BlocksComposed, joined, AsRead}
-use Rattle.order_texts.proofs.Rooms.{has-room}
-use Rattle.order_texts.proofs.Gathering.{texts}
 
 pub record Stands (characters : List ℕ) (s : Composition) (buffer out : List ℕ) : Type 0 where
   pub well-formed : WellFormed s out

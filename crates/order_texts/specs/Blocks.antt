@@ -4,10 +4,11 @@ use mathlib.Core.Path.{_≡_}
 use mathlib.Core.List.{List, [], _∷_, _++_}
 use Prim.Native.Nat.{ℕ}
 use lib.ListN.{length, take}
-use Rattle.order_texts.specs.declared.Composition.{Composition}
-use Rattle.order_texts.specs.declared.Outcome.{Outcome}
-use Rattle.order_texts.specs.Composed.{outputLimit, composed, composedOf}
-use Rattle.order_texts.specs.Running.{start, ComposesBlock, EndsInput, Finishes}
+use Rattle.compositions.specs.declared.Composition.{Composition}
+use Rattle.compositions.specs.declared.Outcome.{Outcome}
+use Rattle.compositions.specs.Compositions.{outputLimit, composed, start, Finishes}
+use Rattle.order_texts.specs.Composed.{composedOf}
+use Rattle.order_texts.specs.Running.{ComposesBlock, EndsInput}
 
 -- A run with its two buffers: the line's and the output.
 pub record Run : Type 0 where

@@ -1,4 +1,3 @@
-pub mod Refusals
 pub mod Composed
 pub mod Running
 pub mod Printing

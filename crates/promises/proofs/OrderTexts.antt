@@ -24,11 +24,13 @@ use Rattle.orders.proofs.Packing.{packed-length}
 use Rattle.orders.proofs.OrderByOrder.{refusal-later}
 use Rattle.hexlines.specs.Lines.{linesOf}
 use Rattle.order_lines.specs.Lines.{LineMeaning, lineMeaning}
-use Rattle.order_texts.specs.declared.Refusal.{Refusal}
-use Rattle.order_texts.specs.Refusals.{refusal, noRefusal, otherBits, longLine, fewZeros, LineText, lineTexts, orderRefusal, meaningRefusal}
-use Rattle.order_texts.specs.Refusals.{lineRefusal, meaningContext, ordered, nextLineNumber, refusalIn, ordersIn}
-use Rattle.order_texts.specs.Composed as texts
-use Rattle.order_texts.specs.Composed.{outputLimit, refusedWith, tooLong, writtenOf, composedOf}
+use Rattle.gathered_lines.specs.Gathering.{LineText, lineTexts}
+use Rattle.order_refusals.specs.declared.Refusal.{Refusal}
+use Rattle.order_refusals.specs.Refusals.{refusal, noRefusal, otherBits, longLine, fewZeros, orderRefusal, meaningRefusal, lineRefusal, meaningContext}
+use Rattle.order_refusals.specs.Refusals.{ordered, nextLineNumber, refusalIn, ordersIn}
+use Rattle.compositions.specs.Compositions as texts
+use Rattle.compositions.specs.Compositions.{outputLimit, refusedWith, tooLong}
+use Rattle.order_texts.specs.Composed.{writtenOf, composedOf}
 use Rattle.promises.specs.Composing.{textOrders, IsTheCall, ProgramComposes}
 
 -- What the composing call writes, and the bytes that it fills.

@@ -27,9 +27,10 @@ use Rattle.orders.specs.Composing.{start, contextAfter, ComposeResult, composeO
 use Rattle.orders.specs.ComposeTable.{ComposeExamples}
 use Rattle.hexlines.specs.Lines.{linesOf}
 use Rattle.order_lines.specs.Examples.{LineExamples}
-use Rattle.order_texts.specs.Refusals as texts
-use Rattle.order_texts.specs.Refusals.{lineTexts}
-use Rattle.order_texts.specs.Composed.{outputLimit, composedOf}
+use Rattle.gathered_lines.specs.Gathering.{lineTexts}
+use Rattle.order_refusals.specs.Refusals as texts
+use Rattle.compositions.specs.Compositions.{outputLimit}
+use Rattle.order_texts.specs.Composed.{composedOf}
 use Rattle.order_texts.specs.Examples.{ComposedExamples}
 use Rattle.order_texts.specs.Blocks.{AsRead}
 use Rattle.round_trip.specs.ReadBack.{opened, ShowsEach}

@@ -7,8 +7,8 @@ use lib.ListN.{length, take, drop, length-take}
 use lib.Seq.{length-take-le}
 use Rattle.output.specs.Block.{blockLength}
 use Rattle.output.proofs.Pieces.{put-end-within}
-use Rattle.order_texts.specs.Printing.{streamText, partLimit}
-use Rattle.order_texts.proofs.Parts.{part-short}
+use Rattle.stream_lines.specs.StreamLines.{streamText, partLimit}
+use Rattle.stream_lines.proofs.Parts.{part-short}
 use borrow.Author.Needs.{needs}
 use Rattle.compose_runs.proofs.write_stream.Statement.{statement}
 use Rattle.compose_runs.proofs.write_stream.Tie as tie

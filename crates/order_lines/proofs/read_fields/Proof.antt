@@ -3,8 +3,8 @@
 use mathlib.Core.Path.{_∙_, refl, ap}
 use Prim.Native.Nat.{ℕ}
 use borrow.Author.Tests.{not-true, not-false}
-use Rattle.order_lines.specs.Words.{wordsIn}
-use Rattle.order_lines.specs.Lines.{zerosField}
+use Rattle.text_words.specs.Words.{wordsIn}
+use Rattle.order_fields.specs.Fields.{zerosField}
 use Rattle.order_lines.proofs.Lines.{fields-wrong, fields-right, read-nothing}
 use borrow.Author.Needs.{needs}
 use Rattle.order_lines.proofs.read_fields.Statement.{statement}

@@ -2,27 +2,28 @@
 -- Assumes nothing.
 use mathlib.Core.Path.{_≡_, _∙_, sym, ap}
 use mathlib.Core.List.{List}
+use Prim.Native.Char.{code}
 use Prim.Native.Nat.{ℕ, _≤_}
 use native.Mathlib.Omega.{arith}
 use lib.ListN.{length, take}
 use lib.Seq.{length-take-le}
-use Rattle.order_lines.specs.Words.{uncommented, wordsIn}
+use Rattle.text_words.specs.Words.{uncommented, wordsIn}
+use Rattle.text_words.proofs.Words.{up-to-within, up-to-take}
 use Rattle.order_lines.specs.Lines.{wordsMeaning}
-use Rattle.order_lines.proofs.Words.{comment-within, uncommented-take}
 use borrow.Author.Needs.{needs}
 use Rattle.order_lines.proofs.read_line.Statement.{statement}
 use Rattle.order_lines.proofs.read_line.Tie as tie
 
-within : (c : tie.After-comment-place) → c .comment-place .result ≤ length (c .before .before .before .args .line .now)
-within c = omega (arith, c .comment-place .ensures, comment-within (c .before .before .before .args .line .now))
+within : (c : tie.After-place-of) → c .place-of .result ≤ length (c .before .before .before .args .line .now)
+within c = omega (arith, c .place-of .ensures, up-to-within (code "#") (c .before .before .before .args .line .now))
 
-ahead : (c : tie.After-comment-place) → let line = c .before .before .before .args .line .now in take (c .comment-place .result) line ≡ uncommented line
+ahead : (c : tie.After-place-of) → let line = c .before .before .before .args .line .now in take (c .place-of .result) line ≡ uncommented line
 ahead c =
     let line = c .before .before .before .args .line .now in
-    ap (λ (n : ℕ). take n line) (c .comment-place .ensures) ∙ uncommented-take line
+    ap (λ (n : ℕ). take n line) (c .place-of .ensures) ∙ up-to-take (code "#") line
 
-comment-place-requires : tie.Need-comment-place-requires
-comment-place-requires c κs = search needs
+place-of-requires : tie.Need-place-of-requires
+place-of-requires c κs = search needs
 
 slice-aggregate-read-text : tie.Need-slice-aggregate-read-text
 slice-aggregate-read-text c = sym (length-take-le _ _ (within (c .before)))
@@ -31,7 +32,7 @@ read-text-requires : tie.Need-read-text-requires
 read-text-requires c κs =
     let b2 = c .before .before in
     let b5 = b2 .before .before .before in
-    let short = length-take-le (b2 .comment-place .result) (b5 .args .line .now) (within b2) in
+    let short = length-take-le (b2 .place-of .result) (b5 .args .line .now) (within b2) in
     (omega (arith, short, within b2, b5 .pre .0), b5 .pre .1)
 
 same-length : tie.Need-same-length
@@ -50,7 +51,7 @@ pub read-line-spec : {M : Type 1} → statement M
 read-line-spec =
     tie.close
     (tie.spec
-    comment-place-requires
+    place-of-requires
     slice-aggregate-read-text
     read-text-requires
     same-length

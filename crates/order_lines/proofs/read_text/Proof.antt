@@ -4,8 +4,8 @@ use mathlib.Core.Path.{_∙_, sym, ap}
 use mathlib.Core.Bool.{true, false}
 use Prim.Native.Nat.{ℕ}
 use lib.ListN.{length}
-use Rattle.order_lines.specs.Words.{wordsIn}
-use Rattle.order_lines.specs.Names.{kindNamed}
+use Rattle.text_words.specs.Words.{wordsIn}
+use Rattle.command_names.specs.Names.{kindNamed}
 use Rattle.order_lines.specs.Lines.{countFits}
 use Rattle.order_lines.proofs.Lines.{read-nothing, no-words, no-name, other-count, fit-count, counts-differ}
 use borrow.Author.Needs.{needs}

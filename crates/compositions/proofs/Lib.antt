@@ -1,0 +1,3 @@
+pub mod Rooms
+mod Orders
+mod Outcomes
