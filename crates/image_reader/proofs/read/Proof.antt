@@ -2,8 +2,8 @@
 -- Assumes nothing.
 use borrow.Author.Needs.{needs}
 use Rattle.image_fields.specs.Image.{stateOf}
-use Rattle.image.proofs.read.Statement.{statement}
-use Rattle.image.proofs.read.Tie as tie
+use Rattle.image_reader.proofs.read.Statement.{statement}
+use Rattle.image_reader.proofs.read.Tie as tie
 
 shared-slice-read-next : tie.Need-shared-slice-read-next
 shared-slice-read-next c = search needs

@@ -3,9 +3,9 @@
 use Prim.Native.Nat.{_-_}
 use lib.ListN.{length}
 use borrow.Author.Needs.{needs}
-use Rattle.image.proofs.CompareLoop.{Invariant, initially, differ, again, over}
-use Rattle.image.proofs.same.Statement.{statement}
-use Rattle.image.proofs.same.Tie as tie
+use Rattle.image_words.proofs.CompareLoop.{Invariant, initially, differ, again, over}
+use Rattle.image_words.proofs.same.Statement.{statement}
+use Rattle.image_words.proofs.same.Tie as tie
 
 abbrev Inv-loop : tie.InvT-loop
 Inv-loop a b k₀ k = Invariant a b k

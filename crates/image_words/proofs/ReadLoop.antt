@@ -7,7 +7,7 @@ use lib.ListN.{getD, set, replicate, length-replicate}
 use Rattle.image_fields.specs.Fields.{Limit}
 use Rattle.image_fields.specs.Image.{low, lowWords}
 use Rattle.image_fields.proofs.LowWords.{length-even, even-at}
-use Rattle.image.proofs.WriteLoop as writes
+use Rattle.image_words.proofs.WriteLoop as writes
 
 pub record Invariant (l : Limit) (size at : ℕ) (image out : List ℕ) (n : ℕ) : Type 0 where
   pub stores : writes.Invariant (replicate size 0) 0 (lowWords (replicate size l) at image) out n

@@ -1,14 +1,14 @@
--- `u8_at` puts the words' low parts one after the other into an array that they fill.
+-- `u16_at` puts the words' low parts one after the other into an array that they fill.
 -- Assumes nothing.
 use Prim.Native.Nat.{_-_}
 use borrow.Author.Needs.{needs}
 use Rattle.image_fields.specs.Fields.{bits}
-use Rattle.image.proofs.ReadLoop.{Invariant, initially, again, over}
-use Rattle.image.proofs.u8_at.Statement.{statement}
-use Rattle.image.proofs.u8_at.Tie as tie
+use Rattle.image_words.proofs.ReadLoop.{Invariant, initially, again, over}
+use Rattle.image_words.proofs.u16_at.Statement.{statement}
+use Rattle.image_words.proofs.u16_at.Tie as tie
 
 abbrev Inv-loop : tie.InvT-loop
-Inv-loop image at numbers₀ n₀ numbers n = Invariant (bits 8) 16 at image numbers n
+Inv-loop image at numbers₀ n₀ numbers n = Invariant (bits 16) 16 at image numbers n
 
 abbrev μ-loop : tie.MeasureT-loop
 μ-loop image at numbers₀ n₀ numbers n = 16 - n
@@ -28,6 +28,9 @@ shared-slice-read-numbers c = search needs
 cast-numbers : tie.Need-cast-numbers Inv-loop μ-loop
 cast-numbers c = search needs
 
+mul-numbers-2 : tie.Need-mul-numbers-2 Inv-loop μ-loop
+mul-numbers-2 c = search needs
+
 array-write-numbers : tie.Need-array-write-numbers Inv-loop μ-loop
 array-write-numbers c = search needs
 
@@ -43,8 +46,8 @@ loop-again c = again (c .before .before .loop .inv) (c .before .loop-test .taken
 returns : tie.Need-returns Inv-loop μ-loop
 returns c = over (c .before .loop .inv) (c .loop-test .left)
 
-pub u8-at-spec : {M : Type 1} → statement M
-u8-at-spec =
+pub u16-at-spec : {M : Type 1} → statement M
+u16-at-spec =
     tie.close
     (tie.spec
     Inv-loop
@@ -54,6 +57,7 @@ u8-at-spec =
     mul-numbers
     shared-slice-read-numbers
     cast-numbers
+    mul-numbers-2
     array-write-numbers
     add-n
     loop-less

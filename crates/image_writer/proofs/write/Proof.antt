@@ -11,10 +11,10 @@ use mir.Syntax.{w8, w16}
 use Rattle.image_fields.specs.Fields.{fields}
 use Rattle.image_fields.specs.Image.{wordPlace, scalarsOf, stateOf, NumbersKeep, ArraysKeep, Widths}
 use Rattle.image_fields.proofs.RoundTrip.{read-back}
-use Rattle.image.proofs.Stored.{written}
+use Rattle.image_writer.proofs.Stored.{written}
 use Rattle.image_fields.proofs.Widths.{array-keeps}
-use Rattle.image.proofs.write.Statement.{statement}
-use Rattle.image.proofs.write.Tie as tie
+use Rattle.image_writer.proofs.write.Statement.{statement}
+use Rattle.image_writer.proofs.write.Tie as tie
 
 phase-number-requires : tie.Need-phase-number-requires
 phase-number-requires c κs = search needs

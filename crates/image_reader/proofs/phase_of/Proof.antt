@@ -1,8 +1,8 @@
 -- `phase_of` is the phase of a number, case by case.
 -- Assumes nothing.
 use borrow.Author.Tests.{ne-eqb}
-use Rattle.image.proofs.phase_of.Statement.{statement}
-use Rattle.image.proofs.phase_of.Tie as tie
+use Rattle.image_reader.proofs.phase_of.Statement.{statement}
+use Rattle.image_reader.proofs.phase_of.Tie as tie
 
 returns : tie.Need-returns
 returns c = rw (c .match .keys1)
