@@ -4,8 +4,8 @@ use mathlib.Core.Path.{refl}
 use Rattle.orders.specs.Fields.{orderFits}
 use Rattle.orders.specs.Streams.{commandBits, streamOf}
 use Rattle.hexlines.specs.Lines.{linesFrom}
-use Rattle.layout.specs.Digits.{charactersOf}
-use Rattle.layout.specs.ListingLines.{numbersLine}
+use Rattle.hex_digits.specs.Digits.{charactersOf}
+use Rattle.number_lines.specs.NumberLines.{numbersLine}
 use Rattle.order_lines.specs.Words.{uncommented, wordsFrom, sameWord}
 use Rattle.order_lines.specs.Numbers.{numberFrom, numberOf, sized}
 use Rattle.order_lines.specs.Names.{kindAmong}

@@ -6,9 +6,9 @@ use Prim.Native.Nat.{ℕ, _+_}
 use lib.Dec.{eqb}
 use Rattle.output.specs.Ascii.{lineFeed}
 use Rattle.hexlines.specs.Lines.{isEmpty}
-use Rattle.layout.specs.Digits.{charactersOf}
+use Rattle.hex_digits.specs.Digits.{charactersOf}
 use Rattle.layout.specs.ListingLines.{refusedLine}
-use Rattle.messages.specs.Sentences.{orderSentence}
+use Rattle.order_messages.specs.OrderSentences.{orderSentence}
 use Rattle.order_texts.specs.declared.Refusal.{Refusal}
 use Rattle.order_texts.specs.Composed.{Composed}
 

@@ -353,7 +353,7 @@ pub fn put_stream(bytes: &[u8], out: &mut [u8]) -> usize
     let mut at: usize = 0;
     while at < bytes.len() {
         let end = line_end(bytes.len(), at);
-        place = layout::bytes_line(out, place, &bytes[at..end]);
+        place = byte_lines::bytes_line(out, place, &bytes[at..end]);
         at = end;
     }
     place
@@ -373,6 +373,6 @@ impl Refusal {
         requires { ⌜ length (now out) ≡ blockLength ⌝ }
         ensures { λ r. ⌜ block (now (out .exit)) r ≡ putAll (now (out .entry)) 0 (messageOf self) ⌝ }
     {
-        messages::put_order(out, 0, self.reason, self.line, self.asked, self.given)
+        order_messages::put_order(out, 0, self.reason, self.line, self.asked, self.given)
     }
 }
