@@ -13,8 +13,8 @@ use Rattle.decoder.specs.Sound.{soundOf}
 use Rattle.calls.specs.Turn.{turnOf}
 use Rattle.calls.specs.Take.{takenOf, takeOf}
 use Rattle.hexlines.specs.Line.{lineMeaning, readOf, readInto}
-use Rattle.layout.specs.Digits.{charactersOf}
-use Rattle.layout.specs.ListingLines.{numbersLine}
+use Rattle.hex_digits.specs.Digits.{charactersOf}
+use Rattle.number_lines.specs.NumberLines.{numbersLine}
 use Rattle.image_fields.specs.Image.{imageOf, stateOf, imageFits}
 use Rattle.kernelstill.specs.Open.{openResultOf}
 use Rattle.kernelstill.specs.Take.{takeResultOf}

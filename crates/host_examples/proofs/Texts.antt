@@ -2,8 +2,9 @@
 -- Assumes nothing.
 use mathlib.Core.Path.{refl}
 use Rattle.hexlines.specs.Line.{lineMeaning}
-use Rattle.layout.specs.Digits.{charactersOf}
-use Rattle.layout.specs.ListingLines.{numbersLine, byteDigits}
+use Rattle.hex_digits.specs.Digits.{charactersOf}
+use Rattle.byte_lines.specs.ByteLines.{byteDigits}
+use Rattle.number_lines.specs.NumberLines.{numbersLine}
 use Rattle.image_fields.specs.Image.{stateOf}
 use Rattle.listing.specs.Records.{recordText, recordsText}
 use Rattle.listing.specs.State.{textsFrom, stateText}

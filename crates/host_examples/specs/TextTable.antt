@@ -9,7 +9,7 @@ use lib.ListN.{take, replicate}
 use Rattle.output.specs.Ascii.{ascii}
 use Rattle.hexlines.specs.Line.{lineMeaning}
 use Rattle.layout.specs.ListingLines.{refusedLine}
-use Rattle.layout.specs.StateLines.{runmodeLine, wordLine}
+use Rattle.state_lines.specs.StateLines.{runmodeLine, wordLine}
 use Rattle.image_fields.specs.Image.{stateOf}
 use Rattle.listing.specs.Records.{recordsText}
 use Rattle.listing.specs.State.{stateText}

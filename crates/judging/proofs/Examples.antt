@@ -5,8 +5,8 @@ use Rattle.patterns.specs.Verdicts.{verdictFrom}
 use Rattle.hexlines.specs.Line.{lineMeaning}
 use Rattle.hexlines.specs.Lines.{linesFrom, linesRead}
 use Rattle.hexlines.specs.Notes.{withNote, withNotes}
-use Rattle.layout.specs.Digits.{charactersOf}
-use Rattle.layout.specs.ListingLines.{numbersLine}
+use Rattle.hex_digits.specs.Digits.{charactersOf}
+use Rattle.number_lines.specs.NumberLines.{numbersLine}
 use Rattle.judging.specs.Judgement.{judgedLines, judgedOf, textOf}
 use Rattle.judging.specs.Examples.{JudgementExamples}
 

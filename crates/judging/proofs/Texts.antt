@@ -12,9 +12,11 @@ use Rattle.output.specs.Ascii.{ascii}
 use Rattle.output.specs.Block.{blockLength, Block, putAll, putIfFits}
 use Rattle.output.proofs.Pieces.{put-when-fits}
 use Rattle.layout.specs.ListingLines.{refusedLine, faultLine}
-use Rattle.layout.proofs.LineLengths.{line-length}
-use Rattle.messages.specs.Sentences.{sentenceOf, faultSentence}
-use Rattle.messages.proofs.Lengths.{sentence-short, fault-short}
+use Rattle.number_lines.proofs.LineLengths.{line-length}
+use Rattle.fault_messages.specs.FaultSentences.{faultSentence}
+use Rattle.messages.specs.Sentences.{sentenceOf}
+use Rattle.messages.proofs.Lengths.{sentence-short}
+use Rattle.fault_messages.proofs.Lengths.{fault-short}
 use Rattle.judging.specs.declared.Judgement.{Judgement}
 use Rattle.judging.specs.Judgement.{textOf, messageOf}
 

@@ -14,7 +14,8 @@ use Rattle.hexlines.specs.declared.LineNotes.{LineNotes}
 use Rattle.hexlines.specs.Notes.{noNotes}
 use Rattle.hexlines.specs.Lines.{LineRead, linesOf, linesRead}
 use Rattle.layout.specs.ListingLines.{refusedLine, faultLine}
-use Rattle.messages.specs.Sentences.{sentenceOf, faultSentence}
+use Rattle.fault_messages.specs.FaultSentences.{faultSentence}
+use Rattle.messages.specs.Sentences.{sentenceOf}
 use Rattle.judging.specs.declared.Judgement.{Judgement}
 
 -- By what is said of the bits, and by a line that was refused.

@@ -186,7 +186,7 @@ impl Judgement {
         ensures { λ r. ⌜ block (now (out .exit)) r ≡ putAll (now (out .entry)) 0 (messageOf self) ⌝ }
     {
         if 13 <= self.number {
-            return messages::put_fault(out, 0, self.number, self.place);
+            return fault_messages::put_fault(out, 0, self.number, self.place);
         }
         let notes = self.notes;
         messages::put_sentence(out, 0, self.number, self.line, notes)

@@ -51,14 +51,14 @@ pub extern "C" fn kernelstill_open(
     let opened = Decoder::start(plan, cycle);
     let opening = opened.opening;
     let number = opening.number();
-    if image.len() != image::WORDS {
+    if image.len() != image_words::WORDS {
         if number == 0 {
             return UNSOUND;
         }
         return number;
     }
     let decoder = opened.decoder;
-    image::write(decoder, image);
+    image_writer::write(decoder, image);
     number
 }
 
@@ -69,7 +69,7 @@ fn sound_image(image: &[u64]) -> bool
     if !image::fits(image) {
         return false;
     }
-    let decoder = image::read(image);
+    let decoder = image_reader::read(image);
     decoder.sound()
 }
 
@@ -110,7 +110,7 @@ pub extern "C" fn kernelstill_take(
     if result.len() != RESULT_WORDS {
         return WRONG_BUFFERS;
     }
-    let decoder = image::read(image);
+    let decoder = image_reader::read(image);
     let taken = taking::take(decoder, input, first, count, store, tray, list, free);
     let answer = taken.report;
     let ending = answer.ending;
@@ -120,6 +120,6 @@ pub extern "C" fn kernelstill_take(
     }
     write_result(result, answer);
     let next = taken.decoder;
-    image::write(next, image);
+    image_writer::write(next, image);
     0
 }

@@ -1,4 +1,2 @@
-pub mod Digits
-pub mod LinePieces
 pub mod LineLengths
 pub mod Example

@@ -15,7 +15,7 @@ use Rattle.decoder.specs.declared.Decoder.{Decoder}
 use Rattle.output.specs.Ascii.{ascii}
 use Rattle.output.specs.Block.{blockLength, block, putIfFits}
 use Rattle.output.proofs.Pieces.{PartlyPut, none-put, next-put-if-fits}
-use Rattle.layout.proofs.LineLengths.{line-length}
+use Rattle.number_lines.proofs.LineLengths.{line-length}
 use Rattle.listing.specs.State.{addressCount, fifoCount, fifoLength, textsFrom, registerText, pointersText, fifoWordText, stateText}
 
 pub texts-none-put : (text : ℕ → List ℕ) (n : ℕ) (out : List ℕ) (at : ℕ) → at + length (textsFrom n 0 text) ≤ length out

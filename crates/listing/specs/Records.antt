@@ -6,7 +6,8 @@ use Prim.Native.Nat.{ℕ}
 use lib.Dec.{eqb}
 use Rattle.frames.specs.Tray.{partOf}
 use Rattle.records.specs.Records.{kindOf, isFrameHead, frameBitsOf}
-use Rattle.layout.specs.ListingLines.{recordLine, frameLine}
+use Rattle.byte_lines.specs.ByteLines.{frameLine}
+use Rattle.layout.specs.ListingLines.{recordLine}
 
 -- "after a frame of at least one bit, ">" and its bytes"; a program may leave the frames out.
 abbrev pub frameText : Bool → List ℕ → ℕ → ℕ → List ℕ

@@ -11,7 +11,7 @@ use Rattle.registers.specs.declared.Pointers.{Pointers}
 use Rattle.registers.specs.Plan.{existsAt}
 use Rattle.registers.specs.Registers.{readOf}
 use Rattle.decoder.specs.declared.Decoder.{Decoder}
-use Rattle.layout.specs.StateLines.{registerLine, l1idLine, baseLine, runmodeLine, pointersLine, wordLine}
+use Rattle.state_lines.specs.StateLines.{registerLine, l1idLine, baseLine, runmodeLine, pointersLine, wordLine}
 
 -- The registers' addresses, the FIFOs, and the words of each FIFO.
 abbrev pub addressCount : ℕ

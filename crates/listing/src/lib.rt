@@ -24,7 +24,7 @@ fn put_record(out: &mut [u8], at: usize, head: u64, value: u64, tray: &[u8], fra
     if bits == 0 {
         return place;
     }
-    layout::frame_line(out, place, frames::frame_part(tray, bits))
+    byte_lines::frame_line(out, place, frames::frame_part(tray, bits))
 }
 
 // The lines of the records of a taking call.
@@ -51,7 +51,7 @@ fn put_registers(out: &mut [u8], at: usize, plan: Plan, model: Model) -> usize
         if !plan.exists_at(i) {
             continue;
         }
-        place = layout::register_line(out, place, i as usize, model.read(plan, i));
+        place = state_lines::register_line(out, place, i as usize, model.read(plan, i));
     }
     place
 }
@@ -65,7 +65,7 @@ fn put_pointers(out: &mut [u8], at: usize, pointers: Pointers) -> usize
     let reads = pointers.reads;
     let mut place = at;
     for i in 0..16 {
-        place = layout::pointers_line(out, place, i, writes[i], reads[i]);
+        place = state_lines::pointers_line(out, place, i, writes[i], reads[i]);
     }
     place
 }
@@ -81,7 +81,7 @@ fn put_fifo_words(out: &mut [u8], at: usize, store: &[u32]) -> usize
         if word == 0 {
             continue;
         }
-        place = layout::word_line(out, place, i / 128, i % 128, word);
+        place = state_lines::word_line(out, place, i / 128, i % 128, word);
     }
     place
 }
@@ -96,9 +96,9 @@ pub fn put_state(out: &mut [u8], decoder: Decoder, store: &[u32]) -> usize
     let counters = model.counters;
     let fifos = model.pointers;
     let registers = put_registers(out, 0, plan, model);
-    let l1id = layout::l1id_line(out, registers, counters.l1id);
-    let base = layout::base_line(out, l1id, counters.base);
-    let runmode = layout::runmode_line(out, base, model.running);
+    let l1id = state_lines::l1id_line(out, registers, counters.l1id);
+    let base = state_lines::base_line(out, l1id, counters.base);
+    let runmode = state_lines::runmode_line(out, base, model.running);
     let pointers = put_pointers(out, runmode, fifos);
     put_fifo_words(out, pointers, store)
 }

@@ -1,35 +1,19 @@
--- Sentences and numbers, computed.
+-- Sentences, computed.
 -- Assumes nothing.
 use mathlib.Core.Path.{_≡_, refl}
 use Prim.Native.Char.{code}
 use Prim.Native.Nat.{ℕ}
 use Rattle.output.specs.Ascii.{ascii}
 use Rattle.hexlines.specs.declared.LineNotes.{LineNotes}
-use Rattle.messages.specs.Decimal.{decimalWithin, decimalOf}
-use Rattle.messages.specs.Sentences.{labelled, characterText, wrongLength, reasonOf, sentenceOf}
+use Rattle.decimal_digits.specs.Decimal.{decimalWithin, labelled}
+use Rattle.wrong_characters.specs.WrongCharacters.{characterText}
+use Rattle.messages.specs.Sentences.{wrongLength, reasonOf, sentenceOf}
 
 abbrev wrongAt : ℕ → ℕ → LineNotes
 wrongAt place character = record { length = 64; place = place; character = character }
 
 abbrev digitsOnly : ℕ → LineNotes
 digitsOnly length = record { length = length; place = 0; character = 0 }
-
--- the fewest digits
-pub zero-digits : decimalOf 0 ≡ ascii "0"
-unfolding decimalWithin
-zero-digits = refl
-
-pub nine-digits : decimalOf 9 ≡ ascii "9"
-unfolding decimalWithin
-nine-digits = refl
-
-pub ten-digits : decimalOf 10 ≡ ascii "10"
-unfolding decimalWithin
-ten-digits = refl
-
-pub largest-digits : decimalOf 18446744073709551615 ≡ ascii "18446744073709551615"
-unfolding decimalWithin
-largest-digits = refl
 
 -- number 7
 pub carriage-return : sentenceOf 7 2 (wrongAt 5 (code "\r")) ≡ ascii "line 2: character 5 is a carriage return\n"

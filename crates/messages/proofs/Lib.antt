@@ -1,4 +1,2 @@
-pub mod Decimal
 pub mod Lengths
-pub mod Example
-pub mod OrderReasons
+mod Example

@@ -13,7 +13,7 @@ use Rattle.orders.specs.Fields.{Ordered, frameCount}
 use Rattle.orders.specs.Composing.{contextAfter, orderNumber}
 use Rattle.order_lines.specs.Lines.{LineMeaning, lineMeaning}
 use Rattle.gathered_lines.specs.Gathering.{LineText}
-use Rattle.messages.specs.Sentences.{orderSentence}
+use Rattle.order_messages.specs.OrderSentences.{orderSentence}
 use Rattle.order_refusals.specs.declared.Refusal.{Refusal}
 
 -- A refusal: its number, 0 for none; the line's number from 1, 0 for the whole stream; the reason for the message, and the two numbers that some reasons

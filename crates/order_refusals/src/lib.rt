@@ -96,6 +96,6 @@ impl Refusal {
         requires { ⌜ length (now out) ≡ blockLength ⌝ }
         ensures { λ r. ⌜ block (now (out .exit)) r ≡ putAll (now (out .entry)) 0 (messageOf self) ⌝ }
     {
-        messages::put_order(out, 0, self.reason, self.line, self.asked, self.given)
+        order_messages::put_order(out, 0, self.reason, self.line, self.asked, self.given)
     }
 }

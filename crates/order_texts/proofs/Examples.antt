@@ -10,8 +10,8 @@ use Rattle.text_frames.specs.Frames.{bitsSaid, frameOf}
 use Rattle.command_names.specs.Names.{kindAmong}
 use Rattle.order_lines.specs.Lines.{fieldsMeaning, wordsMeaning}
 use Rattle.gathered_lines.specs.Gathering.{lineTexts}
-use Rattle.layout.specs.Digits.{charactersOf}
-use Rattle.layout.specs.ListingLines.{numbersLine}
+use Rattle.hex_digits.specs.Digits.{charactersOf}
+use Rattle.number_lines.specs.NumberLines.{numbersLine}
 use Rattle.stream_lines.specs.StreamLines as stream-lines
 use Rattle.order_refusals.specs.Refusals.{orderRefusal, meaningRefusal, lineRefusal, refusalIn, ordersIn}
 use Rattle.order_texts.specs.Composed.{writtenOf, composedOf}

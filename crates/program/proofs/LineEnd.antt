@@ -15,7 +15,7 @@ use Rattle.hexlines.specs.Line.{lineBytes, hexNumber}
 use Rattle.hexlines.specs.Lines.{emptyLine, answerOf, meaningSoFar, readSoFar, readFrom}
 use Rattle.hexlines.proofs.FitLines.{LineFits, line-fits, fitting-bits}
 use Rattle.layout.specs.ListingLines.{refusedLine}
-use Rattle.layout.proofs.LineLengths.{line-length}
+use Rattle.number_lines.proofs.LineLengths.{line-length}
 use Rattle.program.specs.Listing.{outcome, nextLineNumber, listingOf}
 use Rattle.program.specs.RunState.{Snapshot, snapshot, systemAt, endOf, stillToPrint, allPrinted, linesPrinted, StepReady, AfterLineEnd}
 use Rattle.program.proofs.OutputBlock.{put-then}

@@ -19,7 +19,8 @@ use Rattle.calls.specs.declared.Ending.the-variants.{Frame, ListFull, Done}
 use Rattle.calls.specs.Run.{Run, ended, oneBit, oneRecord, afterCycle, runOf, stateAfter}
 use Rattle.calls.specs.Turn.{System, turnOf}
 use Rattle.layout.specs.ListingLines.{recordLine}
-use Rattle.layout.proofs.LineLengths.{frame-length, record-line-length}
+use Rattle.byte_lines.proofs.LineLengths.{frame-length}
+use Rattle.layout.proofs.LineLengths.{record-line-length}
 use Rattle.listing.specs.Records.{frameText, recordText, recordsText}
 use Rattle.program.specs.Listing.{bitsText}
 

@@ -9,8 +9,8 @@ use Rattle.decoder.specs.Opening.{openOf}
 use Rattle.calls.specs.Turn.{turnOf}
 use Rattle.hexlines.specs.Line.{lineMeaning}
 use Rattle.hexlines.specs.Lines.{linesFrom, linesRead}
-use Rattle.layout.specs.Digits.{charactersOf}
-use Rattle.layout.specs.ListingLines.{numbersLine}
+use Rattle.hex_digits.specs.Digits.{charactersOf}
+use Rattle.number_lines.specs.NumberLines.{numbersLine}
 use Rattle.listing.specs.Records.{recordText}
 use Rattle.program.specs.Listing.{bitsText, listingOf, stateLines}
 use Rattle.program.specs.Program.{programOf}

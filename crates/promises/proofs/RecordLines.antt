@@ -9,9 +9,9 @@ use native.Mathlib.Omega.{arith}
 use lib.Dec.{ltb}
 use lib.ListN.{getD, drop}
 use borrow.Author.Tests.{ltb-true, ltb-false}
-use Rattle.layout.specs.Digits.{characterOf, charactersOf}
-use Rattle.layout.specs.ListingLines.{numbersLine}
-use Rattle.layout.proofs.Digits.{digits-length, lowest-digit}
+use Rattle.hex_digits.specs.Digits.{characterOf, charactersOf}
+use Rattle.number_lines.specs.NumberLines.{numbersLine}
+use Rattle.hex_digits.proofs.Digits.{digits-length, lowest-digit}
 use Rattle.promises.specs.Records.{LinesTell}
 use Rattle.promises.proofs.ListParts.{same-parts}
 

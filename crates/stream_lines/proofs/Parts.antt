@@ -13,9 +13,9 @@ use borrow.Author.Tests.{eq-eqb, ne-eqb, eqb-true, leb-true, leb-false}
 use Rattle.bits.proofs.Truth.{or-right}
 use Rattle.output.specs.Ascii.{lineFeed}
 use Rattle.hexlines.specs.Lines.{isEmpty}
-use Rattle.layout.specs.Digits.{charactersOf}
-use Rattle.layout.specs.ListingLines.{byteDigits, bytesLine}
-use Rattle.layout.proofs.Digits.{digits-length}
+use Rattle.hex_digits.specs.Digits.{charactersOf}
+use Rattle.byte_lines.specs.ByteLines.{byteDigits, bytesLine}
+use Rattle.hex_digits.proofs.Digits.{digits-length}
 use Rattle.stream_lines.specs.StreamLines.{linesFrom, streamText, partLimit}
 
 -- A line of bytes, behind n others: as many as make 32, or all that are left.

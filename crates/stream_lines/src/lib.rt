@@ -30,7 +30,7 @@ pub fn put_stream(bytes: &[u8], out: &mut [u8]) -> usize
     let mut at: usize = 0;
     while at < bytes.len() {
         let end = line_end(bytes.len(), at);
-        place = layout::bytes_line(out, place, &bytes[at..end]);
+        place = byte_lines::bytes_line(out, place, &bytes[at..end]);
         at = end;
     }
     place

@@ -5,7 +5,7 @@ use mathlib.Core.Path.{refl, sym}
 use native.Mathlib.Omega.{arith}
 use lib.Seq.{length-take-le}
 use Rattle.output.proofs.Pieces.{put-end-within}
-use Rattle.messages.proofs.Lengths.{order-short}
+use Rattle.order_messages.proofs.Lengths.{order-short}
 use Rattle.order_refusals.specs.Refusals.{messageOf}
 use Rattle.compose_runs.proofs.Statuses.{whole-status, refused-status}
 use borrow.Author.Needs.{needs}

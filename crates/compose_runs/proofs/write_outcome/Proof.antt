@@ -7,7 +7,7 @@ use lib.Seq.{length-take-le}
 use Rattle.output.specs.Ascii.{ascii}
 use Rattle.output.proofs.Pieces.{put-end-within}
 use Rattle.layout.specs.ListingLines.{refusedLine}
-use Rattle.layout.proofs.LineLengths.{line-length}
+use Rattle.number_lines.proofs.LineLengths.{line-length}
 use borrow.Author.Needs.{needs}
 use Rattle.compose_runs.proofs.write_outcome.Statement.{statement}
 use Rattle.compose_runs.proofs.write_outcome.Tie as tie

@@ -1,6 +1,6 @@
 -- `write_result` writes three words over three.
 -- Assumes nothing.
-use Rattle.image.proofs.WriteLoop.{covered}
+use Rattle.image_words.proofs.WriteLoop.{covered}
 use Rattle.kernelstill.specs.Take.{resultWords}
 use borrow.Author.Needs.{needs}
 use Rattle.kernelstill.proofs.write_result.Statement.{statement}

@@ -7,7 +7,8 @@ use lib.ListN.{length}
 use borrow.Author.Needs.{needs}
 use borrow.Author.Tests.{eq-eqb, ne-eqb}
 use Rattle.output.specs.Ascii.{ascii}
-use Rattle.messages.specs.Sentences.{wrongCharacter, wrongLength, reasonOf}
+use Rattle.wrong_characters.specs.WrongCharacters.{wrongCharacter}
+use Rattle.messages.specs.Sentences.{wrongLength, reasonOf}
 use Rattle.messages.proofs.put_reason.Statement.{statement}
 use Rattle.messages.proofs.put_reason.Tie as tie
 

@@ -8,7 +8,8 @@ use lib.ListN.{length-append}
 use borrow.Author.Needs.{needs}
 use Rattle.output.specs.Ascii.{ascii}
 use Rattle.output.proofs.Pieces.{put-append, put-room}
-use Rattle.messages.specs.Sentences.{labelled, reasonOf}
+use Rattle.decimal_digits.specs.Decimal.{labelled}
+use Rattle.messages.specs.Sentences.{reasonOf}
 use Rattle.messages.proofs.put_sentence.Statement.{statement}
 use Rattle.messages.proofs.put_sentence.Tie as tie
 

@@ -9,7 +9,8 @@ use borrow.Author.Needs.{needs}
 use borrow.Author.Tests.{lt-ltb, le-ltb}
 use Rattle.hexlines.specs.declared.LineNotes.{LineNotes}
 use Rattle.output.specs.Ascii.{ascii}
-use Rattle.messages.specs.Sentences.{labelled, wrongLength}
+use Rattle.decimal_digits.specs.Decimal.{labelled}
+use Rattle.messages.specs.Sentences.{wrongLength}
 use Rattle.messages.proofs.put_wrong_length.Statement.{statement}
 use Rattle.messages.proofs.put_wrong_length.Tie as tie
 

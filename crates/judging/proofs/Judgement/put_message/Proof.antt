@@ -4,7 +4,8 @@ use mathlib.Core.Path.{_∙_, sym, ap}
 use native.Mathlib.Omega.{arith}
 use borrow.Author.Needs.{needs}
 use Rattle.output.specs.Block.{putAll}
-use Rattle.messages.proofs.Lengths.{sentence-short, fault-short}
+use Rattle.messages.proofs.Lengths.{sentence-short}
+use Rattle.fault_messages.proofs.Lengths.{fault-short}
 use Rattle.judging.proofs.Texts.{fault-message, line-message}
 use Rattle.judging.proofs.Judgement.put_message.Statement.{statement}
 use Rattle.judging.proofs.Judgement.put_message.Tie as tie

@@ -6,7 +6,7 @@ use native.Mathlib.Omega.{arith}
 use Rattle.output.specs.Ascii.{ascii}
 use Rattle.output.proofs.Pieces.{put-when-fits}
 use Rattle.layout.specs.ListingLines.{refusedLine}
-use Rattle.layout.proofs.LineLengths.{line-length}
+use Rattle.number_lines.proofs.LineLengths.{line-length}
 use borrow.Author.Needs.{needs}
 use Rattle.order_refusals.proofs.Refusal.put_line.Statement.{statement}
 use Rattle.order_refusals.proofs.Refusal.put_line.Tie as tie

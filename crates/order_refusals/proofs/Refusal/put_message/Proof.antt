@@ -1,7 +1,7 @@
 -- `Refusal::put_message` puts the sentence of a refusal.
 -- Assumes nothing.
 use native.Mathlib.Omega.{arith}
-use Rattle.messages.proofs.Lengths.{order-short}
+use Rattle.order_messages.proofs.Lengths.{order-short}
 use borrow.Author.Needs.{needs}
 use Rattle.order_refusals.proofs.Refusal.put_message.Statement.{statement}
 use Rattle.order_refusals.proofs.Refusal.put_message.Tie as tie

@@ -1,0 +1,3 @@
+mod BytePieces
+pub mod LineLengths
+mod Example

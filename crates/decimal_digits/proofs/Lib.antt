@@ -1,0 +1,3 @@
+mod Decimal
+pub mod Lengths
+mod Example

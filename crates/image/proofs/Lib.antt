@@ -1,4 +1,0 @@
-mod CompareLoop
-mod ReadLoop
-mod Stored
-pub mod WriteLoop

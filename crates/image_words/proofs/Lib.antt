@@ -1,0 +1,3 @@
+pub mod WriteLoop
+mod ReadLoop
+mod CompareLoop

@@ -1,0 +1,2 @@
+mod NumberPieces
+pub mod LineLengths
