@@ -6,25 +6,17 @@ use mathlib.Core.List.{List, [], _∷_, _++_}
 use mathlib.Core.Logic.{⊎-elim}
 use Prim.Native.Nat.{ℕ, _+_, _*_, _-_, _≤_, _<_}
 use native.Mathlib.Omega.{arith}
-use lib.Dec.{ltb, leb, eqb}
-use borrow.Author.Tests.{eq-eqb, eqb-true, ltb-true, ltb-false, leb-true}
-use Rattle.limits.specs.Limits.{inputLimit}
+use lib.Dec.{ltb, eqb}
+use borrow.Author.Tests.{eq-eqb, eqb-true, ltb-true, ltb-false}
 use Rattle.bits.specs.Bits.{bitOf, bitsOf}
 use Rattle.bits.specs.declared.Cursor.{Cursor}
 use Rattle.bits.specs.Place.{cursorAt, placeUnder}
-use Rattle.bits.specs.Range.{rangeFits}
 use Rattle.bits.proofs.Truth.{clash, cases, both, true-holds, not-other}
 use Rattle.bits.proofs.BitRanges.{length-bits, bits-over}
 use Rattle.bits.proofs.Places.{Stands, stands, bits-left}
 use Rattle.acceptance.specs.declared.Progress.{Progress}
 use Rattle.acceptance.specs.Progress.{verdictOn, reached, Fits, After}
 use Rattle.acceptance.proofs.Steps.{at-fault}
-
--- A range that fits, in numbers.
-pub range-within : (bytes first count : ℕ) → rangeFits bytes first count ≡ true → (bytes ≤ inputLimit) × (first + count ≤ 8 * bytes)
-range-within bytes first count e =
-    let s = both (leb bytes inputLimit) (leb (first + count) (8 * bytes)) e in
-    (leb-true bytes inputLimit (s .0), leb-true (first + count) (8 * bytes) (s .1))
 
 -- The loop's test.
 pub goes-on : (left fault : ℕ) → (ltb 0 left && eqb fault 0) ≡ true → (0 < left) × (fault ≡ 0)

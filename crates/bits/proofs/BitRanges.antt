@@ -1,12 +1,13 @@
 -- A range of the input as a list of bits: its length, its first bit, what is left after some of them, and that each is 0 or 1.
 -- Assumes nothing.
-use mathlib.Core.Path.{_≡_, _∙_, refl, ap}
+use mathlib.Core.Path.{_≡_, _∙_, refl, ap, subst}
 use mathlib.Core.Bool.{Bool, true, _&&_}
 use mathlib.Core.List.{List, [], _∷_, _++_}
 use Prim.Native.Nat.{ℕ, zero, suc, _+_, _-_, _<_, _≤_}
 use native.Mathlib.Omega.{arith}
 use lib.Dec.{T, ltb, lt→ltb}
 use lib.ListN.{length, take, drop}
+use lib.Seq.{take-all}
 use Rattle.bits.specs.Bits.{bitOf, bitsOf}
 use Rattle.bits.proofs.Truth.{and-both, and-left, and-right}
 
@@ -55,3 +56,8 @@ bits-binary input zero count first = tt
 bits-binary input (suc n) zero first = tt
 bits-binary input (suc n) (suc count) first =
     and-both (ltb (bitOf input first) 2) _ (lt→ltb (bitOf input first) 2 (omega arith)) (bits-binary input n count (first + 1))
+
+pub bits-all : (input : List ℕ) (first count : ℕ) → T (binary (bitsOf input first count))
+bits-all input first count =
+    let long = length-bits input first count in
+    subst (λ (l : List ℕ). T (binary l)) (take-all count (bitsOf input first count) (omega arith)) (bits-binary input count count first)

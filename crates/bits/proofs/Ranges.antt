@@ -8,6 +8,7 @@ use lib.Dec.{leb}
 use borrow.Author.Tests.{le-leb, lt-leb, leb-true, leb-false}
 use Rattle.limits.specs.Limits.{inputLimit}
 use Rattle.bits.specs.Range.{rangeFits}
+use Rattle.bits.proofs.Truth.{both}
 
 module _ (input first count : ℕ) where
   pub too-long : inputLimit < input → false ≡ rangeFits input first count
@@ -26,3 +27,9 @@ module _ (input first count : ℕ) where
 
   pub within : input ≤ inputLimit → first ≤ 8 * input → leb count (8 * input - first) ≡ rangeFits input first count
   within h g = sym (same-test (leb count (8 * input - first)) refl g) ∙ by-sum h
+
+-- A range that fits, in numbers.
+pub range-within : (bytes first count : ℕ) → rangeFits bytes first count ≡ true → (bytes ≤ inputLimit) × (first + count ≤ 8 * bytes)
+range-within bytes first count e =
+    let s = both (leb bytes inputLimit) (leb (first + count) (8 * bytes)) e in
+    (leb-true bytes inputLimit (s .0), leb-true (first + count) (8 * bytes) (s .1))

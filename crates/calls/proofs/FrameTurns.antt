@@ -16,8 +16,7 @@ use Rattle.slow_fields.specs.Slow.{isFrame, lengthOf}
 use Rattle.recogniser.specs.Fields.{endsOf}
 use Rattle.recogniser.specs.Groups.{groupOf, unsteadyOf, frameBitOf}
 use Rattle.recogniser.specs.Step.{stepOf}
-use Rattle.frames.specs.Tray.{trayOf}
-use Rattle.frames.proofs.FrameFill.{filledOf}
+use Rattle.frames.specs.Tray.{trayOf, filledOf}
 use Rattle.records.specs.declared.Record.{Record}
 use Rattle.records.specs.declared.Cycle.{Cycle}
 use Rattle.records.specs.declared.Cycle.the-variants.{Silent, Recorded}

@@ -20,8 +20,7 @@ use Rattle.recogniser.specs.declared.Recogniser.{Recogniser}
 use Rattle.slow_fields.specs.Slow.{isFrame, lengthOf}
 use Rattle.recogniser.specs.Groups.{isEighth, groupOf, unsteadyOf, frameBitOf}
 use Rattle.recogniser.proofs.GroupCycles.{no-bit, gathered, as-before, voted, finished, joined}
-use Rattle.frames.specs.Tray.{trayOf}
-use Rattle.frames.proofs.FrameFill.{filledOf}
+use Rattle.frames.specs.Tray.{trayOf, filledOf}
 use Rattle.calls.specs.Turn.{System, Machine, cntAt}
 use Rattle.calls.proofs.FrameTurns.{FrameTaken, system, at, moved, last-taken, cycle-taken}
 

@@ -13,7 +13,7 @@ use borrow.Author.Tests.{le-leb, ltb-true, ltb-false, eqb-true, eqb-false}
 use Rattle.bits.specs.Bits.{bitOf}
 use Rattle.bits.proofs.Truth.{cases, and-left, and-right}
 use Rattle.bits.proofs.BitRanges.{binary}
-use Rattle.frames.specs.Tray.{storedOf, partOf, PartHolds}
+use Rattle.frames.specs.Tray.{storedOf, filledOf, partOf, PartHolds}
 use Rattle.frames.proofs.TrayLaws.{stored-length, stored-bit, stored-before, stored-first, stored-later}
 
 -- A tray that holds a frame's bits so far, and 0 in the rest of the last byte.
@@ -55,11 +55,6 @@ module _ (xs : List ℕ) (bit k : ℕ) where
 
   more-beyond : length xs < k → getD (xs ++ (bit ∷ [])) k 0 ≡ 0
   more-beyond h = List·getD-eq-default (xs ++ (bit ∷ [])) 0 (rw length-append (omega arith))
-
--- The tray with a frame's bits stored one after another, from a place on.
-abbrev pub filledOf : ℕ → List ℕ → List ℕ → List ℕ
-filledOf place tray [] = tray
-filledOf place tray (bit ∷ bits) = filledOf (place + 1) (storedOf tray place bit) bits
 
 -- A tray that holds all of a frame's bits so far.
 abbrev Held : List ℕ → List ℕ → Type 0

@@ -2,7 +2,7 @@
 -- Assumes nothing.
 use mathlib.Core.Path.{_≡_}
 use mathlib.Core.Bool.{cond}
-use mathlib.Core.List.{List, []}
+use mathlib.Core.List.{List, [], _∷_}
 use Prim.Native.Nat.{ℕ, _+_, _*_, _-_, _/_, _%_, _^_, _<_}
 use lib.Dec.{leb, eqb}
 use lib.ListN.{length, getD, set, take}
@@ -22,6 +22,11 @@ abbrev pub storedOf : List ℕ → ℕ → ℕ → List ℕ
 storedOf tray place bit =
     let byte = cond (eqb (place % 8) 0) 0 (getD tray (place / 8) 0) in
     set tray (place / 8) (withBit byte (place % 8) bit)
+
+-- The tray with a frame's bits stored one after another, from a place on.
+abbrev pub filledOf : ℕ → List ℕ → List ℕ → List ℕ
+filledOf place tray [] = tray
+filledOf place tray (bit ∷ bits) = filledOf (place + 1) (storedOf tray place bit) bits
 
 -- What a cycle's frame bit does to the tray.
 unfoldable pub trayOf : List ℕ → FrameBit → List ℕ

@@ -34,10 +34,10 @@ module _ (n : ℕ) (bits : List ℕ) (b : T (binary bits)) where
   both-parts : T (binary (take n bits ++ drop n bits))
   both-parts = rw (take-append-drop n bits) b
 
-  binary-take : T (binary (take n bits))
+  pub binary-take : T (binary (take n bits))
   binary-take = binary-ahead (take n bits) (drop n bits) both-parts
 
-  binary-drop : T (binary (drop n bits))
+  pub binary-drop : T (binary (drop n bits))
   binary-drop = binary-behind (take n bits) (drop n bits) both-parts
 
 first-low : (group : List ℕ) → T (binary group) → getD group 0 0 < 2

@@ -9,7 +9,7 @@ use native.Mathlib.Omega.{arith}
 use lib.Dec.{ltb}
 use lib.ListN.{length, drop, drop-of-length-le}
 use borrow.Author.Tests.{eq-eqb, ltb-true, ltb-false, not-true, not-false}
-use Rattle.bits.proofs.Truth.{clash, cases, both, not-other, true-holds}
+use Rattle.bits.proofs.Truth.{cases, both, neither, not-other, true-holds}
 use Rattle.acceptance.specs.Progress.{verdictOn}
 use Rattle.hexlines.specs.declared.LineSoFar.{LineSoFar}
 use Rattle.hexlines.specs.declared.Scanned.{Scanned}
@@ -113,10 +113,6 @@ none-begun {s} w goes none = rw (eq-eqb (s .number) 0 (w .numbered goes)) (sym (
 ended-fresh : {s r : Judging} → EndsLine s r → (b : Bool) → r .over ≡ b → judgementOf r ≡ stillJudged r []
 ended-fresh {r = r} l true e = sym (over-judged r [] e)
 ended-fresh {r = r} l false e = none-begun (l .well-formed) e (ap noCharacters (l .fresh e))
-
-neither : (a b : Bool) → (a || b) ≡ false → (a ≡ false) × (b ≡ false)
-neither true b e = clash refl e
-neither false b e = (refl, e)
 
 -- The input's end: the run is over, or no line has begun; or one has, and ends.
 module _ {s : Judging} (w : WellFormed s) where

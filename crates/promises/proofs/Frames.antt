@@ -19,8 +19,8 @@ use Rattle.recogniser.specs.declared.Phase.the-variants.{Field5}
 use Rattle.recogniser.specs.declared.Recogniser.{Recogniser}
 use Rattle.recogniser.specs.Parts.{startOf}
 use Rattle.slow_fields.specs.Slow.{isFrame, lengthOf, dataBits, controlBits}
-use Rattle.frames.specs.Tray.{partOf, PartHolds}
-use Rattle.frames.proofs.FrameFill.{filledOf, part-holds}
+use Rattle.frames.specs.Tray.{partOf, PartHolds, filledOf}
+use Rattle.frames.proofs.FrameFill.{part-holds}
 use Rattle.decoder.specs.Sound.{soundOf}
 use Rattle.records.specs.Records.{headOf, kindOf, kindSlow, flagUnsteady, frameBitsOf}
 use Rattle.controller.specs.Commands.{frameValueOf}

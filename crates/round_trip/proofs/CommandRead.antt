@@ -7,8 +7,7 @@ use Prim.Native.Nat.{ℕ, _+_, _/_, _%_, _<_}
 use lib.ListN.{length}
 use Rattle.recogniser.specs.declared.Request.{Request}
 use Rattle.recogniser.specs.Parts.{idle}
-use Rattle.frames.specs.Tray.{trayOf}
-use Rattle.frames.proofs.FrameFill.{filledOf}
+use Rattle.frames.specs.Tray.{trayOf, filledOf}
 use Rattle.records.specs.declared.Cycle.{Cycle}
 use Rattle.records.specs.declared.Cycle.the-variants.{Recorded}
 use Rattle.records.specs.declared.Record.{Record}

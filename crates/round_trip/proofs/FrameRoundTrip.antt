@@ -11,8 +11,8 @@ use borrow.Author.Tests.{eqb-true, leb-true}
 use Rattle.limits.specs.Limits.{trayLength}
 use Rattle.bits.proofs.Truth.{both, choice}
 use Rattle.recogniser.specs.Parts.{idle}
-use Rattle.frames.specs.Tray.{partOf, PartHolds}
-use Rattle.frames.proofs.FrameFill.{filledOf, part-holds}
+use Rattle.frames.specs.Tray.{partOf, PartHolds, filledOf}
+use Rattle.frames.proofs.FrameFill.{part-holds}
 use Rattle.records.specs.declared.Record.{Record}
 use Rattle.records.specs.Records.{headOf, kindOf, kindSlow, isFrameHead}
 use Rattle.registers.specs.declared.Plan.{Plan}

@@ -17,7 +17,7 @@ use Rattle.recogniser.specs.declared.Phase.the-variants.{Field5}
 use Rattle.recogniser.specs.declared.Request.the-variants.{Slow}
 use Rattle.recogniser.specs.declared.SlowRequest.the-variants.{Frame}
 use Rattle.recogniser.specs.Parts.{startOf, idle}
-use Rattle.frames.proofs.FrameFill.{filledOf}
+use Rattle.frames.specs.Tray.{filledOf}
 use Rattle.records.specs.Records.{frameBitsOf}
 use Rattle.registers.specs.Parts.{withRunning}
 use Rattle.registers.specs.Registers.{cntOf}

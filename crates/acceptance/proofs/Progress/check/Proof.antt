@@ -6,7 +6,8 @@ use native.Mathlib.Omega.{arith}
 use lib.ListN.{length}
 use borrow.Author.Needs.{needs}
 use Rattle.limits.specs.Limits.{inputLimit}
-use Rattle.acceptance.proofs.CheckLoop.{range-within, goes-on, Invariant, initially, again, stops}
+use Rattle.bits.proofs.Ranges.{range-within}
+use Rattle.acceptance.proofs.CheckLoop.{goes-on, Invariant, initially, again, stops}
 use Rattle.acceptance.proofs.Progress.check.Statement.{statement}
 use Rattle.acceptance.proofs.Progress.check.Tie as tie
 

@@ -1,0 +1,5 @@
+mod Kept
+mod Groups
+mod Headers
+mod ReceiveLoop
+mod CallCases
