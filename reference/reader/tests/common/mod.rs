@@ -3,6 +3,7 @@
 
 pub mod damage;
 pub mod hits;
+pub mod replies;
 
 use cases::Stream;
 use reader::limits::{STORE_WORDS, TRAY_BYTES};
