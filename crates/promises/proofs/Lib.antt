@@ -11,6 +11,7 @@ pub mod OrderRows
 pub mod OrderTexts
 pub mod FrameStops
 pub mod Composing
+pub mod Replies
 pub mod Hosts
 pub mod HostCalls
 pub mod HostDemands

@@ -5,6 +5,7 @@ pub mod Damage
 pub mod ManyHits
 pub mod Acceptance
 pub mod Composing
+pub mod Replies
 pub mod Hosts
 pub mod HostCalls
 pub mod HostComposing

@@ -3,3 +3,5 @@ mod Groups
 mod Headers
 mod ReceiveLoop
 mod CallCases
+pub mod Sent
+pub mod Examples
