@@ -21,11 +21,11 @@ use Rattle.replies.specs.Replies.{Behind, nowhere, behind, behindHeader, ReplyR
 use Rattle.replies.specs.Sent.{FoundAt}
 use Rattle.replies.proofs.Sent.{found-at, binary-found, sent-binary, sent-read}
 use Rattle.replies.proofs.Examples.{reply-examples}
 use Rattle.promises.specs.Refusals.{firstOf}
-use Rattle.promises.specs.Acceptance.{rangeRow}
-use Rattle.promises.specs.Replies.{replyRows, Answers, ReplyFills, SentReadBack, SeventhPromise}
+use Rattle.stream_promises.specs.Acceptance.{rangeRow}
+use Rattle.stream_promises.specs.Replies.{replyRows, Answers, ReplyFills, SentReadBack, SeventhPromise}
 use Rattle.promises.proofs.Refusals.{not-leb, not-and}
-use Rattle.promises.proofs.Acceptance.{range-row}
+use Rattle.stream_promises.proofs.Acceptance.{range-row}
 
 -- The count's test is its row's, turned round.
 none-row : (expected : ℕ) → not (leb 1 expected) ≡ eqb expected 0

@@ -13,8 +13,8 @@ use Rattle.replies.specs.declared.Reply.the-variants.{Whole}
 use Rattle.replies.specs.Replies.{behind, behindHeader, completeOf, replyNumber, readOf, replyOf}
 use Rattle.replies.specs.Sent.{FoundAt, Sent}
 use Rattle.replies.specs.Examples.{ReplyExamples}
 use Rattle.promises.specs.Refusals.{Row, row, firstOf}
-use Rattle.promises.specs.Acceptance.{rangeRow}
+use Rattle.stream_promises.specs.Acceptance.{rangeRow}
 
 -- "Errors: 18 when the expected bits are 0 or above 8,191, then 19 when the buffer cannot hold them, then number 5."
 abbrev pub replyRows : List ℕ → ℕ → ℕ → ℕ → List ℕ → List Row
