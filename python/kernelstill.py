@@ -100,7 +100,7 @@ __all__ = [
     "hex_line",
 ]
 
-__version__ = "1.9.0"
+__version__ = "1.10.0"
 
 # As kernelstill.h has them.
 CLOCK_LIMIT = 1 << 48
