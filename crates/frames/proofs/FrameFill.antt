@@ -80,9 +80,14 @@ fills (bit ∷ bits) xs n tray e b room held =
     (fills bits (xs ++ (bit ∷ [])) (n + 1) (storedOf tray n bit) (length-append xs (bit ∷ []) ∙ ap (λ k. k + 1) e)
     (and-right (ltb bit 2) (binary bits) b) (omega arith) here)
 
-filled-length : (bits : List ℕ) (n : ℕ) (tray : List ℕ) → length (filledOf n tray bits) ≡ length tray
+pub filled-length : (bits : List ℕ) (n : ℕ) (tray : List ℕ) → length (filledOf n tray bits) ≡ length tray
 filled-length [] n tray = refl
 filled-length (bit ∷ bits) n tray = filled-length bits (n + 1) (storedOf tray n bit) ∙ stored-length tray n bit
+
+-- Each bit of the bytes that a frame fills is its own, and 0 beyond its last.
+pub filled-read : (frame tray : List ℕ) → T (binary frame) → length frame ≤ 8 * length tray
+    → (i : ℕ) → i < 8 * ((length frame + 7) / 8) → bitOf (filledOf 0 tray frame) i ≡ getD frame i 0
+filled-read frame tray b room = fills frame [] 0 tray refl b (omega arith) (λ i h. absurd (omega arith))
 
 pub part-holds : (frame tray : List ℕ) → T (binary frame) → length frame ≤ 8 * length tray
     → PartHolds frame (partOf (filledOf 0 tray frame) (length frame))
@@ -91,7 +96,7 @@ part-holds frame tray b room =
     let same = filled-length frame 0 tray in
     let n = (length frame + 7) / 8 in
     let long = length-take-le n after (omega arith) in
-    let held = fills frame [] 0 tray refl b (omega arith) (λ i h. absurd (omega arith)) in
+    let held = filled-read frame tray b room in
     rw (le-leb (length frame) (8 * length after) (omega arith))
     (record {
       long = long;

@@ -2,7 +2,7 @@
 -- Assumes nothing.
 use mathlib.Core.Bool.{Bool, true, false, cond, not, _&&_}
 use mathlib.Core.List.{List, [], _∷_, _++_}
-use mathlib.Core.Path.{_≡_, refl, _∙_, ap}
+use mathlib.Core.Path.{_≡_, refl, _∙_, sym, ap}
 use Prim.Native.Nat.{ℕ, _+_, _*_, _/_, _%_, _<_, _≤_}
 use native.Mathlib.Omega.{arith}
 use lib.Dec.{eqb}
@@ -40,6 +40,18 @@ pub whole-stays : (r : Received) (bits : List ℕ) → isWhole (r .reception) �
 unfolding afterOf
 whole-stays r [] e = refl
 whole-stays r (bit ∷ bits) e = rw e
+
+-- So bits may come part by part.
+after-by : (r : Received) (bit : ℕ) (bits more : List ℕ) (b : Bool) → isWhole (r .reception) ≡ b
+    → afterOf (stepOf r bit) (bits ++ more) ≡ afterOf (afterOf (stepOf r bit) bits) more → afterOf r (bit ∷ (bits ++ more)) ≡ afterOf (afterOf r (bit ∷ bits)) more
+after-by r bit bits more true e rest =
+    whole-stays r (bit ∷ (bits ++ more)) e ∙ sym (ap (λ (q : Received). afterOf q more) (whole-stays r (bit ∷ bits) e) ∙ whole-stays r more e)
+after-by r bit bits more false e rest =
+    one-more r bit (bits ++ more) e ∙ rest ∙ sym (ap (λ (q : Received). afterOf q more) (one-more r bit bits e))
+
+pub part-by-part : (bits more : List ℕ) (r : Received) → afterOf r (bits ++ more) ≡ afterOf (afterOf r bits) more
+part-by-part [] more r = sym (ap (λ (q : Received). afterOf q more) (none-more r))
+part-by-part (bit ∷ bits) more r = after-by r bit bits more (isWhole (r .reception)) refl (part-by-part bits more (stepOf r bit))
 
 -- It stays within the cycles that are expected.
 pub start-fits : (bits : ℕ) → bits ≤ mostBits → Fits (start bits)

@@ -1,6 +1,6 @@
-mod Kept
+pub mod Kept
 mod Groups
-mod Headers
+pub mod Headers
 mod ReceiveLoop
 mod CallCases
 pub mod Sent

@@ -1,22 +1,22 @@
 -- A reply that was sent is read back: its header at its place, and each bit by the vote of its cycles, of which at most three were inverted.
 -- Assumes nothing.
 use mathlib.Core.Bool.{Bool, true, false, cond}
-use mathlib.Core.List.{List, [], _∷_, _++_, append-assoc}
-use mathlib.Core.Path.{_≡_, _∙_, refl, ap, ap₂, subst}
+use mathlib.Core.List.{List, [], _∷_}
+use mathlib.Core.Path.{_≡_, _∙_, refl, sym, ap, ap₂, subst}
 use Prim.Native.Nat.{ℕ, zero, suc, _+_, _*_, _/_, _<_, _≤_}
 use native.Mathlib.Omega.{arith}
 use lib.Dec.{T, eqb, ltb, ltb→lt}
-use lib.ListN.{length, take, drop, length-append}
-use lib.Seq.{take-at, drop-at}
-use borrow.Author.Tests.{le-leb, lt-leb, eq-eqb, ne-eqb, eqb-true}
-use Rattle.bits.proofs.BitRanges.{binary, binary-ahead, binary-behind}
-use Rattle.bits.proofs.Truth.{clash, both, and-left, and-right}
+use lib.ListN.{length, getD, take, drop, length-drop}
+use lib.Seq.{length-take-le, drop-nil, drop-drop}
+use borrow.Author.Tests.{le-leb, lt-leb, eq-eqb, ne-eqb}
+use Rattle.bits.proofs.BitRanges.{binary}
+use Rattle.bits.proofs.Truth.{clash, and-left, and-right}
 use Rattle.groups.specs.Vote.{onesOf, voteOf, votesOf}
-use Rattle.groups.proofs.GroupLists.{votes-binary}
+use Rattle.groups.proofs.GroupLists.{binary-take, binary-drop, votes-binary}
 use Rattle.frames.specs.Tray.{filledOf}
 use Rattle.replies.specs.declared.Reply.the-variants.{Whole}
 use Rattle.replies.specs.Replies.{header, begins, Behind, nowhere, behind, behindHeader, completeOf, replyResult, resultBy, readOf}
-use Rattle.replies.specs.Sent.{invertedIn, GroupOf, Carries, NoneBefore, FoundAt, Sent}
+use Rattle.replies.specs.Sent.{NoneBefore, FoundAt, invertedIn, Sent}
 
 -- The ones of a group by the cycles that were inverted.
 sent-zero : (group : List ℕ) → T (binary group) → onesOf group ≡ invertedIn 0 group
@@ -40,126 +40,94 @@ sent-other n (cycle ∷ cycles) b =
     let rest = sent-other n cycles (and-right (ltb cycle 2) (binary cycles) b) in
     rw other (omega (arith, rest))
 
-vote-sent : (bit : ℕ) (group : List ℕ) → T (binary group) → GroupOf bit group → voteOf group ≡ bit
-vote-sent zero group b g =
+vote-sent : (bit : ℕ) (group : List ℕ) → T (binary group) → length group ≡ 8 → invertedIn bit group ≤ 3 → voteOf group ≡ bit
+vote-sent zero group b long few =
     let ones = sent-zero group b in
-    let few = g .few in
     rw (lt-leb 5 (onesOf group) (omega (arith, ones, few)), le-leb (onesOf group) 3 (omega (arith, ones, few)))
-vote-sent (suc zero) group b g =
+vote-sent (suc zero) group b long few =
     let ones = sent-one group b in
-    let few = g .few in
-    let long = g .eight in
     rw (le-leb 5 (onesOf group) (omega (arith, ones, few, long)))
-vote-sent (suc (suc n)) group b g =
-    let all = sent-other n group b in
-    let few = g .few in
-    let long = g .eight in
-    absurd (omega (arith, all, few, long))
+vote-sent (suc (suc n)) group b long few = let all = sent-other n group b in absurd (omega (arith, all, few, long))
 
--- The first group, and those behind it.
-module _ (bit : ℕ) (bits cycles after : List ℕ) (c : Carries (bit ∷ bits) cycles) where
-  abbrev later : List ℕ
-  later = c .1 ++ after
+-- The groups of some bits, one after another.
+abbrev Groups : List ℕ → List ℕ → Type 0
+Groups bits cycles = (i : ℕ) → i < length bits → invertedIn (getD bits i 0) (take 8 (drop (8 * i) cycles)) ≤ 3
 
-  joined : cycles ++ after ≡ c .0 ++ later
-  joined = ap (λ (l : List ℕ). l ++ after) (c .2) ∙ append-assoc (c .0) (c .1) after
+later-groups : (bit : ℕ) (bits cycles : List ℕ) → Groups (bit ∷ bits) cycles → Groups bits (drop 8 cycles)
+later-groups bit bits cycles g i h =
+    let on : 8 * suc i ≡ 8 + 8 * i = omega arith in
+    let same : drop (8 * i) (drop 8 cycles) ≡ drop (8 * suc i) cycles = drop-drop (8 * i) 8 cycles ∙ ap (λ n. drop n cycles) (sym on) in
+    subst (λ (c : List ℕ). invertedIn (getD bits i 0) (take 8 c) ≤ 3) (sym same) (g (suc i) (omega arith))
 
-  first-group : take 8 (cycles ++ after) ≡ c .0
-  first-group = ap (take 8) joined ∙ take-at (c .0) later 8 (c .3 .eight)
+votes-sent : (bits cycles : List ℕ) → Groups bits cycles → 8 * length bits ≤ length cycles → T (binary cycles) → votesOf (length bits) cycles ≡ bits
+votes-sent [] cycles g long b = refl
+votes-sent (bit ∷ bits) cycles g long b =
+    let fewer = length-drop 8 cycles in
+    ap₂ (λ (v : ℕ) (vs : List ℕ). v ∷ vs)
+    (vote-sent bit (take 8 cycles) (binary-take 8 cycles b) (length-take-le 8 cycles (omega arith)) (g 0 (omega arith)))
+    (votes-sent bits (drop 8 cycles) (later-groups bit bits cycles g) (omega (arith, fewer)) (binary-drop 8 cycles b))
 
-  other-groups : drop 8 (cycles ++ after) ≡ later
-  other-groups = ap (drop 8) joined ∙ drop-at (c .0) later 8 (c .3 .eight)
-
--- Group by group, whatever comes behind them.
-votes-sent : (bits cycles after : List ℕ) → Carries bits cycles → T (binary cycles) → votesOf (length bits) (cycles ++ after) ≡ bits
-votes-sent [] cycles after c b = refl
-votes-sent (bit ∷ bits) cycles after c b =
-    let parts : T (binary (c .0 ++ c .1)) = subst (λ (l : List ℕ). T (binary l)) (c .2) b in
-    rw (first-group bit bits cycles after c, other-groups bit bits cycles after c)
-    (ap₂ (λ (v : ℕ) (vs : List ℕ). v ∷ vs) (vote-sent bit (c .0) (binary-ahead (c .0) (c .1) parts) (c .3))
-    (votes-sent bits (c .1) after (c .4) (binary-behind (c .0) (c .1) parts)))
-
-long-enough : (bits cycles : List ℕ) → Carries bits cycles → length cycles ≡ 8 * length bits
-long-enough [] cycles c = ap length c
-long-enough (bit ∷ bits) cycles c =
-    let rest = long-enough bits (c .1) (c .4) in
-    let long = c .3 .eight in
-    ap length (c .2) ∙ length-append (c .0) (c .1) ∙ omega (arith, rest, long)
+one-on : (place bit : ℕ) (range : List ℕ) → drop (suc place + 5) (bit ∷ range) ≡ drop (place + 5) range
+one-on place bit range = let e : suc place + 5 ≡ suc (place + 5) = omega arith in rw e
 
 -- The header at its place.
-header-found : (ahead rest : List ℕ) → NoneBefore (length ahead) (ahead ++ (header ++ rest)) → behindHeader (ahead ++ (header ++ rest)) ≡ behind rest
+header-found : (place : ℕ) (range : List ℕ) → begins header (drop place range) ≡ true → NoneBefore place range
+    → behindHeader range ≡ behind (drop (place + 5) range)
 unfolding behindHeader
-header-found [] rest none = refl
-header-found (bit ∷ ahead) rest none = rw (none 0 (omega arith)) (header-found ahead rest (λ i h. none (suc i) (omega arith)))
-
--- A list that begins with another.
-begins-is : (xs line : List ℕ) → begins xs line ≡ true → line ≡ xs ++ drop (length xs) line
-begins-is [] line e = refl
-begins-is (x ∷ xs) [] e = clash e refl
-begins-is (x ∷ xs) (bit ∷ line) e =
-    let s = both (eqb bit x) (begins xs line) e in
-    ap₂ (λ (v : ℕ) (vs : List ℕ). v ∷ vs) (eqb-true bit x (s .0)) (begins-is xs line (s .1))
+header-found place [] e none = clash e (ap (begins header) (drop-nil place))
+header-found zero (bit ∷ range) e none = rw e
+header-found (suc place) (bit ∷ range) e none =
+    rw (none 0 (omega arith)) (header-found place range e (λ i h. none (suc i) (omega arith)) ∙ ap behind (sym (one-on place bit range)))
 
 -- It is found at the first place at which it stands.
-module _ (bit : ℕ) (line : List ℕ) (e : begins header (bit ∷ line) ≡ false) where
-  later-none : {places : ℕ} → NoneBefore places line → NoneBefore (suc places) (bit ∷ line)
+module _ (bit : ℕ) (range : List ℕ) (e : begins header (bit ∷ range) ≡ false) where
+  later-none : {places : ℕ} → NoneBefore places range → NoneBefore (suc places) (bit ∷ range)
   later-none none zero h = e
   later-none none (suc i) h = none i (omega arith)
 
-  nowhere-later : FoundAt line nowhere → FoundAt (bit ∷ line) nowhere
+  nowhere-later : FoundAt range nowhere → FoundAt (bit ∷ range) nowhere
   nowhere-later f zero = e
   nowhere-later f (suc i) = f i
 
-  later-found : (b : Behind) → FoundAt line b → FoundAt (bit ∷ line) b
+  later-found : (b : Behind) → FoundAt range b → FoundAt (bit ∷ range) b
   later-found nowhere f = nowhere-later f
-  later-found (behind cycles) f = (bit ∷ f .0, ap (λ (l : List ℕ). bit ∷ l) (f .1), later-none (f .2))
+  later-found (behind cycles) f = (suc (f .0), f .1, later-none (f .2), f .3 ∙ sym (one-on (f .0) bit range))
 
-found-by : (bit : ℕ) (line : List ℕ) (b : Bool) → begins header (bit ∷ line) ≡ b → FoundAt line (behindHeader line)
-    → FoundAt (bit ∷ line) (cond b (behind (drop 5 (bit ∷ line))) (behindHeader line))
-found-by bit line true e f = ([], begins-is header (bit ∷ line) e, λ i h. absurd (omega arith))
-found-by bit line false e f = later-found bit line e (behindHeader line) f
+found-by : (bit : ℕ) (range : List ℕ) (b : Bool) → begins header (bit ∷ range) ≡ b → FoundAt range (behindHeader range)
+    → FoundAt (bit ∷ range) (cond b (behind (drop 5 (bit ∷ range))) (behindHeader range))
+found-by bit range true e f = (0, e, (λ i h. absurd (omega arith)), refl)
+found-by bit range false e f = later-found bit range e (behindHeader range) f
 
 nowhere-in-none : FoundAt [] nowhere
 nowhere-in-none zero = refl
 nowhere-in-none (suc i) = refl
 
-pub found-at : (line : List ℕ) → FoundAt line (behindHeader line)
+pub found-at : (range : List ℕ) → FoundAt range (behindHeader range)
 unfolding behindHeader
 found-at [] = nowhere-in-none
-found-at (bit ∷ line) = found-by bit line (begins header (bit ∷ line)) refl (found-at line)
-
--- What comes behind it are bits.
-pub binary-found : (line cycles ahead : List ℕ) → line ≡ ahead ++ (header ++ cycles) → T (binary line) → T (binary cycles)
-binary-found line cycles ahead e b =
-    binary-behind header cycles (binary-behind ahead (header ++ cycles) (subst (λ (l : List ℕ). T (binary l)) e b))
+found-at (bit ∷ range) = found-by bit range (begins header (bit ∷ range)) refl (found-at range)
 
 -- The whole reply.
-module _ (bits line : List ℕ) (s : Sent bits line) (b : T (binary line)) (buffer : List ℕ) where
-  abbrev rest : List ℕ
-  rest = s .cycles ++ s .after
+module _ (bits range : List ℕ) (s : Sent bits range) (b : T (binary range)) (buffer : List ℕ) where
+  abbrev cycles : List ℕ
+  cycles = drop (s .place + 5) range
 
-  found : behindHeader line ≡ behind rest
-  found = ap behindHeader (s .whole) ∙ header-found (s .ahead) rest (subst (NoneBefore (length (s .ahead))) (s .whole) (s .first))
+  groups : Groups bits cycles
+  groups i h =
+      let same : drop (8 * i) cycles ≡ drop (s .place + 5 + 8 * i) range = drop-drop (8 * i) (s .place + 5) range in
+      subst (λ (c : List ℕ). invertedIn (getD bits i 0) (take 8 c) ≤ 3) (sym same) (s .few i h)
 
-  rest-binary : T (binary rest)
-  rest-binary = binary-found line rest (s .ahead) (s .whole) b
+  long : 8 * length bits ≤ length cycles
+  long = let fewer = length-drop (s .place + 5) range in let inside = s .inside in omega (arith, fewer, inside)
 
-  cycles-binary : T (binary (s .cycles))
-  cycles-binary = binary-ahead (s .cycles) (s .after) rest-binary
-
-  votes-are : votesOf (length bits) rest ≡ bits
-  votes-are = votes-sent bits (s .cycles) (s .after) (s .carries) cycles-binary
+  votes-are : votesOf (length bits) cycles ≡ bits
+  votes-are = votes-sent bits cycles groups long (binary-drop (s .place + 5) range b)
 
   pub sent-binary : T (binary bits)
-  sent-binary = subst (λ (l : List ℕ). T (binary l)) votes-are (votes-binary (length bits) rest rest-binary)
+  sent-binary = subst (λ (l : List ℕ). T (binary l)) votes-are (votes-binary (length bits) cycles (binary-drop (s .place + 5) range b))
 
-  all-complete : completeOf (length bits) rest ≡ length bits
-  all-complete =
-      let long = long-enough bits (s .cycles) (s .carries) in
-      let whole = length-append (s .cycles) (s .after) in
-      rw (le-leb (length bits) (length rest / 8) (omega (arith, long, whole)))
-
-  pub sent-read : readOf (length bits) buffer line ≡ replyResult Whole (filledOf 0 buffer bits)
+  pub sent-read : readOf (length bits) buffer range ≡ replyResult Whole (filledOf 0 buffer bits)
   sent-read =
-      ap (resultBy (length bits) buffer) found
-      ∙ rw (all-complete, eq-eqb (length bits) (length bits) refl, votes-are)
+      let all : completeOf (length bits) cycles ≡ length bits = rw (le-leb (length bits) (length cycles / 8) (omega (arith, long))) in
+      ap (resultBy (length bits) buffer) (header-found (s .place) range (s .starts) (s .earliest))
+      ∙ rw (all, eq-eqb (length bits) (length bits) refl, votes-are)
