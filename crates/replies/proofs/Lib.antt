@@ -3,3 +3,4 @@ mod Groups
 mod Headers
 mod ReceiveLoop
 mod CallCases
+pub mod WithinExpected
