@@ -6,6 +6,7 @@ import array
 import copy
 import ctypes
 import dataclasses
+import doctest
 import io
 import mmap
 import pathlib
@@ -1605,6 +1606,14 @@ class Replies(unittest.TestCase):
         bits = "".join(f"{octet:08b}" for octet in stream.data)
         line = packed(bits[:first] + self.HEADER + bits[first + 5 :])
         self.assertEqual(read_reply(line, 24, first), (ReplyVerdict.WHOLE, frame, 24))
+
+    def test_page(self):
+        """The example of docs/USING.md."""
+        page = (ROOT / "docs/USING.md").read_text()
+        (example,) = re.findall(r"^```python\n(.*?)^```$", page, re.DOTALL | re.MULTILINE)
+        parsed = doctest.DocTestParser().get_doctest(example, {}, "USING.md", None, 0)
+        outcome = doctest.DocTestRunner(verbose=False).run(parsed)
+        self.assertEqual((outcome.failed, outcome.attempted), (0, 6))
 
     def test_range(self):
         line = packed(self.sent("10") + self.sent("01"))
