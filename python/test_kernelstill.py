@@ -1613,7 +1613,7 @@ class Replies(unittest.TestCase):
         (example,) = re.findall(r"^```python\n(.*?)^```$", page, re.DOTALL | re.MULTILINE)
         parsed = doctest.DocTestParser().get_doctest(example, {}, "USING.md", None, 0)
         outcome = doctest.DocTestRunner(verbose=False).run(parsed)
-        self.assertEqual((outcome.failed, outcome.attempted), (0, 6))
+        self.assertEqual((outcome.failed, outcome.attempted), (0, 7))
 
     def test_range(self):
         line = packed(self.sent("10") + self.sent("01"))
