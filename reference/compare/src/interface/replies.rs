@@ -204,7 +204,11 @@ impl Cases<'_> {
         // all of the third.
         for number in 0..=255_u8 {
             let name = format!("reply with headers within it, {number}");
-            let groups = [0b1101_0000 | number >> 4, number, 0b1110_1000 | number % 8];
+            let groups = [
+                0b1101_0000 | number >> 4,
+                number,
+                0b1110_1000 | (number % 8),
+            ];
             let call = self.placed(&replied(&groups), u64::from(number % 11), 3);
             self.read(name, said(&groups, 3), &groups, call)?;
         }
