@@ -47,6 +47,32 @@ extern "C" {
         output: *mut u8,
         output_length: usize,
     ) -> u64;
+
+    fn kernelstill_reply(
+        input: *const u8,
+        input_length: usize,
+        first: usize,
+        count: usize,
+        expected: u64,
+        buffer: *mut u8,
+        buffer_length: usize,
+    ) -> u64;
+}
+
+/// Reads a reply off all bits of an input: number, verdict and count of bits in
+/// one word.
+pub fn reply(input: &[u8], expected: u64, buffer: &mut [u8]) -> u64 {
+    unsafe {
+        kernelstill_reply(
+            input.as_ptr(),
+            input.len(),
+            0,
+            8 * input.len(),
+            expected,
+            buffer.as_mut_ptr(),
+            buffer.len(),
+        )
+    }
 }
 
 /// Composes by the default plan: number and count of bits, or an order's

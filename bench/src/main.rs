@@ -1,8 +1,9 @@
 //! The proved taking call against plain Rust readers that go bit by bit: one
 //! mebibyte each of zeros and of dense commands in one call, and of long frames, in
 //! turns in one run. Then the check of a stream, on the dense commands, against the
-//! separate reader's and against the taking call; and composing such streams, against
-//! the separate composer and against reading them. Prints nanoseconds a bit (the
+//! separate reader's and against the taking call; composing such streams, against
+//! the separate composer and against reading them; and a reply sought and read,
+//! against the separate reader's. Prints nanoseconds a bit (the
 //! fastest turn of each) and the ratios.
 
 mod orders;
@@ -163,10 +164,59 @@ fn measure_composing(buffers: &mut Buffers) {
     }
 }
 
+/// The most data bits of a reply, and the words that tell all of them, or that
+/// there is no header.
+const REPLY_BITS: u64 = 8_191;
+const WHOLE: u64 = REPLY_BITS << 16;
+const NO_HEADER: u64 = 1 << 8;
+
+/// A mebibyte without a header, and one with the longest reply at its end.
+fn lines_back() -> [(&'static str, Vec<u8>, u64); 2] {
+    let zeros = vec![0; streams::BYTES];
+    let mut late = zeros.clone();
+    let reply = &mut late[streams::BYTES - REPLY_BITS as usize - 1..];
+    reply.fill(0xFF);
+    reply[0] = 0b11101;
+    [("no reply", zeros, NO_HEADER), ("late reply", late, WHOLE)]
+}
+
+/// The separate reader's answer as the library's word.
+fn separate_reply(input: &[u8], buffer: &mut [u8]) -> u64 {
+    let bits = 8 * input.len() as u64;
+    match reader::read_reply(input, 0, bits, REPLY_BITS, buffer).expect("a fit call") {
+        reader::Reply::Whole => WHOLE,
+        reader::Reply::NoHeader => NO_HEADER,
+        reader::Reply::CutShort(complete) => 2 << 8 | complete << 16,
+    }
+}
+
+fn measure_replies() {
+    let mut buffer = vec![0; 1024];
+    for (name, input, word) in lines_back() {
+        let mut best = [f64::MAX; 2];
+        for _ in 0..TURNS {
+            let began = Instant::now();
+            let proved = bench::reply(&input, REPLY_BITS, &mut buffer);
+            best[0] = best[0].min(began.elapsed().as_secs_f64());
+            let began = Instant::now();
+            let separate = separate_reply(&input, &mut buffer);
+            best[1] = best[1].min(began.elapsed().as_secs_f64());
+            assert_eq!((proved, separate), (word, word), "{name}");
+        }
+        let bits = 8.0 * input.len() as f64;
+        for (who, best) in ["proved reply", "separate reader's reply"].iter().zip(best) {
+            println!("{name}: {who}: {:.3} ns a bit", best / bits * 1e9);
+        }
+        let ratio = best[0] / best[1];
+        println!("{name}: proved reply / separate reader's reply: {ratio:.2}");
+    }
+}
+
 fn main() {
     let mut buffers = buffers(streams::BYTES);
     measure_composing(&mut buffers);
     measure_checks(&mut buffers);
+    measure_replies();
     for (name, calls, readers) in inputs() {
         let readers = &READERS[..readers];
         let mut best = [f64::MAX; 3];
@@ -202,6 +252,17 @@ fn the_readers_write_the_same_records() {
             ));
             assert!(written.all(|w| Some(w) == first), "{name}");
         }
+    }
+}
+
+#[test]
+fn the_replies_are_the_same() {
+    for (name, input, word) in lines_back() {
+        let mut buffers = [vec![0xEE; 1025], vec![0xEE; 1025]];
+        let proved = bench::reply(&input, REPLY_BITS, &mut buffers[0]);
+        let separate = separate_reply(&input, &mut buffers[1]);
+        assert_eq!((proved, separate), (word, word), "{name}");
+        assert!(buffers[0] == buffers[1], "{name}");
     }
 }
 

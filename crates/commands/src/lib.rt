@@ -76,7 +76,7 @@ fn help(name: &[u8], takes: &[u8], prints: &[u8], told: &[u8]) -> u8
 fn version(name: &[u8]) -> u8
     ensures { λ r. ⌜ IsStatus r ⌝ }
 {
-    let whole = print(print(true, name), b" (Kernelstill) 1.9.0\n");
+    let whole = print(print(true, name), b" (Kernelstill) 1.10.0\n");
     printed(name, whole)
 }
 

@@ -7,8 +7,8 @@ use Prim.Native.Nat.{ℕ, _+_, _*_, _/_, _%_, _<_, _≤_}
 use native.Mathlib.Nat.{eq-or-lt-of-le}
 use native.Mathlib.Omega.{arith}
 use lib.Dec.{T, ltb, eqb, ltb→lt}
-use lib.ListN.{length, getD, length-append, List·getD-append, List·getD-eq-default}
-use lib.Seq.{getD-at, getD-take, length-take-le}
+use lib.ListN.{length, getD, drop, length-append, List·getD-append, List·getD-eq-default}
+use lib.Seq.{getD-at, getD-take, length-take-le, drop-set-lt}
 use borrow.Author.Tests.{le-leb, ltb-true, ltb-false, eqb-true, eqb-false}
 use Rattle.bits.specs.Bits.{bitOf}
 use Rattle.bits.proofs.Truth.{cases, and-left, and-right}
@@ -97,3 +97,9 @@ part-holds frame tray b room =
       long = long;
       bits = λ i h. rw (getD-take n after (i / 8) 0 (omega arith)) (held i (omega arith));
     })
+
+-- Bytes beyond stay.
+pub filled-beyond : (n : ℕ) (bits : List ℕ) (place : ℕ) (tray : List ℕ) → place + length bits ≤ 8 * n → drop n (filledOf place tray bits) ≡ drop n tray
+filled-beyond n [] place tray h = refl
+filled-beyond n (bit ∷ bits) place tray h =
+    filled-beyond n bits (place + 1) (storedOf tray place bit) (omega arith) ∙ drop-set-lt n tray (place / 8) _ (omega arith)

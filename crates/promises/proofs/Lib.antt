@@ -6,13 +6,3 @@ pub mod RecordLines
 pub mod Records
 pub mod ManyHits
 pub mod Damage
-pub mod Acceptance
-pub mod OrderRows
-pub mod OrderTexts
-pub mod FrameStops
-pub mod Composing
-pub mod Hosts
-pub mod HostCalls
-pub mod HostDemands
-pub mod HostComposing
-pub mod Programs

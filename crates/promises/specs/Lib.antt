@@ -3,9 +3,3 @@ pub mod Frames
 pub mod Records
 pub mod Damage
 pub mod ManyHits
-pub mod Acceptance
-pub mod Composing
-pub mod Hosts
-pub mod HostCalls
-pub mod HostComposing
-pub mod Programs

@@ -67,8 +67,9 @@ hunt-read : (bits : List ℕ) (n w : ℕ) (buffer : List ℕ) → w < 32 → T (
 unfolding afterOf
 hunt-read [] n w buffer h b = ap (resultBy n buffer) (sym (none-in-few (lastFour w) (omega arith)))
 hunt-read (bit ∷ bits) n w buffer h b =
+    let low = ltb→lt bit 2 (and-left (ltb bit 2) (binary bits) b) in
     let rest = and-right (ltb bit 2) (binary bits) b in
-    bit-said n buffer w bit bits h (ltb→lt bit 2 (and-left (ltb bit 2) (binary bits) b)) rest (hunt-read bits n (shifted 5 w bit) buffer (shifted-fits 5 w bit) rest)
+    bit-said n buffer w bit bits h low rest (hunt-read bits n (shifted 5 w bit) buffer (shifted-fits 5 w bit) rest)
 
 -- From the start on: zeros ahead of the first bit make no header.
 pub from-start : (n : ℕ) (buffer bits : List ℕ) → T (binary bits) → resultOf (afterOf (received (start n) buffer) bits) ≡ readOf n buffer bits

@@ -4,3 +4,5 @@ mod Headers
 mod ReceiveLoop
 mod CallCases
 pub mod WithinExpected
+pub mod Sent
+pub mod Examples

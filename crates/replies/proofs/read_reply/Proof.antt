@@ -51,8 +51,11 @@ returns-3 c =
     let f = fit (e .before) in
     wrong-range _ _ _ _ _ (f .0) (f .1) (e .if2 .left) (sym (k .range-fits .ensures) ∙ not-true (k .range-fits .result) (c .if3 .taken))
 
-ranged : (e : tie.Else3) → rangeFits (length (e .before .before .before .before .before .before .args .input .now)) (e .before .before .before .before .before .before .args .first)
-    (e .before .before .before .before .before .before .args .count) ≡ true
+-- The start, from behind the three tests.
+abbrev asked : tie.Else3 → tie.Start
+asked e = let o = e .before .before .before in o .before .before .before
+
+ranged : (e : tie.Else3) → rangeFits (length (asked e .args .input .now)) (asked e .args .first) (asked e .args .count) ≡ true
 ranged e = sym (e .before .range-fits .ensures) ∙ not-false (e .before .range-fits .result) (e .if3 .left)
 
 start-requires : tie.Need-start-requires

@@ -20,8 +20,8 @@ use Rattle.image_fields.proofs.WellFormed.{formed, formed-fits}
 use Rattle.host_plans.specs.Plans.{emptyPlan}
 use Rattle.kernelstill.specs.Open.{openResultOf}
 use Rattle.kernelstill.specs.Take.{TakeResult, resultLength, refusedCall, answered, soundImage, takeResultBy, takeResultOf}
-use Rattle.promises.specs.Hosts.{RoundTrip, SameOpening, Unchanged, HostAsBefore, HostPromise}
+use Rattle.host_promises.specs.Hosts.{RoundTrip, SameOpening, Unchanged, HostAsBefore, HostPromise}
 use Rattle.promises.proofs.Refusals.{first-demand}
 
 round-trip : (d : Decoder) → Widths d → RoundTrip d
 round-trip d w = record { fits = image-fits d w; back = read-back d w }

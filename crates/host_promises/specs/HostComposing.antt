@@ -16,8 +16,8 @@ use Rattle.orders.specs.Streams.{frameOf, streamOf}
 use Rattle.orders.specs.Composing.{composeOf}
 use Rattle.host_plans.specs.Plans.{planOf}
 use Rattle.host_streams.specs.Compose.{ComposeWords, composeWordsOf}
-use Rattle.promises.specs.Composing.{ReadAs}
-use Rattle.promises.specs.HostCalls.{Carried, HostPart, hostBits, hostWords, hostLeft}
+use Rattle.stream_promises.specs.Composing.{ReadAs}
+use Rattle.host_promises.specs.HostCalls.{Carried, HostPart, hostBits, hostWords, hostLeft}
 
 -- What a call is lent: a plan's four numbers, the orders' words, the frames' bytes, the output.
 pub record ComposeCall : Type 0 where

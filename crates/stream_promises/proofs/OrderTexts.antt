@@ -31,7 +31,7 @@ use Rattle.order_refusals.specs.Refusals.{ordered, nextLineNumber, refusalIn, o
 use Rattle.compositions.specs.Compositions as texts
 use Rattle.compositions.specs.Compositions.{outputLimit, refusedWith, tooLong}
 use Rattle.order_texts.specs.Composed.{writtenOf, composedOf}
-use Rattle.promises.specs.Composing.{textOrders, IsTheCall, ProgramComposes}
+use Rattle.stream_promises.specs.Composing.{textOrders, IsTheCall, ProgramComposes}
 
 -- What the composing call writes, and the bytes that it fills.
 call-writes : (plan : Plan) (xs : List Ordered) (output : List ℕ) → planFits plan ≡ true → refusalFrom plan start 0 xs .number ≡ 0

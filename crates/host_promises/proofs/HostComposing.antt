@@ -21,11 +21,11 @@ use Rattle.round_trip.specs.Bytes.{ComposedBytes}
 use Rattle.round_trip.proofs.Bytes.{bytes}
 use Rattle.round_trip.proofs.RoundTrip.{round-trip}
 use Rattle.round_trip.proofs.FrameRoundTrip.{frame-round-trip}
-use Rattle.promises.specs.Composing.{ReadAs}
-use Rattle.promises.specs.HostCalls.{Carried, HostPart, standsFor, hostBits, hostWords, hostLeft}
-use Rattle.promises.specs.HostComposing.{ComposeCall, wordsLeft, ordersOf, answerOf, SameComposing, Opened, HostComposing}
-use Rattle.promises.proofs.Composing.{number-low, bits-low}
-use Rattle.promises.proofs.HostDemands.{host-demands}
+use Rattle.stream_promises.specs.Composing.{ReadAs}
+use Rattle.host_promises.specs.HostCalls.{Carried, HostPart, standsFor, hostBits, hostWords, hostLeft}
+use Rattle.host_promises.specs.HostComposing.{ComposeCall, wordsLeft, ordersOf, answerOf, SameComposing, Opened, HostComposing}
+use Rattle.stream_promises.proofs.Composing.{number-low, bits-low}
+use Rattle.host_promises.proofs.HostDemands.{host-demands}
 
 -- A word, taken apart.
 module _ (a : Composed) (low : a .number < 256) where

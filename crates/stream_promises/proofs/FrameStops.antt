@@ -19,8 +19,8 @@ use Rattle.calls.specs.Calls.{Part, bitsTaken, callOf, resultOf, systemAfter, c
 use Rattle.calls.proofs.RunFaithful.{state-append, words-append}
 use Rattle.calls.proofs.CallLists.{call-kept}
 use Rattle.calls.proofs.FrameEnds.{EndsWithFrame}
-use Rattle.promises.specs.Composing.{FirstCalls}
+use Rattle.stream_promises.specs.Composing.{FirstCalls}
 use Rattle.promises.proofs.Records.{ends}
 
 -- A list cut in two ways: the first cut is not behind the second, or it is.
 record Within (xs ys us vs : List ℕ) : Type 0 where

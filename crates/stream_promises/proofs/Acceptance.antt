@@ -20,25 +20,27 @@ use Rattle.judging.proofs.Examples.{judgement-examples}
 use Rattle.judging.proofs.Standing.{as-read}
 use Rattle.damage.specs.Inverted.{inverted}
 use Rattle.damage.specs.Hits.{invertedAt}
 use Rattle.promises.specs.Damage.{Stream}
-use Rattle.promises.specs.Acceptance.{RangeFirst, Exactly, AcceptedDamage, FifthPromise}
+use Rattle.stream_promises.specs.Acceptance.{rangeRow, RangeFirst, Exactly, AcceptedDamage, FifthPromise}
 use Rattle.promises.proofs.Refusals.{not-leb, not-and}
 use Rattle.promises.proofs.ManyHits.{fourth-promise}
 use Rattle.promises.proofs.Damage.{third-demand}
 
 -- The range's test is the row's, turned round.
 turned : (b : Bool) (x y : Verdict) → cond b x y ≡ cond (not b) y x
 turned true x y = refl
 turned false x y = refl
 
+pub range-row : (input : List ℕ) (first count : ℕ) → not (rangeFits (length input) first count) ≡ rangeRow input first count .applies
+range-row input first count =
+    not-and (leb (length input) inputLimit) (leb (first + count) (8 * length input))
+    ∙ ap₂ (λ (a b : Bool). a || b) (not-leb (length input) inputLimit) (not-leb (first + count) (8 * length input))
+
 range-first : (input : List ℕ) (first count : ℕ) → RangeFirst input first count
 unfolding acceptOf
 range-first input first count =
-    let within = leb (length input) inputLimit in
-    let inside = leb (first + count) (8 * length input) in
     turned (rangeFits (length input) first count) (verdictOf (bitsOf input first count)) WrongRange
-    ∙ ap (λ (b : Bool). cond b WrongRange (verdictOf (bitsOf input first count)))
-    (not-and within inside ∙ ap₂ (λ (a b : Bool). a || b) (not-leb (length input) inputLimit) (not-leb (first + count) (8 * length input)))
+    ∙ ap (λ (b : Bool). cond b WrongRange (verdictOf (bitsOf input first count))) (range-row input first count)
 
 exactly : (bits : List ℕ) → Exactly bits
 exactly bits = record { clean = λ e. subst (Told bits) e (told bits); accepted = clean-accepted bits }

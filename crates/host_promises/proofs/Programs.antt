@@ -15,7 +15,7 @@ use Rattle.listing.specs.Records.{recordText}
 use Rattle.program.specs.Listing.{bitsText, listingOf, stateLines}
 use Rattle.program.specs.Program.{programOf}
 use Rattle.program.proofs.Turns.{turns-print}
-use Rattle.promises.specs.Programs.{ProgramPromise}
+use Rattle.host_promises.specs.Programs.{ProgramPromise}
 
 pub program-promise : ProgramPromise
 unfolding stepOf planFits actOf tooClose openOf turnOf lineMeaning linesFrom linesRead charactersOf numbersLine recordText bitsText listingOf stateLines

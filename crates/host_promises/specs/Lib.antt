@@ -1,0 +1,4 @@
+pub mod Hosts
+pub mod HostCalls
+pub mod HostComposing
+pub mod Programs
