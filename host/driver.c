@@ -33,10 +33,14 @@ _Static_assert(KERNELSTILL_ACCEPT_PLACE(UINT64_C(0x12340F)) == 0x1234, "the plac
 _Static_assert(KERNELSTILL_COMPOSE_NUMBER(UINT64_C(0x12340A)) == 0x0A, "the refusal number stands lowest");
 _Static_assert(KERNELSTILL_COMPOSE_BITS(UINT64_C(0x123400)) == 0x1234, "the count of bits stands above it");
 _Static_assert(KERNELSTILL_COMPOSE_ORDER(UINT64_C(0x12340A)) == 0x1234, "the order's number stands above it");
+_Static_assert(KERNELSTILL_REPLY_NUMBER(UINT64_C(0x123402FE)) == 0xFE, "the refusal number stands lowest");
+_Static_assert(KERNELSTILL_REPLY_VERDICT(UINT64_C(0x123402FE)) == 0x02, "the verdict is in the middle");
+_Static_assert(KERNELSTILL_REPLY_BITS(UINT64_C(0x123402FE)) == 0x1234, "the count of complete bits stands highest");
+_Static_assert(KERNELSTILL_REPLY_BYTES == (KERNELSTILL_REPLY_DATA_BITS + 7) / 8, "a buffer holds the longest reply");
 _Static_assert(sizeof(struct kernelstill_order) == KERNELSTILL_ORDER_WORDS * sizeof(uint64_t), "an order is six words");
 _Static_assert(__BYTE_ORDER__ == __ORDER_LITTLE_ENDIAN__, "words stand lowest byte first");
 
-enum function { OPEN = 1, TAKE, FRAME_BITS, FRAME_PART, HEX_LINE, RECORD_LINE, ACCEPT, COMPOSE };
+enum function { OPEN = 1, TAKE, FRAME_BITS, FRAME_PART, HEX_LINE, RECORD_LINE, ACCEPT, COMPOSE, REPLY };
 
 #define MOST_SLICES 6
 #define MOST_ELEMENTS (UINT64_C(1) << 22) /* a request beyond it is malformed */
@@ -301,6 +305,17 @@ static void compose_stream(struct call *call)
                                      output->data, output->length));
 }
 
+static void read_reply(struct call *call)
+{
+    struct slice *input = lend_const(call, sizeof(uint8_t));
+    size_t first = read_word(), count = read_word();
+    uint64_t expected = read_word();
+    struct slice *buffer = lend(call, sizeof(uint8_t));
+
+    finish(call, kernelstill_reply(input->data, input->length, first, count,
+                                   expected, buffer->data, buffer->length));
+}
+
 static void serve(uint64_t function)
 {
     struct call call = {.count = 0};
@@ -314,6 +329,7 @@ static void serve(uint64_t function)
     case RECORD_LINE: write_record_line(&call); break;
     case ACCEPT: accept_stream(&call); break;
     case COMPOSE: compose_stream(&call); break;
+    case REPLY: read_reply(&call); break;
     default: die("a request has an unknown function");
     }
 }

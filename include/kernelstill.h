@@ -4,10 +4,11 @@
  *
  * kernelstill_open opens, kernelstill_take takes bits and writes records;
  * kernelstill_accept checks a finished stream of triggers and Fasts;
- * kernelstill_compose writes a stream from a list of orders; the other
- * functions help to read what was written. Each is proved to meet its
- * contract (crates/kernelstill) for every argument that keeps these rules,
- * which no function can check:
+ * kernelstill_compose writes a stream from a list of orders; kernelstill_reply
+ * reads a reply on the line back from the chip; the other functions help to
+ * read what was written. Each is proved to meet its contract
+ * (crates/kernelstill) for every argument that keeps these rules, which no
+ * function can check:
  *
  * - A slice passes as a pointer and then a length, counted in elements. The
  *   pointer is aligned for its element and good for that many of them. At
@@ -17,7 +18,8 @@
  * All else is checked. An unfit call is rejected with its number and changes
  * nothing, but for an opening, which is handed no state and gives one even
  * when it is refused. Where several numbers apply, the lowest is answered; of a
- * stream's patterns and of a list of orders the first at fault is.
+ * stream's patterns and of a list of orders the first at fault is, and of a
+ * reply 18 and 19 are looked at ahead of 5.
  *
  * Nothing is kept between calls and there are no globals: all that a reader
  * remembers stands in the image, the store and the tray that the caller
@@ -48,6 +50,8 @@ extern "C" {
 #define KERNELSTILL_RECORD_LINE_BYTES 28 /* a record's line, with its line feed */
 #define KERNELSTILL_LINE_BYTES 32        /* the bytes of a hexadecimal line, at most */
 #define KERNELSTILL_ORDER_WORDS 6        /* an order in a list of orders */
+#define KERNELSTILL_REPLY_DATA_BITS 8191 /* the data bits of a reply, at most */
+#define KERNELSTILL_REPLY_BYTES 1024     /* a buffer that holds the data bits of any reply */
 #define KERNELSTILL_CLOCK_LIMIT (UINT64_C(1) << 48) /* cycles are below it */
 
 /* The default register plan: addresses 0 to 10 exist. Where only 0 to 6 do,
@@ -73,6 +77,8 @@ extern "C" {
 #define KERNELSTILL_UNKNOWN_PATTERN 13   /* a pattern of a stream begins none of LV1, BCR, ECR, CAL and SYNC */
 #define KERNELSTILL_CUT_PATTERN 14       /* the stream ends inside a command */
 #define KERNELSTILL_PATTERN_TOO_CLOSE 15 /* too few zeros lie ahead of a command */
+#define KERNELSTILL_WRONG_BIT_COUNT 18   /* the data bits expected of a reply are 0, or above 8,191 */
+#define KERNELSTILL_BUFFER_TOO_SMALL 19  /* the buffer cannot hold the data bits expected of a reply */
 
 /* The result of a taking call, by place. */
 #define KERNELSTILL_RESULT_BITS 0    /* the bits taken */
@@ -319,6 +325,39 @@ uint64_t kernelstill_compose(
 #define KERNELSTILL_COMPOSE_NUMBER(answer) ((answer) & 0xFF) /* the refusal number, 0 for none */
 #define KERNELSTILL_COMPOSE_BITS(answer) ((answer) >> 8)     /* the count of bits, where the number is 0 */
 #define KERNELSTILL_COMPOSE_ORDER(answer) ((answer) >> 8)    /* the order's number, at WRONG_ORDER and TOO_FEW_ZEROS */
+
+/*
+ * Reads the chip's reply to RdFrontEnd from `count` bits of the line back from
+ * it, from bit `first` of the input on: the header 11101, a cycle a bit, and
+ * then `expected` data bits, each for eight cycles.
+ *
+ * The header is taken at its first place within the range, where all five bits
+ * are exact, and is not looked for again. A data bit is 1 with five ones or
+ * more among its eight cycles, 0 with three or fewer, and with four ones the
+ * first cycle's bit. It is complete with its eighth cycle. The complete bits,
+ * as many as are expected at most, fill the buffer from its start, the highest
+ * bit of byte 0 first. The unused bits of the last byte that they reach are 0;
+ * the bytes beyond it are as they were. What comes behind the last bit that is
+ * expected is not looked at. Nothing is kept between calls: to go on with a
+ * reply that was cut short, lend all of it again, with what came since.
+ *
+ * The answer is one word, which the macros take apart: number 0, a verdict and
+ * the count of complete bits; or a refusal, which writes nothing:
+ * WRONG_BIT_COUNT; then BUFFER_TOO_SMALL; then WRONG_RANGE.
+ */
+uint64_t kernelstill_reply(
+    const uint8_t *input, size_t input_length,
+    size_t first, size_t count,
+    uint64_t expected,
+    uint8_t *buffer, size_t buffer_length);
+
+#define KERNELSTILL_REPLY_NUMBER(answer) ((answer) & 0xFF)       /* the refusal number, 0 for none */
+#define KERNELSTILL_REPLY_VERDICT(answer) ((answer) >> 8 & 0xFF) /* one of the next three, where the number is 0; else 0 */
+#define KERNELSTILL_REPLY_BITS(answer) ((answer) >> 16)          /* the count of complete bits; 0 at a refusal */
+
+#define KERNELSTILL_REPLY_WHOLE 0     /* all bits that are expected */
+#define KERNELSTILL_REPLY_NO_HEADER 1 /* the range has no header; no byte is changed */
+#define KERNELSTILL_REPLY_CUT_SHORT 2 /* the range ends ahead of the last bit; where none is complete, no byte is changed */
 
 /*
  * Reads a line of hexadecimal digits, given without its line feed, into the

@@ -5,7 +5,7 @@ A `Decoder` takes the line's bits, one a clock cycle, and gives a `Record` for
 each command or error. Wherever the bits are cut into calls, the records are
 the same. Here the first call ends inside the second trigger:
 
->>> from kernelstill import Decoder, Order, Refused, accept, compose, hex_line
+>>> from kernelstill import Decoder, Order, Refused, accept, compose, hex_line, read_reply
 >>> capture = hex_line("B5C074") + hex_line("E0B080")
 >>> decoder = Decoder()
 >>> for record in decoder.take(capture, 0, 26) + decoder.take(capture, 26):
@@ -64,6 +64,14 @@ frame, and two zeros lie ahead of the trigger:
 194 EnDataTake b''
 201 LV1 b''
 
+`read_reply` reads the chip's reply to RdFrontEnd on the line back from it: the
+header 11101, and then data bits, each for eight cycles. Here three zeros lie
+ahead of the header, and a cycle is hit in each of the first two bits:
+
+>>> reply = read_reply(hex_line("1DFB04FF"), 3)
+>>> reply.verdict.name, f"{reply.data[0]:08b}", reply.bits
+('WHOLE', '10100000', 3)
+
 The library is the file that KERNELSTILL_LIBRARY names, or else
 lib/libkernelstill.so beside this module's folder, where host/build puts it.
 """
@@ -91,6 +99,8 @@ __all__ = [
     "Plan",
     "Record",
     "Refused",
+    "Reply",
+    "ReplyVerdict",
     "State",
     "Stream",
     "Verdict",
@@ -98,6 +108,7 @@ __all__ = [
     "accept",
     "compose",
     "hex_line",
+    "read_reply",
 ]
 
 __version__ = "1.10.0"
@@ -113,6 +124,7 @@ _RESULT_WORDS = 3
 _RECORD_LINE_BYTES = 28
 _LINE_BYTES = 32
 _ORDER_WORDS = 6
+_REPLY_BYTES = 1_024
 _DONE, _FRAME = 0, 1
 _WRONG_RANGE = 5
 _WRONG_ORDER, _TOO_FEW_ZEROS = 9, 10
@@ -170,6 +182,8 @@ REFUSALS = {
     13: "a pattern of a stream begins none of LV1, BCR, ECR, CAL and SYNC",
     14: "the stream ends inside a command",
     15: "too few zeros lie ahead of a command",
+    18: "the data bits expected of a reply are 0, or above 8,191",
+    19: "the buffer cannot hold the data bits expected of a reply",
 }
 
 # Any other object with a buffer will do too.
@@ -227,6 +241,7 @@ def _load() -> ctypes.CDLL:
             u64,
             [u64, u64, u64, u64, u64s, size, ctypes.c_void_p, size, u8s, size],
         ),
+        "kernelstill_reply": (u64, [ctypes.c_void_p, size, size, size, u64, u8s, size]),
         "kernelstill_hex_line": (u64, [ctypes.c_void_p, size, u8s, size]),
         "kernelstill_record_line": (u64, [u8s, size, u64, u64]),
     }
@@ -519,6 +534,71 @@ def compose(orders: Iterable[Order], plan: Plan = Plan(), *, limit: int = INPUT_
         raise Refused(number, rest)
     _check(number)
     return Stream(ctypes.string_at(output, (rest + 7) // 8), rest)
+
+
+class ReplyVerdict(enum.IntEnum):
+    """What `read_reply` says of a reply."""
+
+    WHOLE = 0  # all bits that are expected
+    NO_HEADER = 1
+    CUT_SHORT = 2  # the range ends ahead of the last bit that is expected
+
+
+class Reply(NamedTuple):
+    """What `read_reply` answers; true if the reply is whole."""
+
+    verdict: ReplyVerdict
+    data: bytes  # the complete bits; the last byte is filled up with zeros
+    bits: int  # how many these are
+
+    @property
+    def whole(self) -> bool:
+        return self.verdict is ReplyVerdict.WHOLE
+
+    def __bool__(self) -> bool:
+        return self.whole
+
+
+def read_reply(data: BytesLike, bits: int, first: int = 0, count: Optional[int] = None) -> Reply:
+    """The chip's reply to RdFrontEnd, read from `count` bits of the line back
+    from it, from bit `first` on, or all from there: the header 11101, a cycle
+    a bit, and then `bits` data bits, each for eight cycles.
+
+    The header is taken at its first place within the range, where all five
+    bits are exact, and is not looked for again. A data bit is 1 with five ones
+    or more among its eight cycles, 0 with three or fewer, and with four ones
+    the first cycle's bit. It is complete with its eighth cycle, and what comes
+    behind the last bit that is expected is not looked at:
+
+    >>> line = hex_line("1DFB04FF")
+    >>> read_reply(line, 2)
+    Reply(verdict=<ReplyVerdict.WHOLE: 0>, data=b'\\x80', bits=2)
+    >>> read_reply(line, 4)
+    Reply(verdict=<ReplyVerdict.CUT_SHORT: 2>, data=b'\\xa0', bits=3)
+    >>> read_reply(line, 4, first=16)
+    Reply(verdict=<ReplyVerdict.NO_HEADER: 1>, data=b'', bits=0)
+
+    Nothing is kept between calls: to go on with a reply that was cut short,
+    give all of it again, with what came since.
+
+    At most 1,048,576 bytes. Refused with 18 if 0 bits are expected, or more
+    than 8,191, and then with 5 for an input or a range that is not fit.
+    """
+    expected = _unsigned(bits, "bits")
+    first = _unsigned(first, "first")
+    if count is not None:
+        count = _unsigned(count, "count")
+    lent, length = _lent(data)
+    if count is None:
+        count = max(8 * length - first, 0)
+    buffer = (ctypes.c_uint8 * _REPLY_BYTES)()
+    room = len(buffer)
+    answer = _library.kernelstill_reply(lent, length, first, count, expected, buffer, room)
+    # Else the exception would hold the caller's buffer.
+    del lent
+    _check(answer & 0xFF)
+    verdict, complete = ReplyVerdict(answer >> 8 & 0xFF), answer >> 16
+    return Reply(verdict, ctypes.string_at(buffer, (complete + 7) // 8), complete)
 
 
 class Record(NamedTuple):

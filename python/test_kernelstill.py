@@ -1,11 +1,12 @@
 """Tests of the Python module: the header's numbers, cuts, refusals, frames,
-commands sent too close, accepted streams, composed streams, state, save and
-resume."""
+commands sent too close, accepted streams, composed streams, replies, state, save
+and resume."""
 
 import array
 import copy
 import ctypes
 import dataclasses
+import doctest
 import io
 import mmap
 import pathlib
@@ -17,7 +18,7 @@ import unittest
 
 import kernelstill
 from kernelstill import CLOCK_LIMIT, INPUT_BYTES, Decoder, Order, Phase, Plan, Record, Refused
-from kernelstill import Stream, Verdict, accept, compose, hex_line
+from kernelstill import Reply, ReplyVerdict, Stream, Verdict, accept, compose, hex_line, read_reply
 
 ROOT = pathlib.Path(__file__).resolve().parent.parent
 EXAMPLE = [hex_line(line) for line in (ROOT / "examples/capture.hex").read_text().splitlines()]
@@ -116,7 +117,8 @@ class Header(unittest.TestCase):
         lengths = ("IMAGE_WORDS", "STORE_WORDS", "TRAY_BYTES", "RESULT_WORDS")
         lines = ("RECORD_LINE_BYTES", "LINE_BYTES")
         refusals = ("WRONG_RANGE", "WRONG_ORDER", "TOO_FEW_ZEROS")
-        for name in lengths + lines + refusals + ("ORDER_WORDS", "LAYOUT", "DONE", "FRAME"):
+        others = ("ORDER_WORDS", "REPLY_BYTES", "LAYOUT", "DONE", "FRAME")
+        for name in lengths + lines + refusals + others:
             self.assertEqual(getattr(kernelstill, f"_{name}"), self.header[name], name)
         self.assertEqual(len(Decoder()._list) % self.header["RECORD_WORDS"], 0)
         # In the order in which `take` reads them.
@@ -194,9 +196,29 @@ class Header(unittest.TestCase):
                 self.assertEqual(parts["NUMBER"], refused.number)
                 self.assertEqual(parts["ORDER"], refused.order or 0)
 
+    def test_reply_parts(self):
+        macros = dict(self.macros("REPLY", "answer"))
+        self.assertEqual(list(macros), ["NUMBER", "VERDICT", "BITS"])
+        others = self.named("REPLY_")
+        self.assertEqual((others.pop("DATA_BITS"), others.pop("BYTES")), (8191, 1024))
+        self.assertEqual(others, {verdict.name: verdict for verdict in ReplyVerdict})
+        line = packed("11101" + "1" * 2400)
+        for bits, first in ((300, 0), (299, 0), (301, 0), (1, 6), (0, 0), (8192, 0), (1, 9**9)):
+            count = max(2405 - first, 0)
+            buffer = (ctypes.c_uint8 * 1024)()
+            answer = kernelstill._library.kernelstill_reply(
+                line, len(line), first, count, bits, buffer, len(buffer)
+            )
+            parts = {name: eval(macro, {"answer": answer}) for name, macro in macros.items()}
+            try:
+                reply, number = read_reply(line, bits, first, count), 0
+            except Refused as refused:
+                reply, number = Reply(ReplyVerdict(0), b"", 0), refused.number
+            self.assertEqual(list(parts.values()), [number, reply.verdict, reply.bits])
+
     def test_refusals(self):
         names = {"UNSOUND", "CLOCK_OVER", "UNKNOWN_PATTERN", "CUT_PATTERN", "PATTERN_TOO_CLOSE"}
-        names |= {"TOO_FEW_ZEROS", "STREAM_TOO_LONG"}
+        names |= {"TOO_FEW_ZEROS", "STREAM_TOO_LONG", "BUFFER_TOO_SMALL"}
         names |= {n for n in self.header if n.startswith("WRONG_")}
         self.assertEqual(sorted(self.header[name] for name in names), list(kernelstill.REFUSALS))
         self.assertEqual(self.header["OK"], 0)
@@ -1478,6 +1500,205 @@ class Composing(unittest.TestCase):
         refused = pickle.loads(pickle.dumps(Refused(9, 7)))
         self.assertEqual((refused.number, refused.order), (9, 7))
         self.assertEqual(str(refused), str(Refused(9, 7)))
+
+
+class Replies(unittest.TestCase):
+    """The reply on the line back from the chip."""
+
+    HEADER = "11101"
+    MOST = 8191
+
+    def vote(self, group):
+        ones = group.count("1")
+        return "1" if ones > 4 or (ones == 4 and group[0] == "1") else "0"
+
+    def said(self, line, bits):
+        """The reply, in another way: over the text."""
+        if self.HEADER not in line:
+            return ReplyVerdict.NO_HEADER, b"", 0
+        behind = line[line.index(self.HEADER) + 5 :]
+        groups = [behind[at : at + 8] for at in range(0, 8 * bits, 8)]
+        complete = [self.vote(group) for group in groups if len(group) == 8]
+        verdict = ReplyVerdict.WHOLE if len(complete) == bits else ReplyVerdict.CUT_SHORT
+        return verdict, packed("".join(complete)), len(complete)
+
+    def given(self, line, bits):
+        """The reply in a string of 0 and 1, with other bits about it."""
+        reply = read_reply(packed(line), bits, 0, len(line))
+        self.assertEqual(reply, read_reply(packed("11011" + line + "1101"), bits, 5, len(line)))
+        whole = reply.verdict == ReplyVerdict.WHOLE
+        self.assertEqual((reply.whole, bool(reply)), (whole, whole))
+        self.assertEqual(len(reply.data), (reply.bits + 7) // 8)
+        return reply
+
+    def sent(self, data):
+        return self.HEADER + "".join(8 * bit for bit in data)
+
+    def refused(self, number, *arguments):
+        with self.assertRaises(Refused) as caught:
+            read_reply(*arguments)
+        self.assertEqual(caught.exception.number, number)
+        self.assertIn(kernelstill.REFUSALS[number], str(caught.exception))
+
+    def test_reply(self):
+        reply = self.given("000" + self.sent("101"), 3)
+        self.assertEqual(reply, (ReplyVerdict.WHOLE, b"\xa0", 3))
+        self.assertEqual((reply.verdict.name, reply.data, reply.bits), ("WHOLE", b"\xa0", 3))
+        self.assertEqual(
+            repr(reply), "Reply(verdict=<ReplyVerdict.WHOLE: 0>, data=b'\\xa0', bits=3)"
+        )
+        self.assertEqual(pickle.loads(pickle.dumps(reply)), reply)
+
+    def test_each_count(self):
+        random_ = random.Random(12)
+        for bits in [*range(1, 40), 1000, 8190, 8191]:
+            data = "".join(random_.choices("01", k=bits))
+            reply = self.given("0" * 3 + self.sent(data), bits)
+            self.assertEqual(reply, (ReplyVerdict.WHOLE, packed(data), bits))
+
+    def test_cut_at_each_place(self):
+        line = "0011" + self.sent("1011001")
+        for count in range(len(line) + 1):
+            reply = self.given(line[:count], 7)
+            self.assertEqual(reply, self.said(line[:count], 7), count)
+        verdicts = [self.given(line[:count], 7).verdict.name for count in (7, 8, 9, 64, 65)]
+        self.assertEqual(verdicts, 2 * ["NO_HEADER"] + 2 * ["CUT_SHORT"] + ["WHOLE"])
+
+    def test_every_group(self):
+        for group in range(256):
+            text = f"{group:08b}"
+            reply = self.given(self.HEADER + "1" * 8 + text + "0" * 8, 3)
+            self.assertEqual(reply.data, packed("1" + self.vote(text) + "0"), text)
+
+    def test_header(self):
+        """Exact, at its first place, and never sought again."""
+        for near in ("01101", "10101", "11001", "11111", "11100"):
+            self.assertEqual(self.given("0000" + near + "00000000", 1).verdict.name, "NO_HEADER")
+        # With its last bit a second would begin, and in the data stands another.
+        self.assertEqual(self.given("11101110111000000", 1), (0, b"\x80", 1))
+        self.assertEqual(self.given("1111101" + "00000000" + self.sent("1"), 1), (0, b"\0", 1))
+        self.assertEqual(self.given("", 1), (ReplyVerdict.NO_HEADER, b"", 0))
+        self.assertEqual(self.given(self.HEADER, 1), (ReplyVerdict.CUT_SHORT, b"", 0))
+
+    def test_random_lines(self):
+        random_ = random.Random(13)
+        verdicts = set()
+        for _ in range(3000):
+            line = "".join(random_.choices("01", k=random_.randrange(60)))
+            if random_.random() < 0.6:
+                data = random_.choices("01", k=random_.randrange(30))
+                line += self.sent(data) + "0" * random_.randrange(9)
+            cycles = [bit if random_.random() < 0.9 else random_.choice("01") for bit in line]
+            line = "".join(cycles)
+            bits = random_.randrange(1, 33)
+            reply = self.given(line, bits)
+            self.assertEqual(reply, self.said(line, bits), line)
+            verdicts.add(reply.verdict)
+        self.assertEqual(verdicts, set(ReplyVerdict))
+
+    def test_as_composed(self):
+        """A frame of RdFrontEnd lasts as long as a reply's data, bit by bit."""
+        frame = b"\xa5\xc3\x5a"
+        orders = [Order.wr_register(5, 24 << 3), Order.rd_front_end(frame)]
+        stream = compose(orders)
+        # Field 5 begins 33 + 17 bits in; the header goes ahead of it.
+        first = 33 + 17 - 5
+        bits = "".join(f"{octet:08b}" for octet in stream.data)
+        line = packed(bits[:first] + self.HEADER + bits[first + 5 :])
+        self.assertEqual(read_reply(line, 24, first), (ReplyVerdict.WHOLE, frame, 24))
+
+    def test_page(self):
+        """The example of docs/USING.md."""
+        page = (ROOT / "docs/USING.md").read_text()
+        (example,) = re.findall(r"^```python\n(.*?)^```$", page, re.DOTALL | re.MULTILINE)
+        parsed = doctest.DocTestParser().get_doctest(example, {}, "USING.md", None, 0)
+        outcome = doctest.DocTestRunner(verbose=False).run(parsed)
+        self.assertEqual((outcome.failed, outcome.attempted), (0, 7))
+
+    def test_range(self):
+        line = packed(self.sent("10") + self.sent("01"))
+        self.assertEqual(read_reply(line, 2), (ReplyVerdict.WHOLE, b"\x80", 2))
+        self.assertEqual(read_reply(line, 2, 1), (ReplyVerdict.WHOLE, b"\x40", 2))
+        self.assertEqual(read_reply(line, 2, first=21), (ReplyVerdict.WHOLE, b"\x40", 2))
+        self.assertEqual(read_reply(line, 2, count=20), (ReplyVerdict.CUT_SHORT, b"\x80", 1))
+        self.assertEqual(read_reply(line, bits=2, first=22), (ReplyVerdict.NO_HEADER, b"", 0))
+
+    def test_longest(self):
+        data = bytes(INPUT_BYTES - 8) + packed(self.sent("1011001"))
+        self.assertEqual(len(data), INPUT_BYTES)
+        self.assertEqual(read_reply(data, 7), (ReplyVerdict.WHOLE, b"\xb2", 7))
+        self.assertEqual(read_reply(data, 8), (ReplyVerdict.CUT_SHORT, b"\xb2", 7))
+
+    def test_refused(self):
+        full = bytes(INPUT_BYTES)
+        for wrong in (0, self.MOST + 1, 2**16 + 1, 2**32 + 1, 2**64 - 1, 2**64 + 1, 10**30):
+            self.refused(18, b"\xff", wrong)
+            # Ahead of the range.
+            self.refused(18, full + b"\0", wrong, 2**64 - 1, 2**64 - 1)
+        for bits in (1, self.MOST):
+            for arguments in (
+                (b"", bits, 0, 1),
+                (b"", bits, 1),
+                (b"", bits, 1, 0),
+                (b"\xff", bits, 0, 9),
+                (b"\xff", bits, 9),
+                (b"\xff", bits, 2**64 - 1, 2**64 - 1),
+                (b"\xff", bits, 1, 2**64 - 1),
+                (b"\xff", bits, 2**64, 0),
+                (b"\xff", bits, 0, 10**30),
+                (full, bits, 8 * INPUT_BYTES, 1),
+                (full + b"\0", bits),
+                (full + b"\0", bits, 0, 0),
+            ):
+                self.refused(5, *arguments)
+
+    def test_small_buffer(self):
+        # Only the library can be lent one.
+        buffer = (ctypes.c_uint8 * 2)(0x5A, 0x5A)
+        line = packed(self.sent("1" * 17))
+        answer = kernelstill._library.kernelstill_reply(line, len(line), 0, 9**9, 17, buffer, 2)
+        self.assertEqual((answer, bytes(buffer)), (19, b"ZZ"))
+        self.assertIn("cannot hold", str(Refused(answer)))
+
+    def test_wrong_arguments(self):
+        for wrong in (-1, -(2**64)):
+            self.assertRaises(ValueError, read_reply, b"\xff", wrong)
+            self.assertRaises(ValueError, read_reply, b"\xff", 1, wrong)
+            self.assertRaises(ValueError, read_reply, b"\xff", 1, 0, wrong)
+        for wrong in (1.0, "1"):
+            self.assertRaises(TypeError, read_reply, b"\xff", wrong)
+            self.assertRaises(TypeError, read_reply, b"\xff", 1, wrong)
+            self.assertRaises(TypeError, read_reply, b"\xff", 1, 0, wrong)
+        for wrong in (None, 5, "B5", [1]):
+            self.assertRaises(TypeError, read_reply, wrong, 1)
+        self.assertRaises(TypeError, read_reply, b"\xff")
+        self.assertRaises(TypeError, read_reply, b"\xff", None)
+
+    def test_bytes_like(self):
+        line = packed("0" * 3 + self.sent("1011001"))
+        spread = bytes(byte for octet in line for byte in (octet, 0xFF))
+        for data in (
+            line,
+            bytearray(line),
+            memoryview(line),
+            memoryview(bytearray(line)),
+            memoryview(spread)[::2],
+            array.array("B", line),
+            array.array("H", line),
+        ):
+            self.assertEqual(read_reply(data, 7), (ReplyVerdict.WHOLE, b"\xb2", 7), type(data))
+            self.assertEqual(bytes(data), line)
+        for nothing in (bytearray(), memoryview(b"")):
+            self.assertEqual(read_reply(nothing, 1), (ReplyVerdict.NO_HEADER, b"", 0))
+
+    def test_buffer_is_given_back(self):
+        data = bytearray(packed(self.sent("1")))
+        self.assertTrue(read_reply(data, 1))
+        try:
+            read_reply(data, 1, 0, 99)
+        except Refused:
+            data.extend(b"\xe8")
+        self.assertEqual(len(data), 3)
 
 
 class States(unittest.TestCase):

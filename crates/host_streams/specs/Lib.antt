@@ -1,2 +1,3 @@
 pub mod Accept
 pub mod Compose
+pub mod Reply

@@ -1,9 +1,10 @@
-// The library for hosts that are not written in Rattle: streams checked and composed, and what is answered of them in one word.
+// The library for hosts that are not written in Rattle: streams checked and composed, replies read, and what is answered of them in one word.
 // include/kernelstill.h declares these functions. None asks anything of its caller.
 ghost use mathlib.Core.Path.{_≡_};
 ghost use Rattle.patterns.specs.Verdicts.{acceptOf};
 ghost use Rattle.host_streams.specs.Accept.{acceptWord};
 ghost use Rattle.host_streams.specs.Compose.{composeWord, composeWords, composeWordsOf};
+ghost use Rattle.host_streams.specs.Reply.{replyWords, replyWordsOf};
 use orders::Composed;
 
 // What stands above the number in the composing call's answer has 56 bits.
@@ -45,4 +46,20 @@ pub extern "C" fn kernelstill_compose(
     let plan = host_plans::plan_of(mask, csr, feen, cnt);
     let answer = compose_calls::compose(plan, orders, frames, output);
     compose_word(answer)
+}
+
+// The reply in a range of the input, of so many data bits, which go into the buffer: the refusal number, 256 times the verdict and 65,536 times the
+// count of complete bits. A refusal changes nothing.
+#[no_mangle]
+pub extern "C" fn kernelstill_reply(
+    input: &[u8],
+    first: usize,
+    count: usize,
+    expected: u64,
+    buffer: &mut [u8],
+) -> u64
+    ensures { λ r. ⌜ replyWords r (now (buffer .exit)) ≡ replyWordsOf (now (input .entry)) first count expected (now (buffer .entry)) ⌝ }
+{
+    let reply = replies::read_reply(input, first, count, expected, buffer);
+    reply.bits(expected) * 65536 + reply.verdict() as u64 * 256 + reply.number() as u64
 }

@@ -85,6 +85,15 @@ replyNumber WrongCount = 18
 replyNumber WrongBuffer = 19
 replyNumber WrongRange = 5
 
+-- Which of the three answers, 0 at a refusal too.
+abbrev pub replyVerdict : Reply → ℕ
+replyVerdict Whole = 0
+replyVerdict NoHeader = 1
+replyVerdict (CutShort bits) = 2
+replyVerdict WrongCount = 0
+replyVerdict WrongBuffer = 0
+replyVerdict WrongRange = 0
+
 -- The complete bits of a reply of which so many are expected.
 abbrev pub replyBits : ℕ → Reply → ℕ
 replyBits expected Whole = expected

@@ -5,7 +5,7 @@ ghost use Prim.Native.Nat.{_<_, _≤_};
 ghost use lib.ListN.{length};
 ghost use Rattle.bits.specs.Bits.{bitsOf};
 ghost use Rattle.bits.specs.Range.{rangeFits};
-ghost use Rattle.replies.specs.Replies.{mostBits, replyNumber, replyResult, replyOf};
+ghost use Rattle.replies.specs.Replies.{mostBits, replyNumber, replyVerdict, replyBits, replyResult, replyOf};
 ghost use Rattle.replies.specs.Reception.{received, start, isWhole, huntedOf, onwards, countedOf, stepOf, afterOf, saidOf, Fits};
 use bits::Cursor;
 
@@ -36,6 +36,34 @@ impl Reply {
             Reply::WrongCount => 18,
             Reply::WrongBuffer => 19,
             Reply::WrongRange => 5,
+        }
+    }
+
+    // Which of the three answers, 0 at a refusal too.
+    pub fn verdict(self) -> u8
+        ensures { λ r. ⌜ r ≡ replyVerdict self ⌝ }
+    {
+        match self {
+            Reply::Whole => 0,
+            Reply::NoHeader => 1,
+            Reply::CutShort { bits } => 2,
+            Reply::WrongCount => 0,
+            Reply::WrongBuffer => 0,
+            Reply::WrongRange => 0,
+        }
+    }
+
+    // The complete bits of a reply of which so many are expected.
+    pub fn bits(self, expected: u64) -> u64
+        ensures { λ r. ⌜ r ≡ replyBits expected self ⌝ }
+    {
+        match self {
+            Reply::Whole => expected,
+            Reply::NoHeader => 0,
+            Reply::CutShort { bits } => bits as u64,
+            Reply::WrongCount => 0,
+            Reply::WrongBuffer => 0,
+            Reply::WrongRange => 0,
         }
     }
 }

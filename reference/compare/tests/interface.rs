@@ -2,7 +2,7 @@
 
 use cases::generate::{bits, commands_at, flip_some};
 use cases::{Random, Stream};
-use compare::interface::call::{Call, Compose, Open, Take};
+use compare::interface::call::{Call, Compose, Open, ReadReply, Take};
 use compare::interface::difference::{difference, reply_bytes};
 use compare::interface::expected::{expected, Expected};
 use compare::interface::image::{image, is_inside_wr_receiver, state, uses, Image};
@@ -10,14 +10,14 @@ use compare::interface::layout::{self, at, largest, IMAGE_WORDS, LAYOUT, RECOGNI
 use compare::interface::states::{random_cycle, random_state, EARLIER_KINDS, PLANS};
 use compare::interface::streams::addresses;
 use compare::interface::{
-    accepting, checker, composing, crowding, fit, hits, large, prefilled, votes,
+    accepting, checker, composing, crowding, fit, hits, large, prefilled, replies, votes,
 };
 use compare::tally::Tally;
 use reader::limits::{input_fits, CLOCK_LIMIT, RECORD_WORDS, STORE_WORDS, TRAY_BYTES};
 use reader::listing::push_record;
 use reader::record::{flag, kind};
 use reader::{accept, compose, hex_line, open, recogniser, slow, sound, take};
-use reader::{Ending, Order, Plan, Recogniser, Record, State};
+use reader::{DataBits, Ending, Order, Plan, Recogniser, Record, State};
 use std::collections::{BTreeMap, BTreeSet};
 use std::path::Path;
 
@@ -123,12 +123,18 @@ fn limits() -> Vec<(&'static str, u64)> {
         ("ORDER_WORDS", Order::WORDS as u64),
         ("RECORD_LINE_BYTES", layout::RECORD_LINE_BYTES as u64),
         ("LINE_BYTES", layout::LINE_BYTES as u64),
+        ("REPLY_DATA_BITS", DataBits::MOST),
+        ("REPLY_BYTES", longest_reply().bytes() as u64),
         ("CLOCK_LIMIT", CLOCK_LIMIT),
         ("DEFAULT_MASK", mask.into()),
         ("DEFAULT_CSR", csr.into()),
         ("DEFAULT_FEEN", feen.into()),
         ("DEFAULT_CNT", cnt.into()),
     ]
+}
+
+fn longest_reply() -> DataBits {
+    DataBits::new(DataBits::MOST).expect("the most are fit")
 }
 
 fn refusals() -> Vec<(&'static str, u64)> {
@@ -148,11 +154,13 @@ fn refusals() -> Vec<(&'static str, u64)> {
         ("UNKNOWN_PATTERN", layout::UNKNOWN_PATTERN),
         ("CUT_PATTERN", layout::CUT_PATTERN),
         ("PATTERN_TOO_CLOSE", layout::PATTERN_TOO_CLOSE),
+        ("WRONG_BIT_COUNT", layout::WRONG_BIT_COUNT),
+        ("BUFFER_TOO_SMALL", layout::BUFFER_TOO_SMALL),
     ]
 }
 
-/// The places of a result, in the order in which it is compared, and how a
-/// taking call ends.
+/// The places of a result, in the order in which it is compared, how a taking
+/// call ends, and what is said of a reply.
 fn results() -> Vec<(&'static str, u64)> {
     vec![
         ("RESULT_BITS", 0),
@@ -161,6 +169,9 @@ fn results() -> Vec<(&'static str, u64)> {
         ("DONE", layout::DONE),
         ("FRAME", layout::FRAME),
         ("LIST_FULL", layout::LIST_FULL),
+        ("REPLY_WHOLE", layout::WHOLE),
+        ("REPLY_NO_HEADER", layout::NO_HEADER),
+        ("REPLY_CUT_SHORT", layout::CUT_SHORT),
     ]
 }
 
@@ -740,6 +751,7 @@ fn sent_back(call: &Call) -> Vec<(&'static str, Vec<u8>)> {
         Call::HexLine { bytes, .. } => vec![("bytes", bytes.clone())],
         Call::RecordLine { line, .. } => vec![("line", line.clone())],
         Call::Compose(compose) => vec![("output", compose.output.clone())],
+        Call::Reply(reply) => vec![("buffer", reply.buffer.clone())],
     }
 }
 
@@ -755,7 +767,7 @@ fn right_reply(expected: &Expected) -> Vec<u8> {
         .collect()
 }
 
-/// A call of each function, accepted but for the last of each of the last two.
+/// A call of each function, accepted but for the last of each of the last three.
 fn one_of_each(random: &mut Random) -> Vec<Call> {
     vec![
         Call::Open(Open {
@@ -802,7 +814,80 @@ fn one_of_each(random: &mut Random) -> Vec<Call> {
             &[[0x02, 3, 0, 0, 0, 0]],
             prefilled::bytes(random, 5),
         )),
+        Call::Reply(replying(3, prefilled::bytes(random, 5))),
+        Call::Reply(replying(41, prefilled::bytes(random, 5))),
     ]
+}
+
+/// A reply of three bits behind three zeros.
+fn replying(expected: u64, buffer: Vec<u8>) -> ReadReply {
+    ReadReply {
+        input: vec![0x1D, 0xFB, 0x04, 0xFF],
+        first: 0,
+        count: 32,
+        expected,
+        buffer,
+    }
+}
+
+/// The answers for replies (document 02, F-12): number, what is said, and the
+/// count of complete bits; and the buffer.
+#[test]
+fn answers_for_replies() {
+    let answered = |call: ReadReply| {
+        let expected = expected(&Call::Reply(call.clone()));
+        assert_eq!(reply_bytes(&expected), 8 + call.buffer.len());
+        let Call::Reply(after) = expected.after else {
+            unreachable!("a call stays what it is");
+        };
+        assert_eq!(after.input, call.input);
+        (expected.answer, after.buffer)
+    };
+    let read = |expected| answered(replying(expected, vec![0x5A; 2]));
+    let unchanged = |answer| (answer, vec![0x5A; 2]);
+    assert_eq!(read(1), (0x1_0000, vec![0x80, 0x5A]));
+    assert_eq!(read(3), (0x3_0000, vec![0xA0, 0x5A]));
+    assert_eq!(read(4), (0x3_0200, vec![0xA0, 0x5A]));
+    assert_eq!(read(16), (0x3_0200, vec![0xA0, 0x5A]));
+    assert_eq!(read(17), unchanged(19));
+    assert_eq!(read(0), unchanged(18));
+    assert_eq!(read(8_192), unchanged(18));
+    let mut part = replying(3, vec![0x5A; 2]);
+    part.count = 8;
+    assert_eq!(answered(part.clone()), unchanged(0x0200));
+    part.count = 7;
+    assert_eq!(answered(part.clone()), unchanged(0x0100));
+    part.first = u64::MAX;
+    assert_eq!(answered(part.clone()), unchanged(5));
+    part.buffer.clear();
+    assert_eq!(answered(part.clone()), (19, vec![]));
+    part.expected = u64::MAX;
+    assert_eq!(answered(part), (18, vec![]));
+    assert_eq!(layout::reply(layout::CUT_SHORT, 3), 0x3_0200);
+    assert_eq!(longest_reply().bytes(), layout::REPLY_BYTES);
+}
+
+/// The random replies of the comparison have each answer, and long ones.
+#[test]
+fn random_replies_have_every_answer() {
+    let mut counts = BTreeMap::new();
+    let (mut exact, mut larger, mut long) = (0, 0, 0);
+    for number in 0..4_000 {
+        let call = replies::random_call(&mut Random::new(number));
+        let expected = expected(&Call::Reply(call.clone()));
+        *counts.entry(expected.answer & 0xFFFF).or_insert(0) += 1;
+        if expected.answer & 0xFF == 0 {
+            let needed = replies::bytes_of(call.expected);
+            exact += u32::from(needed == call.buffer.len());
+            larger += u32::from(needed < call.buffer.len());
+        }
+        long += u32::from(expected.answer >> 16 > 1_000);
+    }
+    let answers = [0, 5, 18, 19, 0x0100, 0x0200];
+    assert!(counts.keys().eq(&answers), "{counts:?}");
+    assert!(counts.values().all(|&count| count > 200), "{counts:?}");
+    assert!(exact > 1_000 && larger > 500, "{exact} {larger}");
+    assert!(long > 10, "{long}");
 }
 
 /// Orders to be composed in the default plan.

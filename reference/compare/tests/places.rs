@@ -7,16 +7,20 @@ use std::path::{Path, PathBuf};
 
 /// The crates that find a bit of the input: the check of a stream, the
 /// cursor, the loops that walk by it, and the taking call. No other crate
-/// names the cursor, but for the one below.
+/// names the cursor, but for those below.
 const CRATES: [&str; 4] = ["acceptance", "bits", "stretches", "taking"];
 
 /// Walks a frame's lent bits by the cursor as it writes a stream; no call that
 /// takes an input goes through it.
 const WRITER: &str = "stream_writer";
 
+/// Reads a reply by the cursor. It divides its count of cycles, and no place.
+const REPLIES: &str = "replies";
+
 /// What these may hand the input to.
-const LENT_TO: [&str; 7] = [
+const LENT_TO: [&str; 8] = [
     "read",
+    "receive",
     "hunt_on",
     "body_on",
     "advance",
@@ -131,7 +135,9 @@ fn a_call_finds_its_first_place_once() {
     let texts = CRATES.map(|name| code(&source(name)));
     let calls = |text: &String| text.matches("Cursor::at(").count();
     assert_eq!(texts.each_ref().map(calls), [1, 0, 0, 1]);
-    for text in [&texts[0], &texts[3]] {
+    let replies = code(&source(REPLIES));
+    assert_eq!(calls(&replies), 1);
+    for text in [&texts[0], &texts[3], &replies] {
         let (ahead, _) = text.split_once("while ").expect("the call's loop");
         assert!(ahead.contains("Cursor::at(first)"));
     }
@@ -147,7 +153,7 @@ fn the_input_is_read_under_the_cursor_alone() {
             .into_string()
             .expect("its name");
         all += 1;
-        if name != WRITER && source(&name).contains("Cursor") {
+        if ![WRITER, REPLIES].contains(&name.as_str()) && source(&name).contains("Cursor") {
             cursors.push(name);
         }
     }
@@ -155,7 +161,7 @@ fn the_input_is_read_under_the_cursor_alone() {
     assert!(all > 20);
     assert_eq!(cursors, CRATES);
     assert_eq!(code(&source("bits")).matches("input[").count(), 1);
-    for name in ["acceptance", "stretches", "taking"] {
+    for name in ["acceptance", "stretches", "taking", REPLIES] {
         let code = code(&source(name));
         let lent = lent_to(&code);
         assert!(!lent.is_empty(), "{name}");

@@ -10,6 +10,7 @@ mod function {
     pub const RECORD_LINE: u64 = 6;
     pub const ACCEPT: u64 = 7;
     pub const COMPOSE: u64 = 8;
+    pub const REPLY: u64 = 9;
 }
 
 /// A call with all that it lends.
@@ -40,6 +41,7 @@ pub enum Call {
         count: u64,
     },
     Compose(Compose),
+    Reply(ReadReply),
 }
 
 #[derive(Clone, Debug)]
@@ -51,6 +53,15 @@ pub struct Compose {
     pub orders: Vec<u64>,
     pub frames: Vec<u8>,
     pub output: Vec<u8>,
+}
+
+#[derive(Clone, Debug)]
+pub struct ReadReply {
+    pub input: Vec<u8>,
+    pub first: u64,
+    pub count: u64,
+    pub expected: u64,
+    pub buffer: Vec<u8>,
 }
 
 #[derive(Clone, Debug)]
@@ -105,6 +116,7 @@ impl Call {
             Call::Compose(compose) => {
                 compose.orders.is_empty() || compose.frames.is_empty() || compose.output.is_empty()
             }
+            Call::Reply(reply) => reply.input.is_empty() || reply.buffer.is_empty(),
         }
     }
 
@@ -156,6 +168,12 @@ impl Call {
                 request.words(&[*first, *count]);
             }
             Call::Compose(compose) => request.compose(compose),
+            Call::Reply(reply) => {
+                request.words(&[function::REPLY]);
+                request.bytes_slice(&reply.input);
+                request.words(&[reply.first, reply.count, reply.expected]);
+                request.bytes_slice(&reply.buffer);
+            }
         }
         request.bytes
     }

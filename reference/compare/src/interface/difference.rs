@@ -52,6 +52,7 @@ fn buffers(call: &Call) -> Vec<Buffer> {
         Call::HexLine { bytes, .. } => vec![Buffer::bytes("bytes", bytes)],
         Call::RecordLine { line, .. } => vec![Buffer::bytes("line", line)],
         Call::Compose(compose) => vec![Buffer::bytes("output", &compose.output)],
+        Call::Reply(reply) => vec![Buffer::bytes("buffer", &reply.buffer)],
     }
 }
 

@@ -1,14 +1,15 @@
 //! What is expected of a call, by the separate reader.
 
-use super::call::{Call, Compose, Open, Take};
+use super::call::{Call, Compose, Open, ReadReply, Take};
 use super::image::{image, state, unspecified_places};
 use super::layout::{
-    verdict, DONE, FRAME, IMAGE_WORDS, LINE_BYTES, LIST_FULL, OK, RECORD_LINE_BYTES, RESULT_WORDS,
-    UNSOUND, WRONG_BUFFERS, WRONG_PLAN,
+    reply, verdict, CUT_SHORT, DONE, FRAME, IMAGE_WORDS, LINE_BYTES, LIST_FULL, NO_HEADER, OK,
+    RECORD_LINE_BYTES, RESULT_WORDS, UNSOUND, WHOLE, WRONG_BUFFERS, WRONG_PLAN,
 };
 use reader::listing::push_record;
 use reader::{
-    accept, compose, frame_part, hex_line, open, sound, take, Ending, Plan, Record, State,
+    accept, compose, frame_part, hex_line, open, read_reply, sound, take, Ending, Plan, Record,
+    Reply, State,
 };
 
 #[derive(Clone, Debug)]
@@ -39,6 +40,7 @@ pub fn expected(call: &Call) -> Expected {
             count,
         } => accepting(input, *first, *count),
         Call::Compose(after) => composing(after),
+        Call::Reply(after) => replying(after),
     };
     Expected {
         answer,
@@ -134,6 +136,22 @@ fn composing(call: &mut Compose) -> u64 {
     match compose(plan, &call.orders, &call.frames, &mut call.output) {
         Ok(bits) => verdict(OK, bits),
         Err(why) => verdict(why.number().into(), why.order()),
+    }
+}
+
+fn replying(call: &mut ReadReply) -> u64 {
+    let ReadReply {
+        input,
+        first,
+        count,
+        expected,
+        buffer,
+    } = call;
+    match read_reply(input, *first, *count, *expected, buffer) {
+        Ok(Reply::Whole) => reply(WHOLE, *expected),
+        Ok(Reply::NoHeader) => reply(NO_HEADER, 0),
+        Ok(Reply::CutShort(bits)) => reply(CUT_SHORT, bits),
+        Err(why) => why.number().into(),
     }
 }
 

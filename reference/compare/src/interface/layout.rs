@@ -8,6 +8,8 @@ pub const RECORD_LINE_BYTES: usize = 28;
 pub const LINE_BYTES: usize = 32;
 pub const INPUT_BYTES: usize = 1_048_576;
 pub const ORDER_WORDS: usize = 6;
+pub const REPLY_DATA_BITS: u64 = 8_191;
+pub const REPLY_BYTES: usize = 1_024;
 /// Layout 1 had a group's first bit in the place of its bits; layout 2 had no
 /// earlier record.
 pub const LAYOUT: u64 = 3;
@@ -31,12 +33,25 @@ pub const STREAM_TOO_LONG: u64 = 11;
 pub const UNKNOWN_PATTERN: u64 = 13;
 pub const CUT_PATTERN: u64 = 14;
 pub const PATTERN_TOO_CLOSE: u64 = 15;
+pub const WRONG_BIT_COUNT: u64 = 18;
+pub const BUFFER_TOO_SMALL: u64 = 19;
 
 /// The answer for a stream: the refusal number and the place of the first bit
 /// of the pattern at fault; both 0 if it is accepted. For orders: the refusal
 /// number and the order at fault, or the count of bits composed.
 pub fn verdict(number: u64, place: u64) -> u64 {
     place << 8 | number
+}
+
+/// What is said of a reply.
+pub const WHOLE: u64 = 0;
+pub const NO_HEADER: u64 = 1;
+pub const CUT_SHORT: u64 = 2;
+
+/// The answer for a reply that is not refused: what is said of it, and how many
+/// bits are complete. A refusal is its number alone.
+pub fn reply(said: u64, complete: u64) -> u64 {
+    complete << 16 | said << 8
 }
 
 /// How a taking call ended, by its result.

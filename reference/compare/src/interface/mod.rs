@@ -26,6 +26,7 @@ pub mod opening;
 pub mod precedence;
 pub mod prefilled;
 pub mod registers;
+pub mod replies;
 pub mod soundness;
 pub mod states;
 pub mod streams;
@@ -53,6 +54,7 @@ pub fn compare(driver: &Path, tally: &mut Tally) -> io::Result<()> {
         streams::check(checker)?;
         large::check(checker)?;
         accepting::check(checker)?;
-        composing::check(checker)
+        composing::check(checker)?;
+        replies::check(checker)
     })
 }
