@@ -12,17 +12,17 @@ use borrow.Author.Tests.{le-leb, lt-leb, eqb-true, eqb-false, ltb-true, ltb-fals
 use Rattle.bits.specs.Bits.{bitsOf}
 use Rattle.bits.specs.Range.{rangeFits}
 use Rattle.bits.proofs.Truth.{holds-true, either, neither, not-both}
-use Rattle.replies.specs.declared.Reply.the-variants.{WrongCount, WrongBuffer, WrongRange}
-use Rattle.replies.specs.Replies.{mostBits, countFits, replyResult, readOf, replyOf}
+use Rattle.replies.specs.declared.Reply.the-variants.{WrongExpected, WrongBuffer, WrongRange}
+use Rattle.replies.specs.Replies.{mostBits, expectedFits, replyResult, readOf, replyOf}
 
 -- The test of the count.
-pub count-fits : (expected : ℕ) → (eqb expected 0 || ltb mostBits expected) ≡ false → (1 ≤ expected) × (expected ≤ mostBits)
-count-fits expected e =
+pub expected-fits : (expected : ℕ) → (eqb expected 0 || ltb mostBits expected) ≡ false → (1 ≤ expected) × (expected ≤ mostBits)
+expected-fits expected e =
     let n = neither (eqb expected 0) (ltb mostBits expected) e in
     let some = eqb-false expected 0 (n .0) in
     (omega (arith, some), ltb-false mostBits expected (n .1))
 
-misfit : (expected : ℕ) → (eqb expected 0 || ltb mostBits expected) ≡ true → countFits expected ≡ false
+misfit : (expected : ℕ) → (eqb expected 0 || ltb mostBits expected) ≡ true → expectedFits expected ≡ false
 misfit expected e =
     not-both (leb 1 expected) (leb expected mostBits)
     (λ t.
@@ -30,9 +30,9 @@ misfit expected e =
     (λ m. lt-leb expected mostBits (ltb-true mostBits expected m)) (either (eqb expected 0) (ltb mostBits expected) e))
 
 module _ (input : List ℕ) (first count expected : ℕ) (buffer : List ℕ) where
-  pub wrong-count : (eqb expected 0 || ltb mostBits expected) ≡ true → replyResult WrongCount buffer ≡ replyOf input first count expected buffer
+  pub wrong-expected : (eqb expected 0 || ltb mostBits expected) ≡ true → replyResult WrongExpected buffer ≡ replyOf input first count expected buffer
   unfolding replyOf
-  wrong-count e = rw (misfit expected e)
+  wrong-expected e = rw (misfit expected e)
 
   module _ (some : 1 ≤ expected) (most : expected ≤ mostBits) where
     pub wrong-buffer : length buffer < (expected + 7) / 8 → replyResult WrongBuffer buffer ≡ replyOf input first count expected buffer

@@ -31,7 +31,7 @@ resultOf r = replyResult (saidOf (r .reception)) (r .buffer)
 
 -- Behind the header, so many cycles of the expected ones.
 abbrev pub behindAt : ℕ → ℕ → ℕ → ℕ → Reception
-behindAt expected window group cycles = record { expected = expected; window = window; found = true; group = group; cycles = cycles }
+behindAt total window group cycles = record { total = total; window = window; found = true; group = group; cycles = cycles }
 
 -- Bits ahead of a group's eighth.
 module _ (n window k : ℕ) (more : k < n) (buffer : List ℕ) where

@@ -45,7 +45,7 @@ none-in-few (bit ∷ bits) h = rw (too-short header (bit ∷ bits) h) (none-in-f
 
 -- Ahead of the header, with so many bits expected, or with its last bit.
 abbrev hunting : ℕ → ℕ → Bool → Reception
-hunting n window found = record { expected = 8 * n; window = window; found = found; group = 0; cycles = 0 }
+hunting n window found = record { total = 8 * n; window = window; found = found; group = 0; cycles = 0 }
 
 -- What is said of a window and the bits that come is what is said of the window's last four bits and those.
 abbrev Said : ℕ → List ℕ → ℕ → List ℕ → Type 0

@@ -65,7 +65,7 @@ module _ (s : Reception) (buffer : List ℕ) (bit : ℕ) (f : Fits s) (e : isWho
   further found group = record {
     most = f .most;
     within =
-        let other : s .cycles ≡ s .expected → ⊥ = λ same. clash (eq-eqb (s .cycles) (s .expected) same) (rw found at e) in
+        let other : s .cycles ≡ s .total → ⊥ = λ same. clash (eq-eqb (s .cycles) (s .total) same) (rw found at e) in
         let l = f .within in
         omega (arith, other, l);
   }

@@ -12,7 +12,7 @@ use Rattle.bits.specs.Bits.{bitsOf}
 use Rattle.bits.specs.Range.{rangeFits}
 use Rattle.bits.proofs.Truth.{both, choice}
 use Rattle.replies.specs.declared.Reply.{Reply}
-use Rattle.replies.specs.Replies.{Behind, nowhere, behind, behindHeader, completeOf, ReplyResult, resultBy, mostBits, countFits, replyOf, replyBits}
+use Rattle.replies.specs.Replies.{Behind, nowhere, behind, behindHeader, completeOf, ReplyResult, resultBy, mostBits, expectedFits, replyOf, replyBits}
 
 complete-most : (expected : ℕ) (cycles : List ℕ) → completeOf expected cycles ≤ expected
 complete-most expected cycles =
@@ -29,7 +29,7 @@ said-most expected buffer (behind cycles) =
 pub bits-most : (input : List ℕ) (first count expected : ℕ) (buffer : List ℕ) → replyBits expected (replyOf input first count expected buffer .reply) ≤ mostBits
 unfolding replyOf
 bits-most input first count expected buffer =
-    choice (λ (r : ReplyResult). replyBits expected (r .reply) ≤ mostBits) (countFits expected)
+    choice (λ (r : ReplyResult). replyBits expected (r .reply) ≤ mostBits) (expectedFits expected)
     (λ e.
     let most = leb-true expected mostBits (both (leb 1 expected) (leb expected mostBits) e .1) in
     choice (λ (r : ReplyResult). replyBits expected (r .reply) ≤ mostBits) (leb expected (8 * length buffer))

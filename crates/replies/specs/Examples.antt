@@ -4,7 +4,7 @@ use mathlib.Core.Path.{_≡_}
 use mathlib.Core.List.{List, [], _∷_, map}
 use Prim.Native.Nat.{ℕ}
 use Rattle.replies.specs.declared.Reply.{Reply}
-use Rattle.replies.specs.declared.Reply.the-variants.{Whole, NoHeader, CutShort, WrongCount, WrongBuffer, WrongRange}
+use Rattle.replies.specs.declared.Reply.the-variants.{Whole, NoHeader, CutShort, WrongExpected, WrongBuffer, WrongRange}
 use Rattle.replies.specs.Replies.{ReplyResult, replyResult, replyOf}
 
 pub record ReplyRow : Type 0 where
@@ -57,8 +57,8 @@ replyTable =
     ∷ row (0xEF ∷ 0x80 ∷ 0x78 ∷ []) 0 21 2 (0x00 ∷ []) Whole (0x80 ∷ [])
     ∷ row (0xE8 ∷ 0xFF ∷ 0x00 ∷ []) 0 21 2 (0xFF ∷ []) Whole (0x80 ∷ [])
     -- refused: 18, then 19, then 5
-    ∷ row oneZero 0 25 0 [] WrongCount []
-    ∷ row oneZero 0 25 8192 [] WrongCount []
+    ∷ row oneZero 0 25 0 [] WrongExpected []
+    ∷ row oneZero 0 25 8192 [] WrongExpected []
     ∷ row oneZero 0 25 8191 [] WrongBuffer []
     ∷ row oneZero 0 25 9 (0xFF ∷ []) WrongBuffer (0xFF ∷ [])
     ∷ row oneZero 0 25 8 (0xFF ∷ []) WrongRange (0xFF ∷ [])

@@ -22,20 +22,20 @@ abbrev pub received : Reception → List ℕ → Received
 received s buffer = record { reception = s; buffer = buffer }
 
 abbrev pub start : ℕ → Reception
-start bits = record { expected = 8 * bits; window = 0; found = false; group = 0; cycles = 0 }
+start bits = record { total = 8 * bits; window = 0; found = false; group = 0; cycles = 0 }
 
 abbrev pub isWhole : Reception → Bool
-isWhole s = s .found && eqb (s .cycles) (s .expected)
+isWhole s = s .found && eqb (s .cycles) (s .total)
 
 -- Ahead of the header.
 abbrev pub huntedOf : Reception → ℕ → Reception
 huntedOf s bit =
     let window = shifted 5 (s .window) bit in
-    record { expected = s .expected; window = window; found = eqb window 0b11101; group = 0; cycles = 0 }
+    record { total = s .total; window = window; found = eqb window 0b11101; group = 0; cycles = 0 }
 
 -- Behind it, with what is held of a group then.
 abbrev pub onwards : Reception → ℕ → Reception
-onwards s group = record { expected = s .expected; window = s .window; found = true; group = group; cycles = s .cycles + 1 }
+onwards s group = record { total = s .total; window = s .window; found = true; group = group; cycles = s .cycles + 1 }
 
 -- The eighth cycle of a group decides its bit.
 abbrev pub countedOf : Received → ℕ → Received
@@ -56,9 +56,9 @@ afterOf r (bit ∷ bits) = cond (isWhole (r .reception)) r (afterOf (stepOf r bi
 
 -- What is said if the line ends here.
 abbrev pub saidOf : Reception → Reply
-saidOf s = cond (s .found) (cond (eqb (s .cycles) (s .expected)) Whole (CutShort (s .cycles / 8))) NoHeader
+saidOf s = cond (s .found) (cond (eqb (s .cycles) (s .total)) Whole (CutShort (s .cycles / 8))) NoHeader
 
 -- What each reception has.
 pub record Fits (s : Reception) : Type 0 where
-  pub most : s .expected ≤ 8 * mostBits
-  pub within : s .cycles ≤ s .expected
+  pub most : s .total ≤ 8 * mostBits
+  pub within : s .cycles ≤ s .total

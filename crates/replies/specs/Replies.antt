@@ -10,7 +10,7 @@ use Rattle.bits.specs.Range.{rangeFits}
 use Rattle.groups.specs.Vote.{votesOf}
 use Rattle.frames.specs.Tray.{filledOf}
 use Rattle.replies.specs.declared.Reply.{Reply}
-use Rattle.replies.specs.declared.Reply.the-variants.{Whole, NoHeader, CutShort, WrongCount, WrongBuffer, WrongRange}
+use Rattle.replies.specs.declared.Reply.the-variants.{Whole, NoHeader, CutShort, WrongExpected, WrongBuffer, WrongRange}
 
 -- "the header 11101, one cycle a bit".
 abbrev pub header : List ℕ
@@ -56,7 +56,7 @@ abbrev pub resultBy : ℕ → List ℕ → Behind → ReplyResult
 resultBy expected buffer nowhere = replyResult NoHeader buffer
 resultBy expected buffer (behind cycles) = dataResult expected buffer cycles
 
--- The bits of the line as they came.
+-- What is read of the bits of a range.
 abbrev pub readOf : ℕ → List ℕ → List ℕ → ReplyResult
 readOf expected buffer bits = resultBy expected buffer (behindHeader bits)
 
@@ -64,24 +64,24 @@ readOf expected buffer bits = resultBy expected buffer (behindHeader bits)
 abbrev pub mostBits : ℕ
 mostBits = 8191
 
-abbrev pub countFits : ℕ → Bool
-countFits expected = leb 1 expected && leb expected mostBits
+abbrev pub expectedFits : ℕ → Bool
+expectedFits expected = leb 1 expected && leb expected mostBits
 
 -- "Errors: 18 .., then 19 when the buffer cannot hold them, then number 5." "a refusal changes no byte".
 unfoldable pub replyOf : List ℕ → ℕ → ℕ → ℕ → List ℕ → ReplyResult
 replyOf input first count expected buffer =
-    cond (countFits expected)
+    cond (expectedFits expected)
     (cond (leb expected (8 * length buffer))
     (cond (rangeFits (length input) first count) (readOf expected buffer (bitsOf input first count)) (replyResult WrongRange buffer))
     (replyResult WrongBuffer buffer))
-    (replyResult WrongCount buffer)
+    (replyResult WrongExpected buffer)
 
 -- The refusal number, 0 for none.
 abbrev pub replyNumber : Reply → ℕ
 replyNumber Whole = 0
 replyNumber NoHeader = 0
 replyNumber (CutShort bits) = 0
-replyNumber WrongCount = 18
+replyNumber WrongExpected = 18
 replyNumber WrongBuffer = 19
 replyNumber WrongRange = 5
 
@@ -90,7 +90,7 @@ abbrev pub replyVerdict : Reply → ℕ
 replyVerdict Whole = 0
 replyVerdict NoHeader = 1
 replyVerdict (CutShort bits) = 2
-replyVerdict WrongCount = 0
+replyVerdict WrongExpected = 0
 replyVerdict WrongBuffer = 0
 replyVerdict WrongRange = 0
 
@@ -99,6 +99,6 @@ abbrev pub replyBits : ℕ → Reply → ℕ
 replyBits expected Whole = expected
 replyBits expected NoHeader = 0
 replyBits expected (CutShort bits) = bits
-replyBits expected WrongCount = 0
+replyBits expected WrongExpected = 0
 replyBits expected WrongBuffer = 0
 replyBits expected WrongRange = 0

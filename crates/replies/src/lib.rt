@@ -14,7 +14,7 @@ pub enum Reply {
     Whole,
     NoHeader,
     CutShort { bits: u32 },
-    WrongCount,
+    WrongExpected,
     WrongBuffer,
     WrongRange,
 }
@@ -33,7 +33,7 @@ impl Reply {
             Reply::Whole => 0,
             Reply::NoHeader => 0,
             Reply::CutShort { bits } => 0,
-            Reply::WrongCount => 18,
+            Reply::WrongExpected => 18,
             Reply::WrongBuffer => 19,
             Reply::WrongRange => 5,
         }
@@ -47,7 +47,7 @@ impl Reply {
             Reply::Whole => 0,
             Reply::NoHeader => 1,
             Reply::CutShort { bits } => 2,
-            Reply::WrongCount => 0,
+            Reply::WrongExpected => 0,
             Reply::WrongBuffer => 0,
             Reply::WrongRange => 0,
         }
@@ -61,7 +61,7 @@ impl Reply {
             Reply::Whole => expected,
             Reply::NoHeader => 0,
             Reply::CutShort { bits } => bits as u64,
-            Reply::WrongCount => 0,
+            Reply::WrongExpected => 0,
             Reply::WrongBuffer => 0,
             Reply::WrongRange => 0,
         }
@@ -70,12 +70,12 @@ impl Reply {
 
 // A reply under way.
 pub struct Reception {
-    // The cycles of the data bits that are expected.
-    pub expected: u32,
+    // The cycles of all data bits that are expected.
+    pub total: u32,
     // The last five bits, the latest lowest, up to the header; and whether it has come.
     pub window: u8,
     pub found: bool,
-    // The last eight bits behind it, the latest lowest, and how many came, up to those expected.
+    // What is held of an unfinished group behind it, and how many cycles came there.
     pub group: u8,
     pub cycles: u32,
 }
@@ -87,7 +87,7 @@ impl Reception {
         ensures { λ r. ⌜ r ≡ start bits ⌝ }
     {
         Reception {
-            expected: 8 * bits,
+            total: 8 * bits,
             window: 0,
             found: false,
             group: 0,
@@ -99,17 +99,17 @@ impl Reception {
     pub fn is_whole(self) -> bool
         ensures { λ r. ⌜ r ≡ isWhole self ⌝ }
     {
-        self.found & (self.cycles == self.expected)
+        self.found & (self.cycles == self.total)
     }
 
-    // One bit more up to the header's last.
+    // One bit more while the header has not come.
     fn hunt(self, bit: u8) -> Reception
         requires { ⌜ bit < 2 ⌝ }
         ensures { λ r. ⌜ r ≡ huntedOf self bit ⌝ }
     {
         let window = windows::window_with(self.window, bit);
         Reception {
-            expected: self.expected,
+            total: self.total,
             window: window,
             found: window == HEADER,
             group: 0,
@@ -123,7 +123,7 @@ impl Reception {
         ensures { λ r. ⌜ r ≡ onwards self group ⌝ }
     {
         Reception {
-            expected: self.expected,
+            total: self.total,
             window: self.window,
             found: true,
             group: group,
@@ -179,7 +179,7 @@ impl Reception {
         if !self.found {
             return Reply::NoHeader;
         }
-        if self.cycles == self.expected {
+        if self.cycles == self.total {
             return Reply::Whole;
         }
         Reply::CutShort {
@@ -199,7 +199,7 @@ pub fn read_reply(
     ensures { λ r. ⌜ replyResult r (now (buffer .exit)) ≡ replyOf (now (input .entry)) first count expected (now (buffer .entry)) ⌝ }
 {
     if (expected == 0) | (MOST_BITS < expected) {
-        return Reply::WrongCount;
+        return Reply::WrongExpected;
     }
     let bits = expected as u32;
     if buffer.len() < ((bits + 7) / 8) as usize {

@@ -23,7 +23,7 @@ use Rattle.orders.specs.Streams.{repeated}
 use Rattle.orders.proofs.Packing.{bits-same}
 use Rattle.replies.specs.declared.Reply.{Reply}
 use Rattle.replies.specs.declared.Reply.the-variants.{Whole, CutShort}
-use Rattle.replies.specs.Replies.{header, Behind, nowhere, behind, behindHeader, completeOf, mostBits, countFits, ReplyResult, replyResult, replyNumber}
+use Rattle.replies.specs.Replies.{header, Behind, nowhere, behind, behindHeader, completeOf, mostBits, expectedFits, ReplyResult, replyResult, replyNumber}
 use Rattle.replies.specs.Replies.{resultBy, readOf, replyOf}
 use Rattle.replies.specs.Sent.{invertedIn, FoundAt, Sent}
 use Rattle.replies.proofs.Sent.{found-at, sent-binary, sent-read}
@@ -40,7 +40,7 @@ none-row : (expected : ℕ) → not (leb 1 expected) ≡ eqb expected 0
 none-row zero = refl
 none-row (suc n) = ap not (le-leb 1 (suc n) (omega arith)) ∙ sym (ne-eqb (suc n) 0 (λ e. omega arith))
 
-count-row : (expected : ℕ) → not (countFits expected) ≡ (eqb expected 0 || ltb mostBits expected)
+count-row : (expected : ℕ) → not (expectedFits expected) ≡ (eqb expected 0 || ltb mostBits expected)
 count-row expected =
     not-and (leb 1 expected) (leb expected mostBits) ∙ ap₂ (λ (a b : Bool). a || b) (none-row expected) (not-leb expected mostBits)
 
@@ -56,7 +56,7 @@ record ByTests (c : ReplyCall) : Type 0 where
   room : Fit c → c .expected ≤ 8 * length (c .buffer)
   reads : Fit c → resultOf c ≡ readOf (c .expected) (c .buffer) (rangeOf c)
 
-by-tests : (c : ReplyCall) (p q r : Bool) → countFits (c .expected) ≡ p → leb (c .expected) (8 * length (c .buffer)) ≡ q
+by-tests : (c : ReplyCall) (p q r : Bool) → expectedFits (c .expected) ≡ p → leb (c .expected) (8 * length (c .buffer)) ≡ q
     → rangeFits (length (c .input)) (c .first) (c .count) ≡ r → (eqb (c .expected) 0 || ltb mostBits (c .expected)) ≡ not p
     → ltb (8 * length (c .buffer)) (c .expected) ≡ not q → rangeRow (c .input) (c .first) (c .count) .applies ≡ not r → ByTests c
 unfolding replyOf
@@ -86,7 +86,7 @@ by-tests c true true true e f g e' f' g' = record {
 
 tests : (c : ReplyCall) → ByTests c
 tests c =
-    by-tests c (countFits (c .expected)) (leb (c .expected) (8 * length (c .buffer))) (rangeFits (length (c .input)) (c .first) (c .count)) refl refl refl
+    by-tests c (expectedFits (c .expected)) (leb (c .expected) (8 * length (c .buffer))) (rangeFits (length (c .input)) (c .first) (c .count)) refl refl refl
     (sym (count-row (c .expected))) (sym (not-leb (c .expected) (8 * length (c .buffer)))) (sym (range-row (c .input) (c .first) (c .count)))
 
 -- A buffer holds the bits that fill it.

@@ -17,17 +17,17 @@ use Rattle.replies.specs.Reception.{received, afterOf, Fits}
 use Rattle.replies.proofs.Kept.{start-fits}
 use Rattle.replies.proofs.Groups.{resultOf}
 use Rattle.replies.proofs.Headers.{from-start}
-use Rattle.replies.proofs.CallCases.{count-fits, wrong-count, wrong-buffer, wrong-range, read}
+use Rattle.replies.proofs.CallCases.{expected-fits, wrong-expected, wrong-buffer, wrong-range, read}
 use Rattle.replies.proofs.read_reply.Statement.{statement}
 use Rattle.replies.proofs.read_reply.Tie as tie
 use Rattle.replies.proofs.read_reply.Lts as lts
 
 returns : tie.Need-returns
-returns c = wrong-count _ _ _ _ _ (c .if1 .taken)
+returns c = wrong-expected _ _ _ _ _ (c .if1 .taken)
 
 -- Once the count was tested, and the buffer.
 fit : (e : tie.Else1) → (1 ≤ e .before .before .before .args .expected) × (e .before .before .before .args .expected ≤ mostBits)
-fit e = count-fits (e .before .before .before .args .expected) (e .if1 .left)
+fit e = expected-fits (e .before .before .before .args .expected) (e .if1 .left)
 
 cast-bits : tie.Need-cast-bits
 cast-bits c = let f = fit c in omega (arith, f)
