@@ -9,7 +9,7 @@ use Rattle.program.specs.declared.PrintOptions.{PrintOptions}
 use Rattle.program.specs.declared.RunState.{RunState}
 use Rattle.program.specs.Program.{programOf}
 use Rattle.program.specs.Turns.{Refill}
-use Rattle.runs.specs.Status.{failed, statusOf}
+use Rattle.statuses.specs.Status.{failed, statusOf}
 
 -- A read, where one is due: what it brought, and the run that received it.
 pub record Brought (s : RunState) (input : List ℕ) (r : RunState) (input′ : List ℕ) : Type 0 where
@@ -21,10 +21,6 @@ pub record Brought (s : RunState) (input : List ℕ) (r : RunState) (input′ : 
 pub record AfterRefill (s : RunState) (input : List ℕ) (r : RunState) (input′ : List ℕ) (fails : Bool) : Type 0 where
   pub came : fails ≡ false → Brought s input r input′
   pub kept : fails ≡ true → r ≡ s
-
--- The status at the end of a run: that of the refusal that ended it, unless the system failed.
-abbrev pub Finished : ℕ → ℕ → Type 0
-Finished number status = (status ≡ failed) ⊎ (status ≡ statusOf number)
 
 -- The store and the tray are those that the program leaves for some characters, and the status is that of the refusal that ends it.
 pub record RanOn (prints : PrintOptions) (status : ℕ) (store tray store′ tray′ : List ℕ) : Type 0 where

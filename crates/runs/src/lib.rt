@@ -4,21 +4,12 @@ ghost use Prim.Native.Nat.{_<_};
 ghost use lib.ListN.{length};
 ghost use Rattle.output.specs.Block.{blockLength};
 ghost use Rattle.limits.specs.Limits.{storeLength, trayLength};
-ghost use Rattle.runs.specs.Status.{IsStatus};
-ghost use Rattle.runs.specs.Runs.{AfterRefill, Finished, Ran};
+ghost use Rattle.statuses.specs.Status.{IsStatus, Finished};
+ghost use Rattle.runs.specs.Runs.{AfterRefill, Ran};
 use decoder::Decoder;
 use libc::STDOUT_FILENO;
 use program::PrintOptions;
 use program::RunState;
-
-// The exit status: the whole input, a line was refused, wrong words, the system failed.
-pub const WHOLE: u8 = 0;
-
-pub const REFUSED: u8 = 1;
-
-pub const WRONG_WORDS: u8 = 2;
-
-pub const FAILED: u8 = 3;
 
 // A run after a read, or as it was if the read failed.
 struct Refilled {
@@ -73,18 +64,18 @@ fn finish(
     let lines = state.put_state_lines(prints, store, output);
     if !posix::write_whole(STDOUT_FILENO, &output[..lines]) {
         posix::fail_output(name);
-        return FAILED;
+        return statuses::FAILED;
     }
     if !posix::close_output() {
         posix::fail_output(name);
-        return FAILED;
+        return statuses::FAILED;
     }
     if state.number == 0 {
-        return WHOLE;
+        return statuses::WHOLE;
     }
     let message = state.put_message(output);
     posix::tell(name, source, &output[..message]);
-    REFUSED
+    statuses::REFUSED
 }
 
 // A run over an input that is open: what a read brought is listed and written before the next read.
@@ -108,7 +99,7 @@ fn list(
         let refilled = refill(state, fd, &mut input);
         if refilled.failed {
             posix::fail(name, source);
-            return FAILED;
+            return statuses::FAILED;
         }
         state = refilled.state;
         let length = state.length;
@@ -123,12 +114,12 @@ fn list(
         let filled = state.filled;
         if !posix::write_whole(STDOUT_FILENO, &output[..filled]) {
             posix::fail_output(name);
-            return FAILED;
+            return statuses::FAILED;
         }
         state.filled = 0;
     }
     if !state.over {
-        return FAILED;
+        return statuses::FAILED;
     }
     finish(name, source, state, prints, store, &mut output)
 }

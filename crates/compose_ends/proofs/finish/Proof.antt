@@ -1,4 +1,4 @@
--- `compose_runs::finish` meets its contract: the status is that of the refusal's number, unless a write failed.
+-- `compose_ends::finish` meets its contract: the status is that of the refusal's number, unless a write failed.
 -- Assumes nothing.
 use mathlib.Core.Logic.{inl}
 use mathlib.Core.Path.{refl, sym}
@@ -7,10 +7,10 @@ use lib.Seq.{length-take-le}
 use Rattle.output.proofs.Pieces.{put-end-within}
 use Rattle.order_messages.proofs.Lengths.{order-short}
 use Rattle.order_refusals.specs.Refusals.{messageOf}
-use Rattle.compose_runs.proofs.Statuses.{whole-status, refused-status}
+use Rattle.statuses.proofs.Finished.{whole-status, refused-status}
 use borrow.Author.Needs.{needs}
-use Rattle.compose_runs.proofs.finish.Statement.{statement}
-use Rattle.compose_runs.proofs.finish.Tie as tie
+use Rattle.compose_ends.proofs.finish.Statement.{statement}
+use Rattle.compose_ends.proofs.finish.Tie as tie
 
 write-outcome-requires : tie.Need-write-outcome-requires
 write-outcome-requires c κs = search needs

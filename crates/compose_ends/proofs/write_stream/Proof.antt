@@ -10,8 +10,8 @@ use Rattle.output.proofs.Pieces.{put-end-within}
 use Rattle.stream_lines.specs.StreamLines.{streamText, partLimit}
 use Rattle.stream_lines.proofs.Parts.{part-short}
 use borrow.Author.Needs.{needs}
-use Rattle.compose_runs.proofs.write_stream.Statement.{statement}
-use Rattle.compose_runs.proofs.write_stream.Tie as tie
+use Rattle.compose_ends.proofs.write_stream.Statement.{statement}
+use Rattle.compose_ends.proofs.write_stream.Tie as tie
 
 abbrev Inv-loop : tie.InvT-loop
 Inv-loop bytes text₀ at₀ text at = (at ≤ length bytes) × (length text ≡ blockLength)

@@ -9,8 +9,8 @@ use Rattle.output.proofs.Pieces.{put-end-within}
 use Rattle.layout.specs.ListingLines.{refusedLine}
 use Rattle.number_lines.proofs.LineLengths.{line-length}
 use borrow.Author.Needs.{needs}
-use Rattle.compose_runs.proofs.write_outcome.Statement.{statement}
-use Rattle.compose_runs.proofs.write_outcome.Tie as tie
+use Rattle.compose_ends.proofs.write_outcome.Statement.{statement}
+use Rattle.compose_ends.proofs.write_outcome.Tie as tie
 
 slice-aggregate-write-stream : tie.Need-slice-aggregate-write-stream
 slice-aggregate-write-stream c =

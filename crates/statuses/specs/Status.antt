@@ -1,6 +1,8 @@
 -- A program's exit status (ours: document 01 has none).
 -- Assumes nothing.
 use mathlib.Core.Bool.{cond}
+use mathlib.Core.Logic.{_⊎_}
+use mathlib.Core.Path.{_≡_}
 use Prim.Native.Nat.{ℕ, _≤_}
 use lib.Dec.{eqb}
 
@@ -23,3 +25,7 @@ statusOf number = cond (eqb number 0) whole refused
 
 abbrev pub IsStatus : ℕ → Type 0
 IsStatus status = status ≤ failed
+
+-- The status at the end of a run: that of the refusal that ended it, unless the system failed.
+abbrev pub Finished : ℕ → ℕ → Type 0
+Finished number status = (status ≡ failed) ⊎ (status ≡ statusOf number)
