@@ -21,7 +21,8 @@ use Rattle.program.specs.Turns.{charactersRead, emptied, textPut}
 use Rattle.program.proofs.Standing.{over-stands}
 use Rattle.program.proofs.Turns.{BetweenReads, begins, refilled, block-written}
 use Rattle.statuses.specs.Status.{statusOf, IsStatus, Finished}
-use Rattle.runs.specs.Runs.{Brought, RanOn, Ran}
+use Rattle.run_parts.specs.Refills.{Brought}
+use Rattle.runs.specs.Runs.{RanOn, Ran}
 
 pub record UnderWay (frames : Bool) (store₀ tray₀ : List ℕ) (s : RunState) (store tray input output : List ℕ) : Type 0 where
   pub characters : List ℕ

@@ -1,4 +1,4 @@
--- `runs::finish` meets its contract: the status is that of the refusal's number, unless a write failed.
+-- `run_parts::finish` meets its contract: the status is that of the refusal's number, unless a write failed.
 -- Assumes nothing.
 use mathlib.Core.Logic.{inl, inr}
 use mathlib.Core.Path.{refl, sym, _∙_}
@@ -11,8 +11,8 @@ use Rattle.program.specs.Listing.{stateLines}
 use Rattle.program.specs.RunState.{messageOf}
 use Rattle.program.proofs.StateLines.{state-lines-fit}
 use Rattle.messages.proofs.Lengths.{sentence-short}
-use Rattle.runs.proofs.finish.Statement.{statement}
-use Rattle.runs.proofs.finish.Tie as tie
+use Rattle.run_parts.proofs.finish.Statement.{statement}
+use Rattle.run_parts.proofs.finish.Tie as tie
 
 -- The places that the proofs look back to, each by one after it: the start, the lines of the state, that a line is refused.
 abbrev start : tie.After-put-state-lines → tie.Start

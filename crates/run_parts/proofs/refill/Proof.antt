@@ -1,4 +1,4 @@
--- `runs::refill` meets its contract, by whether a read is due and whether the input has ended.
+-- `run_parts::refill` meets its contract, by whether a read is due and whether the input has ended.
 -- Assumes nothing.
 use mathlib.Core.Bool.{true, false}
 use mathlib.Core.List.{List}
@@ -11,9 +11,9 @@ use Rattle.bits.proofs.Truth.{clash}
 use Rattle.program.specs.declared.RunState.{RunState}
 use Rattle.program.specs.RunState.{wantsInput}
 use Rattle.program.specs.Turns.{Refill}
-use Rattle.runs.specs.Runs.{AfterRefill}
-use Rattle.runs.proofs.refill.Statement.{statement}
-use Rattle.runs.proofs.refill.Tie as tie
+use Rattle.run_parts.specs.Refills.{AfterRefill}
+use Rattle.run_parts.proofs.refill.Statement.{statement}
+use Rattle.run_parts.proofs.refill.Tie as tie
 
 -- The places that the proofs look back to: the start, and the branch where a read is due.
 abbrev start : tie.After-wants-input → tie.Start
