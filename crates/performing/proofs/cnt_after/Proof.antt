@@ -1,8 +1,8 @@
 -- `cnt_after` reads CNT anew after a Slow alone.
 -- Assumes nothing.
 use borrow.Author.Needs.{needs}
-use Rattle.calls.proofs.cnt_after.Statement.{statement}
-use Rattle.calls.proofs.cnt_after.Tie as tie
+use Rattle.performing.proofs.cnt_after.Statement.{statement}
+use Rattle.performing.proofs.cnt_after.Tie as tie
 
 enum-told : tie.Need-enum-told
 enum-told c = search needs

@@ -1,8 +1,8 @@
 -- `write_record` stores a record's two words.
 -- Assumes nothing.
 use borrow.Author.Needs.{needs}
-use Rattle.calls.proofs.write_record.Statement.{statement}
-use Rattle.calls.proofs.write_record.Tie as tie
+use Rattle.performing.proofs.write_record.Statement.{statement}
+use Rattle.performing.proofs.write_record.Tie as tie
 
 head-requires : tie.Need-head-requires
 head-requires c κs = search needs

@@ -16,7 +16,7 @@ use Rattle.records.specs.Records.{headOf, isFrameHead}
 use Rattle.controller.specs.Commands.{Effect, actOf}
 use Rattle.timing.specs.declared.Earlier.{Earlier}
 use Rattle.timing.specs.TooClose.{earlierOf, flaggedCycle}
-use Rattle.calls.specs.declared.Performed.{Performed}
+use Rattle.performing.specs.declared.Performed.{Performed}
 
 -- What `perform` answers, and the store's and the list's later contents.
 pub record PerformResult : Type 0 where

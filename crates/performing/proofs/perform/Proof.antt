@@ -7,10 +7,10 @@ use borrow.Author.Needs.{needs}
 use lib.ListN.{length-take, length-drop}
 use Rattle.limits.specs.Limits.{clockLimit}
 use Rattle.registers.specs.Registers.{cntOf}
-use Rattle.calls.proofs.PerformCases.{with-stamp, present-cnt, silently, recorded}
-use Rattle.calls.proofs.LoopInvariant.{two-put}
-use Rattle.calls.proofs.perform.Statement.{statement}
-use Rattle.calls.proofs.perform.Tie as tie
+use Rattle.performing.proofs.PerformCases.{with-stamp, present-cnt, silently, recorded}
+use Rattle.performing.proofs.ListParts.{two-put}
+use Rattle.performing.proofs.perform.Statement.{statement}
+use Rattle.performing.proofs.perform.Tie as tie
 
 -- The places that the proofs look back to, each by the one after it: the call, after the request's effect, after its CNT, after its record is found.
 abbrev called : tie.After-act → tie.Start

@@ -20,8 +20,8 @@ use Rattle.controller.proofs.RecordStamps.{Stamp, record-stamp}
 use Rattle.controller.proofs.EffectKeeps.{after, cnt-kept}
 use Rattle.timing.specs.declared.Earlier.{Earlier}
 use Rattle.timing.specs.TooClose.{earlierOf, flagged}
-use Rattle.calls.specs.declared.Performed.{Performed}
-use Rattle.calls.specs.Perform.{performResult, cntAfter, performOf}
+use Rattle.performing.specs.declared.Performed.{Performed}
+use Rattle.performing.specs.Perform.{performResult, cntAfter, performOf}
 
 -- Only a Slow changes CNT.
 module _ (plan : Plan) (m : Model) (time : ℕ) (store : List ℕ) where

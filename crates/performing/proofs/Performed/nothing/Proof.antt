@@ -1,8 +1,8 @@
 -- `Performed::nothing` is where a call stands at its start.
 -- Assumes nothing.
 use borrow.Author.Needs.{needs}
-use Rattle.calls.proofs.Performed.nothing.Statement.{statement}
-use Rattle.calls.proofs.Performed.nothing.Tie as tie
+use Rattle.performing.proofs.Performed.nothing.Statement.{statement}
+use Rattle.performing.proofs.Performed.nothing.Tie as tie
 
 cnt-requires : tie.Need-cnt-requires
 cnt-requires c κs = search needs
