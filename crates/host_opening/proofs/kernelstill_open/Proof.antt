@@ -11,12 +11,12 @@ use Rattle.decoder.specs.Opening.{openOf}
 use Rattle.calls.proofs.SoundnessKept.{start-sound}
 use Rattle.image_fields.specs.Image.{imageLength, imageOf, stateOf}
 use Rattle.host_plans.specs.Plans.{planOf}
-use Rattle.kernelstill.specs.Open.{openedInto, openResultOf}
-use Rattle.kernelstill.specs.Take.{Holds}
-use Rattle.kernelstill.proofs.OpenCases.{filled, no-room, no-room-refused}
-use Rattle.kernelstill.proofs.TakeCases.{holds}
-use Rattle.kernelstill.proofs.kernelstill_open.Statement.{statement}
-use Rattle.kernelstill.proofs.kernelstill_open.Tie as tie
+use Rattle.host_opening.specs.Open.{openedInto, openResultOf}
+use Rattle.host_opening.specs.Holding.{Holds}
+use Rattle.host_opening.proofs.OpenCases.{filled, no-room, no-room-refused}
+use Rattle.host_opening.proofs.Holding.{holds}
+use Rattle.host_opening.proofs.kernelstill_open.Statement.{statement}
+use Rattle.host_opening.proofs.kernelstill_open.Tie as tie
 
 -- The call, and what it asks: the plan of its four numbers.
 abbrev called : tie.After-start → tie.Start

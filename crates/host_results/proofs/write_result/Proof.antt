@@ -1,10 +1,10 @@
 -- `write_result` writes three words over three.
 -- Assumes nothing.
 use Rattle.image_words.proofs.WriteLoop.{covered}
-use Rattle.kernelstill.specs.Take.{resultWords}
+use Rattle.host_results.specs.Take.{resultWords}
 use borrow.Author.Needs.{needs}
-use Rattle.kernelstill.proofs.write_result.Statement.{statement}
-use Rattle.kernelstill.proofs.write_result.Tie as tie
+use Rattle.host_results.proofs.write_result.Statement.{statement}
+use Rattle.host_results.proofs.write_result.Tie as tie
 
 slice-write-result : tie.Need-slice-write-result
 slice-write-result c = search needs

@@ -8,7 +8,7 @@ use borrow.Author.Tests.{eq-eqb, ne-eqb}
 use Rattle.decoder.specs.declared.Opened.{Opened}
 use Rattle.decoder.specs.Opening.{openingNumber}
 use Rattle.image_fields.specs.Image.{imageLength, imageOf}
-use Rattle.kernelstill.specs.Open.{openResult, openedInto}
+use Rattle.host_opening.specs.Open.{openResult, openedInto}
 
 module _ (o : Opened) (image : List ℕ) (number : ℕ) (e : number ≡ openingNumber (o .opening)) where
   pub filled : length image ≡ imageLength → (after : List ℕ) → after ≡ imageOf (o .decoder) → openResult number after ≡ openedInto o image

@@ -5,8 +5,8 @@ use borrow.Author.Tests.{not-true, not-false}
 use Rattle.decoder.specs.Sound.{soundOf}
 use Rattle.image_fields.proofs.RoundTrip.{fits-length}
 use borrow.Author.Needs.{needs}
-use Rattle.kernelstill.proofs.sound_image.Statement.{statement}
-use Rattle.kernelstill.proofs.sound_image.Tie as tie
+use Rattle.host_opening.proofs.sound_image.Statement.{statement}
+use Rattle.host_opening.proofs.sound_image.Tie as tie
 
 fits-requires : tie.Need-fits-requires
 fits-requires c κs = search needs

@@ -1,18 +1,17 @@
 -- A taking call on an image: the call on the state that the image reads as.
 -- Assumes nothing.
-use mathlib.Core.Bool.{Bool, true, cond, _&&_}
+use mathlib.Core.Bool.{cond}
 use mathlib.Core.List.{List, [], _∷_}
-use mathlib.Core.Path.{_≡_}
 use Prim.Native.Nat.{ℕ}
 use lib.Dec.{eqb}
 use lib.ListN.{length}
 use Rattle.decoder.specs.declared.Decoder.{Decoder}
-use Rattle.decoder.specs.Sound.{soundOf}
 use Rattle.calls.specs.declared.Ending.{Ending}
 use Rattle.calls.specs.declared.Ending.the-variants.{Done, Frame, ListFull, Unsound, WrongBuffers, WrongRange, ClockOver}
 use Rattle.calls.specs.declared.Report.{Report}
 use Rattle.calls.specs.Take.{Call, CallResult, takeOf, endingNumber}
-use Rattle.image_fields.specs.Image.{imageOf, stateOf, imageFits}
+use Rattle.image_fields.specs.Image.{imageOf, stateOf}
+use Rattle.host_opening.specs.Holding.{soundImage}
 
 -- A refusal number, 0 for none, and each buffer's later contents.
 pub record TakeResult : Type 0 where
@@ -56,10 +55,6 @@ answered image result l =
     takeResult number (cond fit (imageOf (l .taken .decoder)) image) (cond fit (resultWords (l .taken .report)) result)
     (l .store) (l .tray) (l .list)
 
--- Number 3 does not apply: the words are the image of a sound state.
-abbrev pub soundImage : List ℕ → Bool
-soundImage image = imageFits image && soundOf (stateOf image)
-
 -- Number 3 also for an image that is malformed, number 4 also where the result has no three words. The call on the state is a parameter here, so that a
 -- promise can speak of another.
 abbrev pub takeResultBy : (Decoder → Call → CallResult) → List ℕ → List ℕ → Call → TakeResult
@@ -72,8 +67,3 @@ takeResultBy take image result c =
 -- On the taking call.
 unfoldable pub takeResultOf : List ℕ → List ℕ → Call → TakeResult
 takeResultOf = takeResultBy takeOf
-
--- The words are an image that reads as the state, and that the next call takes.
-pub record Holds (image : List ℕ) (d : Decoder) : Type 0 where
-  pub reads : stateOf image ≡ d
-  pub sound : soundImage image ≡ true

@@ -7,20 +7,16 @@ use Prim.Native.Nat.{ℕ}
 use lib.Dec.{eqb, T}
 use lib.ListN.{length}
 use borrow.Author.Tests.{eq-eqb, ne-eqb}
-use Rattle.bits.proofs.Truth.{both, holds-true}
+use Rattle.bits.proofs.Truth.{both}
 use Rattle.decoder.specs.declared.Decoder.{Decoder}
 use Rattle.decoder.specs.Sound.{soundOf}
 use Rattle.calls.specs.Take.{Call, CallResult, takeOf, endingNumber}
 use Rattle.calls.proofs.SoundnessKept.{take-sound}
 use Rattle.image_fields.specs.Image.{imageLength, imageOf, stateOf, imageFits}
-use Rattle.image_fields.proofs.RoundTrip.{fits-length, written-fits}
-use Rattle.kernelstill.specs.Take.{TakeResult, takeResult, resultLength, resultWords, refusedCall, answered, soundImage, takeResultOf, Holds}
-
--- An image that was written holds the state, if that is sound.
-pub holds : (d : Decoder) (image : List ℕ) → T (soundOf d) → length image ≡ imageLength → image ≡ imageOf d → stateOf image ≡ d → Holds image d
-holds d image sound long is back =
-    let fits = written-fits d image long is back in
-    record { reads = back; sound = rw (fits, back) (holds-true (soundOf d) sound) }
+use Rattle.image_fields.proofs.RoundTrip.{fits-length}
+use Rattle.host_opening.specs.Holding.{soundImage, Holds}
+use Rattle.host_opening.proofs.Holding.{holds}
+use Rattle.host_results.specs.Take.{TakeResult, takeResult, resultLength, resultWords, refusedCall, answered, takeResultOf}
 
 pub sound-length : (image : List ℕ) → soundImage image ≡ true → length image ≡ imageLength
 sound-length image e = fits-length image (both (imageFits image) _ e .0)
