@@ -3,7 +3,6 @@ pub mod RunEndings
 pub mod CallLists
 pub mod Refusals
 pub mod RunStretch
-pub mod PerformCases
 pub mod LoopInvariant
 pub mod SlowSteps
 pub mod SoundnessKept

@@ -2,13 +2,13 @@
 -- Assumes nothing.
 use mathlib.Core.Path.{_≡_, _∙_, refl, sym, ap}
 use mathlib.Core.Bool.{Bool, true, false, cond}
-use mathlib.Core.List.{List, _∷_, _++_}
+use mathlib.Core.List.{List, _∷_}
 use Prim.Native.Nat.{ℕ, suc, _+_, _-_, _/_, _<_, _≤_}
 use native.Mathlib.Nat.{add-zero}
 use native.Mathlib.Omega.{arith}
 use borrow.Author.Tests.{lt-ltb}
-use lib.ListN.{length, set, take, drop, length-set, length-take, length-drop, take-append-drop}
-use lib.Seq.{sets, set-append-left, take-set-le, drop-set-add}
+use lib.ListN.{length, set, drop, length-set}
+use lib.Seq.{sets}
 use Rattle.bits.specs.Bits.{bitOf, bitsOf}
 use Rattle.bits.proofs.BitRanges.{first-bit, drop-bits}
 pub use Rattle.bits.proofs.BitRanges.{length-bits}
@@ -36,8 +36,8 @@ use Rattle.timing.proofs.Flagged.{below-later, below-next}
 use Rattle.decoder.specs.declared.Decoder.{Decoder}
 use Rattle.calls.specs.declared.Ending.{Ending}
 use Rattle.calls.specs.declared.Ending.the-variants.{Done, Frame, ListFull}
-use Rattle.calls.specs.declared.Performed.{Performed}
-use Rattle.calls.specs.Perform.{PerformResult, performedWith, recordedAt, performOf}
+use Rattle.performing.specs.declared.Performed.{Performed}
+use Rattle.performing.specs.Perform.{PerformResult, performedWith, recordedAt, performOf}
 use Rattle.calls.specs.Run.{Run, ended, oneBit, oneRecord, afterCycle, runOf}
 use Rattle.calls.specs.Turn.{System, decoderOf, turnOf}
 use Rattle.calls.specs.Take.{Call, CallResult, result, takenWith, finished, takenOf}
@@ -96,26 +96,6 @@ initially d c h below =
 ending : (c : Call) (w : System) (e : Ending) (taken at : ℕ) (list : List ℕ)
     → answered c w taken at e list ≡ finished taken ((at - c .free) / 2) list at (ended w e)
 ending c w e taken at list = simp add-zero
-
--- a record through the part of the list that begins at its place
-pub two-put : (l : List ℕ) (at x v : ℕ) → 2 ≤ length l - at
-    → take at l ++ (set (set (take (length l - at) (drop at l)) 0 x) 1 v ++ drop (length l - at) (drop at l)) ≡ set (set l at x) (at + 1) v
-two-put l at x v h =
-    let m = take (length l - at) (drop at l) in
-    let n : 0 < length m = simp (length-take, length-drop) (omega arith) in
-    let n₁ : 1 < length (set m 0 x) = simp (length-set, length-take, length-drop) (omega arith) in
-    let left : set (set m 0 x) 1 v ++ drop (length l - at) (drop at l) ≡ set (set (drop at l) 0 x) 1 v =
-    sym (set-append-left (set m 0 x) _ 1 v n₁)
-    ∙ ap (λ (z : List ℕ). set z 1 v) (sym (set-append-left m _ 0 x n) ∙ ap (λ (z : List ℕ). set z 0 x) (take-append-drop (length l - at) (drop at l)))
-    in
-    let z : at + 0 ≡ at = add-zero at in
-    let right : drop at (set (set l at x) (at + 1) v) ≡ set (set (drop at l) 0 x) 1 v =
-    drop-set-add at (set l at x) 1 v ∙ ap (λ (y : List ℕ). set y 1 v) (rw z at (drop-set-add at l 0 x))
-    in
-    let front : take at (set (set l at x) (at + 1) v) ≡ take at l =
-    take-set-le at (set l at x) (at + 1) v (omega arith) ∙ take-set-le at l at x (omega arith)
-    in
-    rw (left, ← right, ← front) (take-append-drop at (set (set l at x) (at + 1) v))
 
 -- no room for a record: no bit is taken
 no-room : (w : System) (bit : ℕ) (bits : List ℕ) (room : ℕ) → room < 2 → runOf turnOf (bit ∷ bits) w room ≡ ended w ListFull

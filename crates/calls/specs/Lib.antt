@@ -1,5 +1,4 @@
 pub mod Run
 pub mod Turn
 pub mod Take
-pub mod Perform
 pub mod Calls

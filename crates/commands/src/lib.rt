@@ -1,6 +1,6 @@
 // The programs `station`, `reading`, `model`, `accept` and `compose` by their words.
 ghost use mathlib.Core.Path.{_≡_};
-ghost use Rattle.runs.specs.Status.{IsStatus};
+ghost use Rattle.statuses.specs.Status.{IsStatus};
 use libc::STDERR_FILENO;
 use libc::STDIN_FILENO;
 use libc::STDOUT_FILENO;
@@ -30,7 +30,7 @@ fn usage(name: &[u8]) -> u8
     posix::write_whole(STDERR_FILENO, b"usage: ");
     posix::write_whole(STDERR_FILENO, name);
     posix::write_whole(STDERR_FILENO, b" [FILE]\n");
-    runs::WRONG_WORDS
+    statuses::WRONG_WORDS
 }
 
 // One more piece of a text on standard output, if those before it are written.
@@ -47,13 +47,13 @@ fn printed(name: &[u8], whole: bool) -> u8
 {
     if !whole {
         posix::fail_output(name);
-        return runs::FAILED;
+        return statuses::FAILED;
     }
     if !posix::close_output() {
         posix::fail_output(name);
-        return runs::FAILED;
+        return statuses::FAILED;
     }
-    runs::WHOLE
+    statuses::WHOLE
 }
 
 // `takes`, `prints` and `told` are what the program reads, what it prints, and the exit status of an input that was read.
@@ -106,7 +106,7 @@ fn run_word(name: &[u8], takes: &[u8], prints: &[u8], told: &[u8], word: &[u8], 
     let fd = os::open_read(word);
     if fd < 0 {
         posix::fail(name, word);
-        return runs::FAILED;
+        return statuses::FAILED;
     }
     run_input(name, word, fd, task)
 }
@@ -129,7 +129,7 @@ fn run(name: &[u8], takes: &[u8], prints: &[u8], told: &[u8], task: Task) -> u8
     let n = os::arg(1, &mut word);
     if os::errno() != 0 {
         posix::fail(name, b"argument");
-        return runs::FAILED;
+        return statuses::FAILED;
     }
     run_word(name, takes, prints, told, &word[..n], task)
 }

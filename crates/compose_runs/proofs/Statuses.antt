@@ -7,7 +7,6 @@ use Prim.Native.Nat.{ℕ, _≤_}
 use native.Mathlib.Omega.{arith}
 use lib.Dec.{eqb}
 use lib.ListN.{length, replicate, length-replicate}
-use borrow.Author.Tests.{eq-eqb, ne-eqb}
 use Rattle.bits.proofs.Truth.{cond-most}
 use Rattle.output.specs.Block.{blockLength}
 use Rattle.text_words.specs.Words.{lineLimit}
@@ -19,16 +18,8 @@ use Rattle.order_texts.specs.Composed.{composedOf}
 use Rattle.line_ends.specs.LineEnds.{Lent}
 use Rattle.order_texts.specs.Running.{ComposesBlock, EndsInput}
 use Rattle.order_texts.proofs.Standing.{Stands, start-stands, block-stands, end-stands}
-use Rattle.runs.specs.Status.{statusOf, IsStatus}
-use Rattle.runs.specs.Runs.{Finished}
+use Rattle.statuses.specs.Status.{statusOf, IsStatus, Finished}
 use Rattle.compose_runs.specs.Runs.{ComposedOn, ComposedRun}
-
-module _ (number : ℕ) where
-  pub whole-status : number ≡ 0 → Finished number 0
-  whole-status z = inr (simp (eq-eqb number 0 z))
-
-  pub refused-status : (number ≡ 0 → ⊥) → Finished number 1
-  refused-status n = inr (simp (ne-eqb number 0 n))
 
 -- Of a run that stands for the characters it read.
 pub composed-run : {characters buffer out now later : List ℕ} {s r : Composition} {o : Outcome} {status : ℕ} → Stands characters s buffer out

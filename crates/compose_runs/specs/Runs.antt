@@ -4,7 +4,7 @@ use mathlib.Core.List.{List}
 use mathlib.Core.Logic.{_⊎_}
 use mathlib.Core.Path.{_≡_}
 use Prim.Native.Nat.{ℕ}
-use Rattle.runs.specs.Status.{failed, statusOf}
+use Rattle.statuses.specs.Status.{failed, statusOf}
 use Rattle.order_texts.specs.Composed.{composedOf}
 
 -- The status goes by the refusal of what is composed of some characters. In the proof these are the characters that the reads brought, one after the other.

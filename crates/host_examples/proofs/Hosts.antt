@@ -16,8 +16,8 @@ use Rattle.hexlines.specs.Line.{lineMeaning, readOf, readInto}
 use Rattle.hex_digits.specs.Digits.{charactersOf}
 use Rattle.number_lines.specs.NumberLines.{numbersLine}
 use Rattle.image_fields.specs.Image.{imageOf, stateOf, imageFits}
-use Rattle.kernelstill.specs.Open.{openResultOf}
-use Rattle.kernelstill.specs.Take.{takeResultOf}
+use Rattle.host_opening.specs.Open.{openResultOf}
+use Rattle.host_results.specs.Take.{takeResultOf}
 use Rattle.host_lines.specs.Lines.{recordResultOf}
 use Rattle.host_examples.specs.HostTable.{HostImage, HostBuffers}
 use Rattle.host_examples.specs.HostExamples.{HostExamples}

@@ -4,7 +4,7 @@ use mathlib.Core.Path.{refl}
 use Rattle.registers.specs.Plan.{planFits}
 use Rattle.decoder.specs.Opening.{openOf}
 use Rattle.image_fields.specs.Image.{imageOf}
-use Rattle.kernelstill.specs.Open.{openResultOf}
+use Rattle.host_opening.specs.Open.{openResultOf}
 use Rattle.host_examples.specs.HostExamples.{OpeningExamples}
 
 pub opening-examples : OpeningExamples

@@ -12,8 +12,8 @@ use Rattle.calls.specs.Take.{call}
 use Rattle.image_fields.specs.Fields.{phaseNumber}
 use Rattle.image_fields.specs.Image.{imageOf, stateOf}
 use Rattle.output.specs.Ascii.{ascii}
-use Rattle.kernelstill.specs.Open.{openResult, openResultOf}
-use Rattle.kernelstill.specs.Take.{takeResultOf}
+use Rattle.host_opening.specs.Open.{openResult, openResultOf}
+use Rattle.host_results.specs.Take.{takeResultOf}
 use Rattle.host_lines.specs.Lines.{lineResult, hexResultOf, recordResultOf}
 use Rattle.worked_examples.specs.CommandBits.{packed, lv1, enDataTake, wrFrontEnd}
 use Rattle.worked_examples.specs.Example.{opening}

@@ -3,7 +3,7 @@
 use mathlib.Core.List.{List, [], _∷_, _++_}
 use Prim.Native.Nat.{ℕ}
 use lib.ListN.{replicate}
-use Rattle.kernelstill.specs.Open.{openResultOf}
+use Rattle.host_opening.specs.Open.{openResultOf}
 
 -- A row: mask, the addresses of CSR, FEEN and CNT, and the cycle; the refusal number; and the image that is written over 70 words of 9.
 pub record OpeningRow : Type 0 where

@@ -19,7 +19,7 @@ use Rattle.calls.specs.Calls.{allBits, allWords, stateLeft, Part, callOf, carri
 use Rattle.calls.proofs.Refusals.{buffers, unsound, wrong-buffers}
 use Rattle.image_fields.specs.Image.{imageOf, stateOf, imageFits, Widths}
 use Rattle.image_fields.proofs.RoundTrip.{image-fits, read-back}
-use Rattle.kernelstill.specs.Take.{TakeResult, resultLength, refusedCall, answered, takeResultOf}
+use Rattle.host_results.specs.Take.{TakeResult, resultLength, refusedCall, answered, takeResultOf}
 use Rattle.kernelstill.proofs.WidthsKept.{widths-kept}
 use Rattle.promises.specs.ManyHits.{made}
 use Rattle.host_promises.specs.HostCalls.{HostCall, left, told, imageBits, imageWords, imageLeft, hostMade}

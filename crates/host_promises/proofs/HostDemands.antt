@@ -23,7 +23,8 @@ use Rattle.calls.proofs.SoundnessKept.{take-sound}
 use Rattle.image_fields.specs.Image.{stateOf, imageFits, Widths}
 use Rattle.image_fields.proofs.RoundTrip.{image-fits, read-back}
 use Rattle.image_fields.proofs.WellFormed.{read-again, read-widths}
-use Rattle.kernelstill.specs.Take.{TakeResult, resultLength, answered, soundImage, takeResultOf}
+use Rattle.host_opening.specs.Holding.{soundImage}
+use Rattle.host_results.specs.Take.{TakeResult, resultLength, answered, takeResultOf}
 use Rattle.kernelstill.proofs.WidthsKept.{model-widths, widths-kept}
 use Rattle.clean_streams.specs.CleanStreams.{Item, streamBits}
 use Rattle.damage.specs.Hits.{HitCycles}

@@ -18,8 +18,9 @@ use Rattle.image_fields.proofs.InNumbers.{in-numbers}
 use Rattle.image_fields.proofs.RoundTrip.{image-fits, read-back}
 use Rattle.image_fields.proofs.WellFormed.{formed, formed-fits}
 use Rattle.host_plans.specs.Plans.{emptyPlan}
-use Rattle.kernelstill.specs.Open.{openResultOf}
-use Rattle.kernelstill.specs.Take.{TakeResult, resultLength, refusedCall, answered, soundImage, takeResultBy, takeResultOf}
+use Rattle.host_opening.specs.Open.{openResultOf}
+use Rattle.host_opening.specs.Holding.{soundImage}
+use Rattle.host_results.specs.Take.{TakeResult, resultLength, refusedCall, answered, takeResultBy, takeResultOf}
 use Rattle.host_promises.specs.Hosts.{RoundTrip, SameOpening, Unchanged, HostAsBefore, HostPromise}
 use Rattle.promises.proofs.Refusals.{first-demand}
 

@@ -13,7 +13,7 @@ use Rattle.calls.specs.Turn.{System, systemOf, turnOf}
 use Rattle.calls.specs.Take.{Call, call, offered, takenOf}
 use Rattle.calls.specs.Calls.{Part}
 use Rattle.image_fields.specs.Image.{stateOf, imageFits}
-use Rattle.kernelstill.specs.Take.{TakeResult, resultWords, takeResultOf}
+use Rattle.host_results.specs.Take.{TakeResult, resultWords, takeResultOf}
 use Rattle.clean_streams.specs.CleanStreams.{Item, streamBits}
 use Rattle.damage.specs.Hits.{HitCycles, Apart}
 use Rattle.promises.specs.Records.{Ends}

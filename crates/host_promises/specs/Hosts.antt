@@ -12,8 +12,8 @@ use Rattle.calls.specs.Take.{Call, takeWithin, takeOf}
 use Rattle.image_fields.specs.Image.{imageLength, imageOf, stateOf, imageFits, Widths, Formed}
 use Rattle.image_fields.specs.InNumbers.{LayoutInNumbers}
 use Rattle.host_plans.specs.Plans.{emptyPlan, planOf}
-use Rattle.kernelstill.specs.Open.{openResultOf}
-use Rattle.kernelstill.specs.Take.{resultLength, refusedCall, answered, takeResultBy, takeResultOf}
+use Rattle.host_opening.specs.Open.{openResultOf}
+use Rattle.host_results.specs.Take.{resultLength, refusedCall, answered, takeResultBy, takeResultOf}
 
 -- The image of a state is well-formed, and read back it is that state.
 pub record RoundTrip (d : Decoder) : Type 0 where

@@ -10,8 +10,7 @@ use lib.ListN.{length}
 use borrow.Author.Tests.{eq-eqb, ne-eqb}
 use Rattle.bits.proofs.Truth.{cond-most}
 use Rattle.output.specs.Block.{blockLength}
-use Rattle.runs.specs.Status.{failed, statusOf, IsStatus}
-use Rattle.runs.specs.Runs.{Finished}
+use Rattle.statuses.specs.Status.{failed, statusOf, IsStatus, Finished}
 use Rattle.judging.specs.declared.Judging.{Judging}
 use Rattle.judging.specs.declared.Judgement.{Judgement}
 use Rattle.judging.specs.Judgement.{judgedOf}

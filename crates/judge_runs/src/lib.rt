@@ -2,8 +2,7 @@
 ghost use mathlib.Core.Path.{_≡_};
 ghost use lib.ListN.{length};
 ghost use Rattle.output.specs.Block.{blockLength};
-ghost use Rattle.runs.specs.Status.{IsStatus};
-ghost use Rattle.runs.specs.Runs.{Finished};
+ghost use Rattle.statuses.specs.Status.{IsStatus, Finished};
 ghost use Rattle.judging.specs.Judging.{WellFormed, judgementOf};
 ghost use Rattle.judge_runs.specs.Runs.{JudgedRun};
 use judging::Judging;
@@ -18,18 +17,18 @@ fn finish(name: &[u8], source: &[u8], state: Judging, output: &mut [u8]) -> u8
     let text = judgement.put_text(output);
     if !posix::write_whole(STDOUT_FILENO, &output[..text]) {
         posix::fail_output(name);
-        return runs::FAILED;
+        return statuses::FAILED;
     }
     if !posix::close_output() {
         posix::fail_output(name);
-        return runs::FAILED;
+        return statuses::FAILED;
     }
     if judgement.number == 0 {
-        return runs::WHOLE;
+        return statuses::WHOLE;
     }
     let message = judgement.put_message(output);
     posix::tell(name, source, &output[..message]);
-    runs::REFUSED
+    statuses::REFUSED
 }
 
 // A run over an input that is open, up to its end or to a refusal.
@@ -45,14 +44,14 @@ fn judge(name: &[u8], source: &[u8], fd: i32) -> u8
         let got = posix::read_input(fd, &mut input);
         if got.failed {
             posix::fail(name, source);
-            return runs::FAILED;
+            return statuses::FAILED;
         }
         let count = got.count;
         state = state.judge_block(&input[..count]);
         ended = count == 0;
     }
     if !(state.over | ended) {
-        return runs::FAILED;
+        return statuses::FAILED;
     }
     finish(name, source, state.end_input(), &mut input)
 }

@@ -1,3 +1,1 @@
-pub mod OpenCases
-pub mod TakeCases
 pub mod WidthsKept

@@ -20,8 +20,9 @@ use Rattle.program.specs.Program.{programOf}
 use Rattle.program.specs.Turns.{charactersRead, emptied, textPut}
 use Rattle.program.proofs.Standing.{over-stands}
 use Rattle.program.proofs.Turns.{BetweenReads, begins, refilled, block-written}
-use Rattle.runs.specs.Status.{statusOf, IsStatus}
-use Rattle.runs.specs.Runs.{Brought, Finished, RanOn, Ran}
+use Rattle.statuses.specs.Status.{statusOf, IsStatus, Finished}
+use Rattle.run_parts.specs.Refills.{Brought}
+use Rattle.runs.specs.Runs.{RanOn, Ran}
 
 pub record UnderWay (frames : Bool) (store₀ tray₀ : List ℕ) (s : RunState) (store tray input output : List ℕ) : Type 0 where
   pub characters : List ℕ

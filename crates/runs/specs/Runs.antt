@@ -1,30 +1,12 @@
 -- What a run of a program leaves. No contract can name what the system reads: `characters` below are those that some reads would bring.
 -- Assumes nothing.
-use mathlib.Core.Bool.{Bool, true, false}
 use mathlib.Core.List.{List}
 use mathlib.Core.Logic.{_⊎_}
 use mathlib.Core.Path.{_≡_}
 use Prim.Native.Nat.{ℕ}
 use Rattle.program.specs.declared.PrintOptions.{PrintOptions}
-use Rattle.program.specs.declared.RunState.{RunState}
 use Rattle.program.specs.Program.{programOf}
-use Rattle.program.specs.Turns.{Refill}
-use Rattle.runs.specs.Status.{failed, statusOf}
-
--- A read, where one is due: what it brought, and the run that received it.
-pub record Brought (s : RunState) (input : List ℕ) (r : RunState) (input′ : List ℕ) : Type 0 where
-  pub got : ℕ
-  pub brought : List ℕ
-  pub refill : Refill s input got brought r input′
-
--- The run after a read, or as it was if the read failed.
-pub record AfterRefill (s : RunState) (input : List ℕ) (r : RunState) (input′ : List ℕ) (fails : Bool) : Type 0 where
-  pub came : fails ≡ false → Brought s input r input′
-  pub kept : fails ≡ true → r ≡ s
-
--- The status at the end of a run: that of the refusal that ended it, unless the system failed.
-abbrev pub Finished : ℕ → ℕ → Type 0
-Finished number status = (status ≡ failed) ⊎ (status ≡ statusOf number)
+use Rattle.statuses.specs.Status.{failed, statusOf}
 
 -- The store and the tray are those that the program leaves for some characters, and the status is that of the refusal that ends it.
 pub record RanOn (prints : PrintOptions) (status : ℕ) (store tray store′ tray′ : List ℕ) : Type 0 where

@@ -8,9 +8,9 @@ ghost use Rattle.timing.specs.TooClose.{earlierBelow};
 ghost use Rattle.calls.specs.Take.{call, result, takenOf, takeOf};
 use bits::Cursor;
 use calls::Ending;
-use calls::Performed;
 use calls::Taken;
 use decoder::Decoder;
+use performing::Performed;
 use recogniser::Request;
 
 // A call that is not refused, stretch by stretch. Arrays are touched only when a frame bit or a request asks for it.
@@ -50,7 +50,7 @@ fn run(
             continue;
         }
         let time = decoder.next + taken as u64 - 1;
-        done = calls::perform(done, plan, request, time, store, list);
+        done = performing::perform(done, plan, request, time, store, list);
         if done.stops {
             return Taken::ended(decoder, recogniser, done, taken, free, Ending::Frame);
         }

@@ -8,7 +8,7 @@ use Rattle.calls.specs.declared.Report.{Report}
 use Rattle.calls.specs.Take.{Call, call, takeOf, endingNumber}
 use Rattle.calls.specs.Calls.{wordsStanding}
 use Rattle.image_fields.specs.Image.{imageOf, stateOf}
-use Rattle.kernelstill.specs.Take.{resultWords}
+use Rattle.host_results.specs.Take.{resultWords}
 use Rattle.worked_examples.specs.Table.{Table}
 use Rattle.worked_examples.specs.CommandBits.{packed}
 use Rattle.worked_examples.specs.Cells.{Place, image-at, store-at, tray-at, Cell}

@@ -7,8 +7,8 @@ use borrow.Author.Needs.{needs}
 use borrow.Author.Tests.{not-true, not-false}
 use Rattle.decoder.specs.declared.Decoder.{Decoder}
 use Rattle.calls.specs.Take.{Call, CallResult, call, takeOf}
-use Rattle.kernelstill.specs.Take.{soundImage}
-use Rattle.kernelstill.proofs.TakeCases.{sound-length, unsound, no-result, refused, accepted, moved-on}
+use Rattle.host_opening.specs.Holding.{soundImage}
+use Rattle.host_results.proofs.TakeCases.{sound-length, unsound, no-result, refused, accepted, moved-on}
 use Rattle.kernelstill.proofs.kernelstill_take.Statement.{statement}
 use Rattle.kernelstill.proofs.kernelstill_take.Tie as tie
 

@@ -1,0 +1,2 @@
+mod OpenCases
+pub mod Holding

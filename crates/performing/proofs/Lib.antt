@@ -1,0 +1,2 @@
+mod PerformCases
+mod ListParts
