@@ -1,4 +1,4 @@
-// What a taking call is made of but for its requests: its refusals and its answer. The call itself, a loop over the bits, is in `taking`.
+// What a taking call is made of but for its requests: its refusals and its answer. The loop over the bits is in `call_loop`, the call itself in `taking`.
 ghost use mathlib.Core.Path.{_≡_};
 ghost use Prim.Native.Nat.{_+_, _-_, _/_, _≤_};
 ghost use lib.ListN.{length};

@@ -1,62 +1,9 @@
 // The taking call. It asks nothing of its caller: it refuses by number.
 ghost use mathlib.Core.Path.{_≡_};
-ghost use mathlib.Core.Bool.{true};
-ghost use Prim.Native.Nat.{_+_, _*_, _≤_};
-ghost use lib.ListN.{length};
-ghost use Rattle.limits.specs.Limits.{clockLimit, storeLength, inputLimit};
-ghost use Rattle.timing.specs.TooClose.{earlierBelow};
-ghost use Rattle.calls.specs.Take.{call, result, takenOf, takeOf};
-use bits::Cursor;
+ghost use Rattle.calls.specs.Take.{call, result, takeOf};
 use calls::Ending;
 use calls::Taken;
 use decoder::Decoder;
-use performing::Performed;
-use recogniser::Request;
-
-// A call that is not refused, stretch by stretch. Arrays are touched only when a frame bit or a request asks for it.
-fn run(
-    decoder: Decoder,
-    input: &[u8],
-    first: usize,
-    count: usize,
-    store: &mut [u32],
-    tray: &mut [u8],
-    list: &mut [u64],
-    free: usize,
-) -> Taken
-    requires { ⌜ (decoder .next + count ≤ clockLimit) × (length (now store) ≡ storeLength) × (earlierBelow (decoder .earlier) (decoder .next) ≡ true) ⌝ }
-    requires { ⌜ (length (now input) ≤ inputLimit) × (first + count ≤ 8 * length (now input)) × (free ≤ length (now list)) ⌝ }
-    ensures { λ r. ⌜ result r (now (store .exit)) (now (tray .exit)) (now (list .exit))
-        ≡ takenOf decoder (call (now (input .entry)) first count (now (store .entry)) (now (tray .entry)) (now (list .entry)) free) ⌝ }
-{
-    let plan = decoder.plan;
-    let mut recogniser = decoder.recogniser;
-    let mut done = Performed::nothing(decoder, free);
-    let mut cursor = Cursor::at(first);
-    let mut taken: usize = 0;
-    while taken < count {
-        if list.len() - done.at < Decoder::LIST_UNIT {
-            return Taken::ended(decoder, recogniser, done, taken, free, Ending::ListFull);
-        }
-        let walk = stretches::advance(recogniser, input, cursor, count - taken, done.cnt);
-        cursor = walk.behind;
-        recogniser = walk.stretch.next;
-        taken = taken + walk.stretch.taken;
-        let event = walk.stretch.event;
-        let frame = event.frame;
-        frames::keep(tray, frame);
-        let request = event.request;
-        if let Request::Nothing = request {
-            continue;
-        }
-        let time = decoder.next + taken as u64 - 1;
-        done = performing::perform(done, plan, request, time, store, list);
-        if done.stops {
-            return Taken::ended(decoder, recogniser, done, taken, free, Ending::Frame);
-        }
-    }
-    Taken::ended(decoder, recogniser, done, taken, free, Ending::Done)
-}
 
 // Takes bits `first` to `first + count` of the input, one a cycle, and writes their records into the rest of the list from word `free` on. It stops
 // after a frame's record, and where fewer than two words are free. An unfit call is rejected with its number, and changes nothing.
@@ -85,5 +32,5 @@ pub fn take(
     if Decoder::CLOCK_LIMIT - decoder.next < count as u64 {
         return Taken::refused(decoder, Ending::ClockOver);
     }
-    run(decoder, input, first, count, store, tray, list, free)
+    call_loop::run(decoder, input, first, count, store, tray, list, free)
 }

@@ -1,8 +1,10 @@
 -- The taking loop meets `takenOf`: each way through its body cites a lemma over what the loop keeps.
 -- Assumes nothing.
 use mathlib.Core.Path.{_∙_}
-use Prim.Native.Nat.{_+_, _-_, _≤_}
+use Prim.Native.Nat.{ℕ, _+_, _-_, _<_, _≤_}
 use native.Mathlib.Omega.{arith}
+use mir.Syntax.{w64}
+use mir.Val.{Fits}
 use borrow.Author.Needs.{needs}
 use Rattle.limits.specs.Limits.{clockLimit}
 use Rattle.bits.proofs.Places.{Stands, stands}
@@ -11,9 +13,29 @@ use Rattle.stretches.proofs.SingleCycles.{Passes}
 use Rattle.stretches.proofs.Walks.{walk-stretch, walk-behind}
 use Rattle.timing.proofs.Flagged.{below-later}
 use Rattle.calls.specs.Take.{Call, call}
-use Rattle.calls.proofs.LoopInvariant.{Invariant, left, initially, stretch-walks, done, full, quiet, performed, moved, stretched-fits}
-use Rattle.taking.proofs.run.Statement.{statement}
-use Rattle.taking.proofs.run.Tie as tie
+use Rattle.performing.specs.Perform.{performResult}
+use Rattle.calls.proofs.LoopInvariant.{Invariant, AfterRequest, left, initially, stretch-walks, done, full, quiet, performed, moved, stretched-fits}
+use Rattle.call_loop.proofs.run.Statement.{statement}
+use Rattle.call_loop.proofs.run.Tie as tie
+
+-- What a stretch leaves in bounds, by the next cycle, the call's bits, those taken ahead of it and its own.
+record Bounds (next count taken on : ℕ) : Type 0 where
+  fewer : count - (taken + on) < count - taken
+  counts : Fits w64 (taken + on)
+  clocks : Fits w64 (next + (taken + on))
+  in-time : next + (taken + on) - 1 < clockLimit
+  on-time : next + (taken + on) ≤ clockLimit
+  before : next + taken ≤ clockLimit
+
+bounds : (next count taken on : ℕ) → (1 ≤ on) × (taken + on ≤ count) → next + count ≤ clockLimit → Bounds next count taken on
+bounds next count taken on m short = record {
+  fewer = omega arith;
+  counts = omega arith;
+  clocks = omega arith;
+  in-time = omega arith;
+  on-time = omega arith;
+  before = omega arith;
+}
 
 -- What the call's own invariant says, and that the cursor stands at the next bit.
 abbrev Inv-loop : tie.InvT-loop
@@ -86,10 +108,23 @@ walks a =
 moves : (a : Walked) → (1 ≤ stretch a .taken) × (turn a .loop .taken + stretch a .taken ≤ called (turn a) .args .count)
 moves a = moved (turn a .loop .inv .0) (a .before .before .before .loop-test .taken) (a .before .if1 .left) (stretch a) (walks a)
 
+bounded : (a : Walked) → let l = turn a in let s = called l .args in Bounds (s .decoder .next) (s .count) (l .loop .taken) (stretch a .taken)
+bounded a = bounds _ _ _ _ (moves a) (called (turn a) .pre .0 .0)
+
 goes-on : (a : Walked) → Stands (a .advance .result .behind) (called (turn a) .args .first + (turn a .loop .taken + stretch a .taken))
 goes-on a =
     let b = walk-behind (turn a .loop .cursor) (a .advance .ensures) _ (turn a .loop .inv .1) in
     record { inside = b .inside; under = omega (arith, b) }
+
+-- What the call is once a request of it is performed.
+did : (p : Performed) → let k = kept p in let a = walked k in let l = turn a in let f = p .before .perform in
+    AfterRequest (called l .args .decoder) (asked (called l)) (k .before .keep .last .0) (stretch a .next) (l .loop .taken + stretch a .taken)
+    (performResult (f .result) (f .last .1 .1 .1 .1 .0) (f .last .1 .1 .1 .1 .1 .0))
+did p =
+    let k = kept p in
+    let a = walked k in
+    performed (turn a .loop .inv .0) (a .before .before .before .loop-test .taken) (a .before .if1 .left) (stretch a) (walks a)
+    _ (k .before .keep .ensures) (k .tray .given) _ (p .before .perform .ensures) (p .store .given)
 
 nothing-requires : tie.Need-nothing-requires Inv-loop μ-loop
 nothing-requires c κs = search needs
@@ -134,8 +169,7 @@ advance-requires c κs = search needs
 add-taken : tie.Need-add-taken Inv-loop μ-loop
 add-taken c =
     let a = c .before .before .before in
-    let m = moves a in
-    omega (arith, turn a, called (turn a))
+    bounded a .counts
 
 keep-requires : tie.Need-keep-requires Inv-loop μ-loop
 keep-requires c κs = search needs
@@ -144,10 +178,7 @@ enum-told : tie.Need-enum-told Inv-loop μ-loop
 enum-told c = search needs
 
 loop-less : tie.Need-loop-less Inv-loop μ-loop
-loop-less c =
-    let a = walked (c .before .before .before) in
-    let m = moves a in
-    omega (arith, turn a, called (turn a))
+loop-less c = bounded (walked (c .before .before .before)) .fewer
 
 loop-again : tie.Need-loop-again Inv-loop μ-loop
 loop-again c =
@@ -159,10 +190,7 @@ loop-again c =
     )
 
 add-time : tie.Need-add-time Inv-loop μ-loop
-add-time c =
-    let a = walked (c .before .before .before) in
-    let m = moves a in
-    omega (arith, turn a, called (turn a))
+add-time c = bounded (walked (c .before .before .before)) .clocks
 
 sub-time : tie.Need-sub-time Inv-loop μ-loop
 sub-time c =
@@ -175,21 +203,15 @@ perform-requires c κs =
     let t = c .before .before .before in
     let a = walked (t .before .before) in
     let l = turn a in
-    let m = moves a in
     let fits = stretched-fits (l .loop .inv .0) (a .before .before .before .loop-test .taken) (a .before .if1 .left) (stretch a) (walks a) in
-    let below = below-later (l .loop .done .earlier) _ clockLimit (omega (arith, l, called l)) (l .loop .inv .0 .below) in
-    ((omega (arith, l, called l), (l .loop .inv .0 .long ∙ called l .pre .0 .1), fits, a .before .if1 .left), (below, l .loop .inv .0 .cnt-is))
+    let b = bounded a in
+    let below = below-later (l .loop .done .earlier) _ clockLimit (b .before) (l .loop .inv .0 .below) in
+    ((b .in-time, (l .loop .inv .0 .long ∙ called l .pre .0 .1), fits, a .before .if1 .left), (below, l .loop .inv .0 .cnt-is))
 
 ended-requires-2 : tie.Need-ended-requires-2 Inv-loop μ-loop
 ended-requires-2 c κs =
     let p = stopped c in
-    let k = kept p in
-    let a = walked k in
-    let l = turn a in
-    let m = moves a in
-    let g = performed (l .loop .inv .0) (a .before .before .before .loop-test .taken) (a .before .if1 .left) (stretch a) (walks a)
-    _ (k .before .keep .ensures) (k .tray .given) _ (p .before .perform .ensures) (p .store .given) in
-    (omega (arith, l, called l), g .from)
+    (bounded (walked (kept p)) .on-time, did p .from)
 
 same-length-4 : tie.Need-same-length-4 Inv-loop μ-loop
 same-length-4 c =
@@ -208,27 +230,15 @@ same-length-6 c =
 
 returns-2 : tie.Need-returns-2 Inv-loop μ-loop
 returns-2 c =
-    let p = stopped (c .before) in
-    let k = kept p in
-    let a = walked k in
-    let g = performed (turn a .loop .inv .0) (a .before .before .before .loop-test .taken) (a .before .if1 .left) (stretch a) (walks a)
-    _ (k .before .keep .ensures) (k .tray .given) _ (p .before .perform .ensures) (p .store .given) in
-    rw (c .ended2 .ensures) (g .stopped (c .before .if2 .taken))
+    rw (c .ended2 .ensures) (did (stopped (c .before)) .stopped (c .before .if2 .taken))
 
 loop-less-2 : tie.Need-loop-less-2 Inv-loop μ-loop
-loop-less-2 c =
-    let a = walked (kept (going-on c)) in
-    let m = moves a in
-    omega (arith, turn a, called (turn a))
+loop-less-2 c = bounded (walked (kept (going-on c))) .fewer
 
 loop-again-2 : tie.Need-loop-again-2 Inv-loop μ-loop
 loop-again-2 c =
     let p = going-on c in
-    let k = kept p in
-    let a = walked k in
-    let g = performed (turn a .loop .inv .0) (a .before .before .before .loop-test .taken) (a .before .if1 .left) (stretch a) (walks a)
-    _ (k .before .keep .ensures) (k .tray .given) _ (p .before .perform .ensures) (p .store .given) in
-    (g .onwards (c .if2 .left), goes-on a)
+    (did p .onwards (c .if2 .left), goes-on (walked (kept p)))
 
 ended-requires-3 : tie.Need-ended-requires-3 Inv-loop μ-loop
 ended-requires-3 c κs = search needs
