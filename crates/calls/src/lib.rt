@@ -11,12 +11,12 @@ ghost use Rattle.timing.specs.TooClose.{earlierBelow};
 ghost use Rattle.calls.specs.Perform.{performResult, performedWith, cntAfter, performOf};
 ghost use Rattle.calls.specs.Take.{takenWith, decoderAfter, buffersFit, endingNumber};
 use decoder::Decoder;
+use plans::Plan;
 use recogniser::Recogniser;
 use recogniser::Request;
 use records::Cycle;
 use records::Record;
 use registers::Model;
-use registers::Plan;
 use timing::Earlier;
 
 // How a taking call ends; the last four are its refusals, numbers 3 to 6.
