@@ -19,7 +19,7 @@ use Rattle.stretches.specs.declared.Stretch.{Stretch}
 use Rattle.stretches.specs.Stretch.{stretchOf}
 use Rattle.stretches.proofs.SingleCycles.{Passes, ends, last, more, passes-some, passes-within, stretch-passes}
 use Rattle.frames.specs.Tray.{trayOf}
-use Rattle.registers.specs.declared.Plan.{Plan}
+use Rattle.plans.specs.declared.Plan.{Plan}
 use Rattle.registers.specs.declared.Model.{Model}
 use Rattle.registers.specs.Registers.{cntOf}
 use Rattle.records.specs.declared.Cycle.{Cycle}

@@ -25,7 +25,7 @@ use Rattle.recogniser.specs.Fields.{endsOf}
 use Rattle.recogniser.specs.Step.{stepBy, stepOf}
 use Rattle.windows.proofs.Positions.{position-low}
 use Rattle.decoder.specs.declared.Decoder.{Decoder}
-use Rattle.decoder.specs.Fit.{hasField5, nibbleFits, fitBy, fitOf}
+use Rattle.fit_recognisers.specs.Fit.{hasField5, nibbleFits, fitBy, fitOf}
 use Rattle.decoder.specs.Sound.{soundOf}
 use Rattle.decoder.proofs.Soundness.{sound-parts}
 use Rattle.records.specs.Records.{wordsOf}

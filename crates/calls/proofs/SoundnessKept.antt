@@ -16,21 +16,21 @@ use Rattle.recogniser.specs.declared.Request.the-variants.{Slow}
 use Rattle.recogniser.specs.declared.SlowRequest.the-variants.{LeaveRunMode}
 use Rattle.recogniser.specs.declared.Recogniser.{Recogniser}
 use Rattle.recogniser.specs.declared.Transition.{Transition}
-use Rattle.registers.specs.declared.Plan.{Plan}
+use Rattle.plans.specs.declared.Plan.{Plan}
 use Rattle.registers.specs.declared.Model.{Model}
-use Rattle.registers.specs.Plan.{planFits, defaultPlan}
+use Rattle.plans.specs.Plan.{planFits, defaultPlan}
 use Rattle.registers.specs.Registers.{cntOf}
 use Rattle.controller.proofs.EffectKeeps.{after, zeros-fit, zeros-missing, writes-fit, reads-fit, missing-zero, base-low, cnt-kept, leave-stops, running-kept}
 use Rattle.controller.proofs.RequestsFit.{step-request-fits}
 use Rattle.controller.proofs.RecordStamps.{Stamped, stamped}
 use Rattle.timing.proofs.Flagged.{below-next}
-use Rattle.decoder.specs.Fit.{fitOf}
+use Rattle.fit_recognisers.specs.Fit.{fitOf}
 use Rattle.decoder.specs.declared.Decoder.{Decoder}
 use Rattle.decoder.specs.declared.Opened.{Opened}
 use Rattle.limits.specs.Limits.{clockLimit}
 use Rattle.decoder.specs.Opening.{openedAt, openOf}
 use Rattle.decoder.specs.Sound.{insideSlow, soundOf}
-use Rattle.decoder.proofs.StepsFit.{start-fits, step-fits}
+use Rattle.fit_recognisers.proofs.StepsFit.{start-fits, step-fits}
 use Rattle.decoder.proofs.Soundness.{sound, sound-parts}
 use Rattle.calls.specs.Run.{runOf, stateAfter}
 use Rattle.calls.specs.Turn.{System, decoderOf, cntAt, effectAt, transitionOf, turnOf}

@@ -14,10 +14,10 @@ use Rattle.recogniser.specs.declared.Request.the-variants.{Nothing, Lv1, Fast, 
 use Rattle.recogniser.specs.declared.FrameBit.{FrameBit}
 use Rattle.recogniser.specs.declared.FrameBit.the-variants.{None, At}
 use Rattle.frames.specs.Tray.{trayOf}
-use Rattle.registers.specs.declared.Plan.{Plan}
+use Rattle.plans.specs.declared.Plan.{Plan}
 use Rattle.registers.specs.declared.Model.{Model}
 use Rattle.registers.specs.Registers.{feenOf}
-use Rattle.registers.specs.Fifos.{Fifos, pushIf, writeOf}
+use Rattle.fifos.specs.Fifos.{Fifos, pushIf, writeOf}
 use Rattle.controller.specs.Commands.{Effect, slowOf, actOf}
 use Rattle.controller.specs.Widths.{ModelFits}
 use Rattle.controller.proofs.EffectCases.{act-keeps}

@@ -66,8 +66,8 @@ pub fn one_if(used: bool) -> usize
 pub fn field_count(kind: u64) -> usize
     ensures { λ r. ⌜ (r ≡ fieldCount kind) × (r ≤ 3) ⌝ }
 {
-    let address = one_if(orders::uses_address(kind));
-    let value = one_if(0 < orders::value_width(kind));
-    let frame = one_if(orders::is_frame_kind(kind));
+    let address = one_if(order_kinds::uses_address(kind));
+    let value = one_if(0 < order_kinds::value_width(kind));
+    let frame = one_if(order_kinds::is_frame_kind(kind));
     address + (value + frame)
 }

@@ -13,7 +13,7 @@ use lib.Seq.{drop-drop}
 use borrow.Author.Tests.{lt-leb, leb-false, ne-eqb}
 use Rattle.limits.specs.Limits.{clockLimit}
 use Rattle.bits.proofs.Truth.{cases}
-use Rattle.registers.specs.declared.Plan.{Plan}
+use Rattle.plans.specs.declared.Plan.{Plan}
 use Rattle.orders.specs.declared.Order.{Order}
 use Rattle.orders.specs.declared.Context.{Context}
 use Rattle.orders.specs.Fields.{Ordered, orderFits, orderIn, ordersIn}

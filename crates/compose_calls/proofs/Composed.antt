@@ -12,8 +12,8 @@ use lib.Seq.{sets}
 use borrow.Author.Tests.{eq-eqb, ne-eqb, le-leb, leb-true, eqb-true}
 use Rattle.limits.specs.Limits.{clockLimit}
 use Rattle.bits.proofs.Truth.{cases, both}
-use Rattle.registers.specs.declared.Plan.{Plan}
-use Rattle.registers.specs.Plan.{planFits}
+use Rattle.plans.specs.declared.Plan.{Plan}
+use Rattle.plans.specs.Plan.{planFits}
 use Rattle.orders.specs.declared.Composed.{Composed}
 use Rattle.orders.specs.Fields.{Ordered}
 use Rattle.orders.specs.Streams.{packedFrom, packed, streamOf}

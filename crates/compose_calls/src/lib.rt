@@ -9,8 +9,7 @@ ghost use Rattle.stream_writer.specs.Writer.{start, Wrote};
 ghost use Rattle.composing.specs.Checked.{Room, checkedOf};
 ghost use Rattle.compose_calls.specs.AllFit.{AllFit};
 use orders::Composed;
-use orders::Context;
-use registers::Plan;
+use plans::Plan;
 use stream_writer::Writer;
 
 // The refusal numbers of a plan and of a stream that is too long.
@@ -32,23 +31,23 @@ fn answer(number: u8, order: u64, bits: u64) -> Composed
 fn check_orders(plan: Plan, words: &[u64], frames: &[u8]) -> Composed
     ensures { λ r. ⌜ r ≡ checkedOf plan (ordersIn (now (frames .entry)) (now (words .entry))) ⌝ }
 {
-    let mut context = Context::start();
+    let mut context = contexts::start();
     let mut bits: u64 = 0;
     let mut number: u64 = 0;
     let mut at: usize = 0;
     while at < words.len() {
-        let order = orders::read_order(&words[at..]);
-        let lent = orders::lent_from(frames, order.frame);
+        let order = lent_orders::read_order(&words[at..]);
+        let lent = lent_orders::lent_from(frames, order.frame);
         let bytes = lent.len();
-        let refusal = context.number(order, bytes);
+        let refusal = contexts::number(context, order, bytes);
         if refusal != 0 {
             return answer(refusal, number, 0);
         }
-        context = context.after(plan, order, bytes);
+        context = contexts::after(context, plan, order, bytes);
         let ahead = composing::add_bits(bits, order.zeros);
         bits = composing::add_bits(ahead, composing::command_width(order, bytes));
         number += 1;
-        at += orders::ORDER_WORDS;
+        at += lent_orders::ORDER_WORDS;
     }
     answer(0, 0, bits)
 }
@@ -61,10 +60,10 @@ fn put_orders(words: &[u64], frames: &[u8], out: &mut [u8]) -> Writer
     let mut writer = Writer::start();
     let mut at: usize = 0;
     while at < words.len() {
-        let order = orders::read_order(&words[at..]);
-        let lent = orders::lent_from(frames, order.frame);
+        let order = lent_orders::read_order(&words[at..]);
+        let lent = lent_orders::lent_from(frames, order.frame);
         writer = composing::put_order(writer, out, order, lent);
-        at += orders::ORDER_WORDS;
+        at += lent_orders::ORDER_WORDS;
     }
     writer
 }

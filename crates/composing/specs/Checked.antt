@@ -8,7 +8,7 @@ use lib.Dec.{leb, eqb}
 use lib.ListN.{length}
 use Rattle.limits.specs.Limits.{clockLimit}
 use Rattle.records.specs.Records.{kindSlow}
-use Rattle.registers.specs.declared.Plan.{Plan}
+use Rattle.plans.specs.declared.Plan.{Plan}
 use Rattle.orders.specs.declared.Order.{Order}
 use Rattle.orders.specs.declared.Composed.{Composed}
 use Rattle.orders.specs.Fields.{Ordered, isFrameKind, orderFits}

@@ -33,10 +33,10 @@ fn put_field5(writer: Writer, out: &mut [u8], order: Order, lent: &[u8]) -> Writ
     requires { ⌜ Fits writer × SlowFit order (length (now lent)) × Room writer (now out) (field5Bits (ordered order (now lent))) ⌝ }
     ensures { λ r. ⌜ Wrote writer (now (out .entry)) (field5Bits (ordered order (now (lent .entry)))) r (now (out .exit)) ⌝ }
 {
-    if orders::is_frame_kind(order.kind) {
+    if order_kinds::is_frame_kind(order.kind) {
         return put_frame(writer, out, order, lent);
     }
-    let width = orders::value_width(order.kind);
+    let width = order_kinds::value_width(order.kind);
     if 0 < width {
         return writer.put_number(out, width, order.value);
     }
@@ -50,7 +50,7 @@ fn put_fields(writer: Writer, out: &mut [u8], order: Order, lent: &[u8]) -> Writ
     ensures { λ r. ⌜ Wrote writer (now (out .entry)) (slowFields (ordered order (now (lent .entry)))) r (now (out .exit)) ⌝ }
 {
     let field3 = writer.put_number(out, 4, order.kind - KIND_SLOW as u64);
-    let field4 = field3.put_number(out, 4, orders::field4(order));
+    let field4 = field3.put_number(out, 4, order_kinds::field4(order));
     put_field5(field4, out, order, lent)
 }
 
@@ -93,7 +93,7 @@ pub fn command_width(order: Order, bytes: usize) -> u64
     if order.kind == WR_RECEIVER {
         return 17 + order.bits;
     }
-    if orders::is_frame_kind(order.kind) {
+    if order_kinds::is_frame_kind(order.kind) {
         return 17 + order.bits * 8;
     }
     17 + slow_fields::length((order.kind - KIND_SLOW as u64) as u8, 0) as u64

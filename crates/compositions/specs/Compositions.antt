@@ -7,7 +7,7 @@ use Prim.Native.Nat.{ℕ, _+_, _/_, _≤_}
 use lib.Dec.{eqb}
 use lib.ListN.{length, take}
 use lib.Seq.{sets}
-use Rattle.registers.specs.Plan.{defaultPlan}
+use Rattle.plans.specs.Plan.{defaultPlan}
 use Rattle.orders.specs.declared.Order.{Order}
 use Rattle.orders.specs.Streams.{orderBits, streamOf, packedFrom}
 use Rattle.orders.specs.Composing as orders

@@ -7,7 +7,7 @@ use gathered_lines::Gathered;
 use order_refusals::Refusal;
 use orders::Context;
 use orders::Order;
-use registers::Plan;
+use plans::Plan;
 use stream_writer::Writer;
 
 // The most bytes of a stream that the program composes.
@@ -38,7 +38,7 @@ impl Composition {
         ensures { λ r. ⌜ r ≡ start ⌝ }
     {
         Composition {
-            context: Context::start(),
+            context: contexts::start(),
             writer: Writer::start(),
             bits: 0,
             line: Gathered::empty(),
@@ -90,7 +90,7 @@ impl Composition {
         let width = composing::command_width(order, lent.len());
         let ahead = composing::add_bits(self.bits, order.zeros);
         let bits = composing::add_bits(ahead, width);
-        let next = context.after(Plan::default_plan(), order, lent.len());
+        let next = contexts::after(context, Plan::default_plan(), order, lent.len());
         let writer = self.writer;
         let mut later = Composition {
             context: next,

@@ -12,15 +12,15 @@ use Rattle.recogniser.specs.declared.SlowRequest.{SlowRequest}
 use Rattle.recogniser.specs.declared.SlowRequest.the-variants.{LeaveRunMode, Command, Bad, Frame}
 use Rattle.recogniser.specs.declared.Request.{Request}
 use Rattle.recogniser.specs.declared.Request.the-variants.{Nothing, Lv1, Fast, BadFast, Slow}
-use Rattle.registers.specs.declared.Plan.{Plan}
+use Rattle.plans.specs.declared.Plan.{Plan}
 use Rattle.registers.specs.declared.Counters.{Counters}
 use Rattle.registers.specs.declared.Pointers.{Pointers}
 use Rattle.registers.specs.declared.Model.{Model}
-use Rattle.registers.specs.Plan.{existsAt}
+use Rattle.plans.specs.Plan.{existsAt}
 use Rattle.registers.specs.Registers.{feenOf, writtenOf, zeros16}
 use Rattle.registers.specs.Parts.{counters, pointers, zeroPointers}
-use Rattle.registers.specs.Fifos.{Fifos, movedOn, pushOf, writeOf}
-use Rattle.registers.proofs.WriteLoop.{fifos}
+use Rattle.fifos.specs.Fifos.{Fifos, movedOn, pushOf, writeOf}
+use Rattle.fifos.proofs.WriteLoop.{fifos}
 use Rattle.triggers.specs.declared.Acted.{Acted}
 use Rattle.triggers.specs.Triggers.{lv1Counted, fastCounted, fastPointers}
 use Rattle.controller.specs.Commands.{Effect, effect, writeRegisterOf, readRegisterOf, writeFifoOf, readFifoOf}

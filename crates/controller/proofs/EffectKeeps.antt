@@ -13,15 +13,15 @@ use Rattle.bits.proofs.Truth.{both, choice, clash, or-left, or-right}
 use Rattle.recogniser.specs.declared.Request.{Request}
 use Rattle.recogniser.specs.declared.Request.the-variants.{Slow}
 use Rattle.recogniser.specs.declared.SlowRequest.the-variants.{LeaveRunMode}
-use Rattle.registers.specs.declared.Plan.{Plan}
+use Rattle.plans.specs.declared.Plan.{Plan}
 use Rattle.registers.specs.declared.Pointers.{Pointers}
 use Rattle.registers.specs.declared.Model.{Model}
-use Rattle.registers.specs.Plan.{existsAt}
+use Rattle.plans.specs.Plan.{existsAt}
 use Rattle.registers.specs.Registers.{cntOf, writtenOf, zeros16}
 use Rattle.registers.specs.Parts.{pointers, zeroPointers}
-use Rattle.registers.specs.Fifos.{movedOn, writeOf}
+use Rattle.fifos.specs.Fifos.{movedOn, writeOf}
 use Rattle.registers.specs.Sound.{everyFrom, fitsAt, pointersFit, zeroAt, missingZero}
-use Rattle.registers.proofs.WriteLoop.{fifos}
+use Rattle.fifos.proofs.WriteLoop.{fifos}
 use Rattle.controller.specs.Commands.{actOf}
 use Rattle.controller.specs.Requests.{changesRegisters, changesRunning}
 use Rattle.controller.specs.Widths.{WidthsFit, ModelFits}

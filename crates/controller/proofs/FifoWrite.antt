@@ -4,12 +4,12 @@ use mathlib.Core.Bool.{true}
 use mathlib.Core.List.{List}
 use mathlib.Core.Path.{_≡_}
 use Prim.Native.Nat.{ℕ, _%_, _^_}
-use Rattle.registers.specs.declared.Plan.{Plan}
+use Rattle.plans.specs.declared.Plan.{Plan}
 use Rattle.registers.specs.declared.Model.{Model}
 use Rattle.registers.specs.Registers.{feenOf}
 use Rattle.registers.specs.Parts.{pointers, withPointers}
-use Rattle.registers.specs.Fifos.{writeOf}
-use Rattle.registers.proofs.WriteLoop.{fifos}
+use Rattle.fifos.specs.Fifos.{writeOf}
+use Rattle.fifos.proofs.WriteLoop.{fifos}
 use Rattle.records.specs.Records.{flagActed}
 use Rattle.triggers.specs.Triggers.{recorded}
 use Rattle.controller.specs.Commands.{effect, slowRecord, writeFifoOf}

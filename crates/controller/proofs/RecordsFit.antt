@@ -9,10 +9,10 @@ use Rattle.recogniser.specs.declared.SlowRequest.{SlowRequest}
 use Rattle.recogniser.specs.declared.SlowRequest.the-variants.{LeaveRunMode, Command, Bad, Frame}
 use Rattle.recogniser.specs.declared.Request.{Request}
 use Rattle.recogniser.specs.declared.Request.the-variants.{Nothing, Lv1, Fast, BadFast, Slow}
-use Rattle.registers.specs.declared.Plan.{Plan}
+use Rattle.plans.specs.declared.Plan.{Plan}
 use Rattle.registers.specs.declared.Warnings.{Warnings}
 use Rattle.registers.specs.declared.Model.{Model}
-use Rattle.registers.specs.Plan.{existsAt}
+use Rattle.plans.specs.Plan.{existsAt}
 use Rattle.registers.specs.Registers.{cntOf, warningBits, readOf}
 use Rattle.triggers.specs.declared.Acted.{Acted}
 use Rattle.records.specs.declared.Cycle.{Cycle}

@@ -13,12 +13,12 @@ use Rattle.recogniser.specs.declared.Request.the-variants.{Nothing, Lv1, Fast, 
 use Rattle.records.specs.declared.Cycle.the-variants.{Silent}
 use Rattle.records.specs.declared.Record.{Record}
 use Rattle.records.specs.Records.{recordOf, kindSlow, kindBadSlow, flagActed, flagMissing, flagUnsteady}
-use Rattle.registers.specs.declared.Plan.{Plan}
+use Rattle.plans.specs.declared.Plan.{Plan}
 use Rattle.registers.specs.declared.Model.{Model}
-use Rattle.registers.specs.Plan.{existsAt}
+use Rattle.plans.specs.Plan.{existsAt}
 use Rattle.registers.specs.Registers.{cntOf, feenOf, readOf, writtenOf}
 use Rattle.registers.specs.Parts.{warnings, pointers, cleared, withRunning, withWarnings, withRegisters, withPointers}
-use Rattle.registers.specs.Fifos.{movedOn, writeOf, readWordOf}
+use Rattle.fifos.specs.Fifos.{movedOn, writeOf, readWordOf}
 use Rattle.triggers.specs.declared.Acted.{Acted}
 use Rattle.triggers.specs.Triggers.{acted, recorded, lv1Of, fastOf, badFastOf}
 

@@ -9,13 +9,13 @@ ghost use Rattle.controller.specs.Commands.{leaveOf, writeRegisterOf, re
 ghost use Rattle.controller.specs.Commands.{badSlowOf, frameValueOf, frameOf};
 ghost use Rattle.controller.specs.Commands.{commandOf, slowOf, actOf};
 ghost use Rattle.controller.specs.Requests.{requestFits, slowFits};
+use plans::Plan;
 use recogniser::Request;
 use recogniser::SlowRequest;
 use records::Cycle;
 use records::KIND_BAD_SLOW;
 use records::KIND_SLOW;
 use registers::Model;
-use registers::Plan;
 use triggers::Acted;
 use triggers::FLAG_ACTED;
 
@@ -83,7 +83,7 @@ fn write_register(model: Model, plan: Plan, address: u8, value: u32, time: u64) 
         return triggers::answer(model, time, KIND_SLOW + WR_REGISTER, FLAG_MISSING, arrived);
     }
     let mut m = model;
-    m.registers[address as usize] = plan.stored(address, bits);
+    m.registers[address as usize] = registers::stored(plan, address, bits);
     triggers::answer(m, time, KIND_SLOW + WR_REGISTER, FLAG_ACTED, arrived)
 }
 
@@ -108,11 +108,11 @@ fn write_fifo(model: Model, plan: Plan, value: u32, time: u64, store: &mut [u32]
     requires { ⌜ length (now store) ≡ storeLength ⌝ }
     ensures { λ r. ⌜ (record { acted = r; store = now (store .exit) }) ≡ writeFifoOf plan model value time (now (store .entry)) ⌝ }
 {
-    let word = value % registers::WORD;
+    let word = value % fifos::WORD;
     let feen = model.register(plan.feen);
     let mut pointers = model.pointers;
     let writes = pointers.writes;
-    let moved = registers::write_all(writes, feen, word, store);
+    let moved = fifos::write_all(writes, feen, word, store);
     pointers.writes = moved;
     let mut m = model;
     m.pointers = pointers;
@@ -126,11 +126,11 @@ fn read_fifo(model: Model, address: u8, time: u64, store: &[u32]) -> Acted
     let n = (address % 16) as usize;
     let mut pointers = model.pointers;
     let pointer = pointers.reads[n];
-    let word = registers::read_word(store, n, pointer);
-    pointers.reads[n] = registers::moved_on(pointer);
+    let word = fifos::read_word(store, n, pointer);
+    pointers.reads[n] = fifos::moved_on(pointer);
     let mut m = model;
     m.pointers = pointers;
-    let value = n as u64 * registers::WORD as u64 + word as u64;
+    let value = n as u64 * fifos::WORD as u64 + word as u64;
     triggers::answer(m, time, KIND_SLOW + RD_FIFO, FLAG_ACTED, value)
 }
 

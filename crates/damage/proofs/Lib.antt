@@ -1,17 +1,10 @@
 pub mod TablesWhole
 pub mod StreamBits
-pub mod TracesJoined
-pub mod Recovery
 pub mod Replacements
-pub mod InvertedBit
 pub mod HitPlaces
 pub mod HitItems
 pub mod Separation
-pub mod HitRuns
-pub mod TraceRecords
 pub mod Spacing
 pub mod Comparison
 pub mod OneHit
 pub mod HitExamples
-pub mod RunModeEffects
-pub mod CallLists

@@ -1,3 +1,1 @@
-pub mod Field5Commands
-pub mod StepsFit
 pub mod Soundness

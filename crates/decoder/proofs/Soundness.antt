@@ -6,11 +6,11 @@ use Prim.Native.Nat.{_≤_}
 use lib.Dec.{T}
 use borrow.Author.Tests.{le-leb, leb-true, not-true}
 use Rattle.bits.proofs.Truth.{holds-true, both, not-both, not-other}
-use Rattle.registers.specs.Plan.{planFits}
+use Rattle.plans.specs.Plan.{planFits}
 use Rattle.registers.specs.Registers.{cntOf}
 use Rattle.registers.specs.Sound.{pointersFit, missingZero}
 use Rattle.timing.specs.TooClose.{earlierBelow}
-use Rattle.decoder.specs.Fit.{fitOf}
+use Rattle.fit_recognisers.specs.Fit.{fitOf}
 use Rattle.decoder.specs.declared.Decoder.{Decoder}
 use Rattle.limits.specs.Limits.{clockLimit}
 use Rattle.decoder.specs.Sound.{insideSlow, soundOf}

@@ -4,8 +4,8 @@ use mathlib.Core.Bool.{false, cond, not}
 use Prim.Native.Nat.{ℕ}
 use lib.Dec.{leb}
 use Rattle.recogniser.specs.Parts.{idle}
-use Rattle.registers.specs.declared.Plan.{Plan}
-use Rattle.registers.specs.Plan.{planFits, defaultPlan}
+use Rattle.plans.specs.declared.Plan.{Plan}
+use Rattle.plans.specs.Plan.{planFits, defaultPlan}
 use Rattle.registers.specs.Parts.{cleared}
 use Rattle.timing.specs.TooClose.{none}
 use Rattle.decoder.specs.declared.Decoder.{Decoder}

@@ -4,11 +4,11 @@ use mathlib.Core.Bool.{Bool, true, false, not, _&&_}
 use lib.Dec.{leb}
 use Rattle.recogniser.specs.declared.Phase.{Phase}
 use Rattle.recogniser.specs.declared.Phase.the-variants.{Hunt, Body, Field3, Field4, Field5}
-use Rattle.registers.specs.Plan.{planFits}
+use Rattle.plans.specs.Plan.{planFits}
 use Rattle.registers.specs.Registers.{cntOf}
 use Rattle.registers.specs.Sound.{pointersFit, missingZero}
 use Rattle.timing.specs.TooClose.{earlierBelow}
-use Rattle.decoder.specs.Fit.{fitOf}
+use Rattle.fit_recognisers.specs.Fit.{fitOf}
 use Rattle.decoder.specs.declared.Decoder.{Decoder}
 use Rattle.limits.specs.Limits.{clockLimit}
 

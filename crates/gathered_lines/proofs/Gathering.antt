@@ -12,7 +12,7 @@ use lib.Seq.{length-take-le, take-suc-set, take-all, take-append-le}
 use borrow.Author.Tests.{lt-ltb, le-ltb, ne-eqb, ltb-true, ltb-false}
 use Rattle.bits.proofs.Truth.{choice-under}
 use Rattle.output.specs.Ascii.{lineFeed}
-use Rattle.hexlines.specs.Lines.{isEmpty, linesFrom, linesOf}
+use Rattle.line_meanings.specs.Lines.{isEmpty, linesFrom, linesOf}
 use Rattle.text_words.specs.Words.{lineLimit}
 use Rattle.gathered_lines.specs.declared.Gathered.{Gathered}
 use Rattle.gathered_lines.specs.Gathering.{LineText, lineText, lineTexts, textsFrom, Gathers}

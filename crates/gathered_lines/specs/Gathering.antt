@@ -7,7 +7,7 @@ use Prim.Native.Nat.{ℕ, _≤_}
 use lib.Dec.{ltb, eqb}
 use lib.ListN.{length, take}
 use Rattle.output.specs.Ascii.{lineFeed}
-use Rattle.hexlines.specs.Lines.{isEmpty}
+use Rattle.line_meanings.specs.Lines.{isEmpty}
 use Rattle.text_words.specs.Words.{lineLimit}
 use Rattle.gathered_lines.specs.declared.Gathered.{Gathered}
 

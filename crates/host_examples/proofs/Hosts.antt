@@ -3,16 +3,16 @@
 use mathlib.Core.Path.{refl}
 use Rattle.recogniser.specs.Step.{stepOf}
 use Rattle.frames.specs.Tray.{trayOf}
-use Rattle.registers.specs.Plan.{planFits}
+use Rattle.plans.specs.Plan.{planFits}
 use Rattle.registers.specs.Sound.{everyFrom, pointersFit, missingZero}
 use Rattle.controller.specs.Commands.{actOf}
 use Rattle.timing.specs.TooClose.{tooClose}
-use Rattle.decoder.specs.Fit.{fitOf}
+use Rattle.fit_recognisers.specs.Fit.{fitOf}
 use Rattle.decoder.specs.Opening.{openOf}
 use Rattle.decoder.specs.Sound.{soundOf}
 use Rattle.calls.specs.Turn.{turnOf}
 use Rattle.calls.specs.Take.{takenOf, takeOf}
-use Rattle.hexlines.specs.Line.{lineMeaning, readOf, readInto}
+use Rattle.line_meanings.specs.Line.{lineMeaning, readOf, readInto}
 use Rattle.hex_digits.specs.Digits.{charactersOf}
 use Rattle.number_lines.specs.NumberLines.{numbersLine}
 use Rattle.image_fields.specs.Image.{imageOf, stateOf, imageFits}

@@ -1,7 +1,7 @@
 -- The openings' table, computed.
 -- Assumes nothing.
 use mathlib.Core.Path.{refl}
-use Rattle.registers.specs.Plan.{planFits}
+use Rattle.plans.specs.Plan.{planFits}
 use Rattle.decoder.specs.Opening.{openOf}
 use Rattle.image_fields.specs.Image.{imageOf}
 use Rattle.host_opening.specs.Open.{openResultOf}

@@ -7,12 +7,12 @@ use Prim.Native.Nat.{ℕ}
 use Prim.Native.String.{String}
 use lib.ListN.{take, replicate}
 use Rattle.output.specs.Ascii.{ascii}
-use Rattle.hexlines.specs.Line.{lineMeaning}
+use Rattle.line_meanings.specs.Line.{lineMeaning}
 use Rattle.layout.specs.ListingLines.{refusedLine}
 use Rattle.state_lines.specs.StateLines.{runmodeLine, wordLine}
 use Rattle.image_fields.specs.Image.{stateOf}
 use Rattle.listing.specs.Records.{recordsText}
-use Rattle.listing.specs.State.{stateText}
+use Rattle.state_listing.specs.State.{stateText}
 use Rattle.worked_examples.specs.Cells.{mask, runMode, l1id, base, wlv1, wslw, register, writePointer, readPointer, word}
 use Rattle.worked_examples.specs.Example.{Buffers, opening, putAll}
 

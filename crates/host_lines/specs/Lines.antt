@@ -6,7 +6,7 @@ use Prim.Native.Nat.{ℕ}
 use lib.Dec.{leb}
 use lib.ListN.{length}
 use lib.Seq.{sets}
-use Rattle.hexlines.specs.Line.{readInto}
+use Rattle.line_meanings.specs.Line.{readInto}
 use Rattle.layout.specs.ListingLines.{recordLine}
 
 -- A refusal number, 0 for none, and the buffer's later contents.

@@ -1,7 +1,7 @@
 // A plan by four numbers of any size, as hosts give it.
 ghost use mathlib.Core.Path.{_≡_};
 ghost use Rattle.host_plans.specs.Plans.{emptyPlan, planOf};
-use registers::Plan;
+use plans::Plan;
 
 // The plan without a register, which does not open.
 fn empty_plan() -> Plan

@@ -8,7 +8,7 @@ use borrow.Author.Tests.{eq-eqb, ne-eqb}
 use Rattle.limits.specs.Limits.{clockLimit}
 use Rattle.bits.specs.Bits.{bitsOf}
 use Rattle.frames.specs.Tray.{partOf, PartHolds}
-use Rattle.registers.specs.declared.Plan.{Plan}
+use Rattle.plans.specs.declared.Plan.{Plan}
 use Rattle.decoder.specs.declared.Decoder.{Decoder}
 use Rattle.calls.specs.Run.{stateAfter, wordsAfter}
 use Rattle.calls.specs.Turn.{System, systemOf, turnOf}

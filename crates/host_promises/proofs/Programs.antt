@@ -2,13 +2,13 @@
 -- Assumes nothing.
 use mathlib.Core.Path.{refl}
 use Rattle.recogniser.specs.Step.{stepOf}
-use Rattle.registers.specs.Plan.{planFits}
+use Rattle.plans.specs.Plan.{planFits}
 use Rattle.controller.specs.Commands.{actOf}
 use Rattle.timing.specs.TooClose.{tooClose}
 use Rattle.decoder.specs.Opening.{openOf}
 use Rattle.calls.specs.Turn.{turnOf}
-use Rattle.hexlines.specs.Line.{lineMeaning}
-use Rattle.hexlines.specs.Lines.{linesFrom, linesRead}
+use Rattle.line_meanings.specs.Line.{lineMeaning}
+use Rattle.line_meanings.specs.Lines.{linesFrom, linesRead}
 use Rattle.hex_digits.specs.Digits.{charactersOf}
 use Rattle.number_lines.specs.NumberLines.{numbersLine}
 use Rattle.listing.specs.Records.{recordText}

@@ -11,7 +11,7 @@ use mir.Val.{boolByte}
 use Rattle.recogniser.specs.declared.Phase.{Phase}
 use Rattle.recogniser.specs.declared.Phase.the-variants.{Hunt, Body, Field3, Field4, Field5}
 use Rattle.recogniser.specs.declared.Recogniser.{Recogniser}
-use Rattle.registers.specs.declared.Plan.{Plan}
+use Rattle.plans.specs.declared.Plan.{Plan}
 use Rattle.registers.specs.declared.Pointers.{Pointers}
 use Rattle.registers.specs.declared.Model.{Model}
 use Rattle.timing.specs.declared.Earlier.{Earlier}

@@ -12,8 +12,8 @@ use Rattle.bits.proofs.Truth.{cond-most}
 use Rattle.output.specs.Block.{blockLength}
 use Rattle.statuses.specs.Status.{failed, statusOf, IsStatus, Finished}
 use Rattle.judging.specs.declared.Judging.{Judging}
-use Rattle.judging.specs.declared.Judgement.{Judgement}
-use Rattle.judging.specs.Judgement.{judgedOf}
+use Rattle.judgements.specs.declared.Judgement.{Judgement}
+use Rattle.judgements.specs.Judgement.{judgedOf}
 use Rattle.judging.specs.Judging.{start, judgementOf, JudgesBlock, EndsInput}
 use Rattle.judging.proofs.Standing.{Stands, start-stands, block-stands, end-stands}
 use Rattle.judge_runs.specs.Runs.{JudgedOn, JudgedRun}

@@ -5,7 +5,7 @@ use mathlib.Core.Logic.{_⊎_}
 use mathlib.Core.Path.{_≡_}
 use Prim.Native.Nat.{ℕ}
 use Rattle.statuses.specs.Status.{failed, statusOf}
-use Rattle.judging.specs.Judgement.{judgedOf}
+use Rattle.judgements.specs.Judgement.{judgedOf}
 
 -- The status goes by the number of the judgement on some characters. In the proof these are the characters that the reads brought, one after the other.
 pub record JudgedOn (status : ℕ) : Type 0 where

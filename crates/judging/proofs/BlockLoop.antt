@@ -11,12 +11,12 @@ use lib.ListN.{length, drop, drop-of-length-le}
 use borrow.Author.Tests.{eq-eqb, ltb-true, ltb-false, not-true, not-false}
 use Rattle.bits.proofs.Truth.{cases, both, neither, not-other, true-holds}
 use Rattle.acceptance.specs.Progress.{verdictOn}
-use Rattle.hexlines.specs.declared.LineSoFar.{LineSoFar}
-use Rattle.hexlines.specs.declared.Scanned.{Scanned}
-use Rattle.hexlines.specs.Lines.{emptyLine, noCharacters, scanOf, readSoFar, readFrom}
-use Rattle.hexlines.proofs.Blocks.{scan-complete, scan-incomplete, scan-to-end, scan-within, scan-advances}
+use Rattle.line_meanings.specs.declared.LineSoFar.{LineSoFar}
+use Rattle.line_meanings.specs.declared.Scanned.{Scanned}
+use Rattle.line_meanings.specs.Lines.{emptyLine, noCharacters, scanOf, readSoFar, readFrom}
+use Rattle.line_meanings.proofs.Blocks.{scan-complete, scan-incomplete, scan-to-end, scan-within, scan-advances}
 use Rattle.judging.specs.declared.Judging.{Judging}
-use Rattle.judging.specs.Judgement.{judgedLines}
+use Rattle.judgements.specs.Judgement.{judgedLines}
 use Rattle.judging.specs.Judging.{judgementOf, stillJudged, WellFormed, EndsLine, JudgesBlock, EndsInput}
 
 -- A run that is over, and one that goes on.

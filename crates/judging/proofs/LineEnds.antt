@@ -17,13 +17,13 @@ use Rattle.patterns.specs.declared.Verdict.{Verdict}
 use Rattle.acceptance.specs.declared.Progress.{Progress}
 use Rattle.acceptance.specs.Progress.{faultAt, verdictOn, reached, Fits, After}
 use Rattle.acceptance.proofs.Steps.{at-fault, ends-clean, ends-cut}
-use Rattle.hexlines.specs.declared.LineSoFar.{LineSoFar}
-use Rattle.hexlines.specs.Line.{lineBytes, hexNumber}
-use Rattle.hexlines.specs.Notes.{noNotes}
-use Rattle.hexlines.specs.Lines.{emptyLine, answerOf, meaningSoFar, readSoFar, readFrom}
-use Rattle.hexlines.proofs.FitLines.{LineFits, line-fits, fitting-bits}
+use Rattle.line_meanings.specs.declared.LineSoFar.{LineSoFar}
+use Rattle.line_meanings.specs.Line.{lineBytes, hexNumber}
+use Rattle.line_meanings.specs.Notes.{noNotes}
+use Rattle.line_meanings.specs.Lines.{emptyLine, answerOf, meaningSoFar, readSoFar, readFrom}
+use Rattle.line_meanings.proofs.FitLines.{LineFits, line-fits, fitting-bits}
 use Rattle.judging.specs.declared.Judging.{Judging}
-use Rattle.judging.specs.Judgement.{byVerdict, byLine, isFault, lineBits, nextLineNumber, judgedLines}
+use Rattle.judgements.specs.Judgement.{byVerdict, byLine, isFault, lineBits, nextLineNumber, judgedLines}
 use Rattle.judging.specs.Judging.{refusedAt, stillJudged, WellFormed, EndsLine}
 
 -- A pattern is at fault, whatever follows, exactly where the progress says so.

@@ -7,10 +7,10 @@ use native.Mathlib.Omega.{arith}
 use Rattle.patterns.specs.Verdicts.{verdictOf}
 use Rattle.acceptance.specs.Progress as progress
 use Rattle.acceptance.proofs.Steps.{going, start-fits}
-use Rattle.hexlines.specs.Lines.{emptyLine, linesOf, linesRead, readFrom}
-use Rattle.hexlines.proofs.Blocks.{lines}
+use Rattle.line_meanings.specs.Lines.{emptyLine, linesOf, linesRead, readFrom}
+use Rattle.line_meanings.proofs.Blocks.{lines}
 use Rattle.judging.specs.declared.Judging.{Judging}
-use Rattle.judging.specs.Judgement.{judgedLines, judgedOf}
+use Rattle.judgements.specs.Judgement.{judgedLines, judgedOf}
 use Rattle.judging.specs.Judging.{start, judgementOf, stillJudged, WellFormed, JudgesBlock, EndsInput}
 use Rattle.judging.specs.Blocks.{BlocksJudged, joined, AsRead}
 

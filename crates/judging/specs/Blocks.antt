@@ -4,7 +4,7 @@ use mathlib.Core.Path.{_≡_}
 use mathlib.Core.List.{List, [], _∷_, _++_}
 use Prim.Native.Nat.{ℕ}
 use Rattle.judging.specs.declared.Judging.{Judging}
-use Rattle.judging.specs.Judgement.{judgedOf}
+use Rattle.judgements.specs.Judgement.{judgedOf}
 use Rattle.judging.specs.Judging.{start, judgementOf, JudgesBlock, EndsInput}
 
 abbrev pub BlocksJudged : Judging → List (List ℕ) → Judging → Type 0

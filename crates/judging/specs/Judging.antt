@@ -8,11 +8,11 @@ use lib.Dec.{eqb}
 use Rattle.limits.specs.Limits.{clockLimit}
 use Rattle.acceptance.specs.Progress as progress
 use Rattle.acceptance.specs.Progress.{verdictOn, reached, Fits}
-use Rattle.hexlines.specs.declared.LineSoFar.{LineSoFar}
-use Rattle.hexlines.specs.Lines.{emptyLine, readSoFar, readFrom}
+use Rattle.line_meanings.specs.declared.LineSoFar.{LineSoFar}
+use Rattle.line_meanings.specs.Lines.{emptyLine, readSoFar, readFrom}
 use Rattle.judging.specs.declared.Judging.{Judging}
-use Rattle.judging.specs.declared.Judgement.{Judgement}
-use Rattle.judging.specs.Judgement.{byVerdict, byLine, judgedLines}
+use Rattle.judgements.specs.declared.Judgement.{Judgement}
+use Rattle.judgements.specs.Judgement.{byVerdict, byLine, judgedLines}
 
 abbrev pub start : Judging
 start = record { progress = progress.start; line = emptyLine; lines = 0; bits = 0; over = false; number = 0 }

@@ -1,4 +1,2 @@
-pub mod Judgement
 pub mod Judging
-pub mod Examples
 pub mod Blocks

@@ -1,15 +1,14 @@
 // A run of `accept` but for its reads and writes: from the characters of hexadecimal lines to what is said of their bits.
 ghost use mathlib.Core.Path.{_≡_};
-ghost use lib.ListN.{length};
-ghost use Rattle.output.specs.Block.{blockLength, block, putAll};
-ghost use Rattle.hexlines.specs.Line.{hexNumber};
-ghost use Rattle.hexlines.specs.Lines.{answerOf};
-ghost use Rattle.judging.specs.Judgement.{nextLineNumber, textOf, messageOf};
+ghost use Rattle.line_meanings.specs.Line.{hexNumber};
+ghost use Rattle.line_meanings.specs.Lines.{answerOf};
+ghost use Rattle.judgements.specs.Judgement.{nextLineNumber};
 ghost use Rattle.judging.specs.Judging.{start, refusedAt, WellFormed, EndsLine, JudgesBlock, EndsInput, judgementOf};
 use acceptance::Progress;
 use decoder::Decoder;
-use hexlines::LineNotes;
-use hexlines::LineSoFar;
+use judgements::Judgement;
+use line_meanings::LineNotes;
+use line_meanings::LineSoFar;
 
 // The state of a run under way.
 pub struct Judging {
@@ -26,14 +25,6 @@ pub struct Judging {
 
 // The refusal number of a line whose bits pass the last clock cycle.
 const CLOCK_OVER: u8 = 6;
-
-// What is said in the end: a refusal's number, 0 for none; the place of a pattern at fault; or the number of a line that was refused, from 1, and its notes.
-pub struct Judgement {
-    pub number: u8,
-    pub place: u64,
-    pub line: u64,
-    pub notes: LineNotes,
-}
 
 impl Judging {
     pub fn start() -> Judging
@@ -112,7 +103,7 @@ impl Judging {
         let mut next: usize = 0;
         while (next < input.len()) & !state.over {
             let line = state.line;
-            let scanned = line.scan(input, next);
+            let scanned = line_scans::scan(line, input, next);
             next = scanned.next;
             let longer = scanned.line;
             state.line = longer;
@@ -162,33 +153,5 @@ impl Judging {
                 character: 0,
             },
         }
-    }
-}
-
-impl Judgement {
-    // The line that a refusal prints; the answer is how many bytes it takes.
-    pub fn put_text(self, out: &mut [u8]) -> usize
-        requires { ⌜ length (now out) ≡ blockLength ⌝ }
-        ensures { λ r. ⌜ block (now (out .exit)) r ≡ putAll (now (out .entry)) 0 (textOf self) ⌝ }
-    {
-        if 13 <= self.number {
-            return layout::fault_line(out, 0, self.number, self.place);
-        }
-        if 7 <= self.number {
-            return layout::refused_line(out, 0, self.number, self.line);
-        }
-        0
-    }
-
-    // The sentence of a refusal; the answer is how many bytes it takes.
-    pub fn put_message(self, out: &mut [u8]) -> usize
-        requires { ⌜ length (now out) ≡ blockLength ⌝ }
-        ensures { λ r. ⌜ block (now (out .exit)) r ≡ putAll (now (out .entry)) 0 (messageOf self) ⌝ }
-    {
-        if 13 <= self.number {
-            return fault_messages::put_fault(out, 0, self.number, self.place);
-        }
-        let notes = self.notes;
-        messages::put_sentence(out, 0, self.number, self.line, notes)
     }
 }

@@ -28,12 +28,12 @@ use Rattle.recogniser.specs.Fields.{endsOf}
 use Rattle.recogniser.specs.Groups.{isEighth, groupOf}
 use Rattle.recogniser.specs.Step.{stepBy, stepOf}
 use Rattle.slow_fields.proofs.Lengths.{length-most}
-use Rattle.registers.specs.declared.Plan.{Plan}
+use Rattle.plans.specs.declared.Plan.{Plan}
 use Rattle.registers.specs.declared.Model.{Model}
 use Rattle.registers.specs.declared.Pointers.{Pointers}
 use Rattle.registers.specs.Registers.{zeros16}
 use Rattle.registers.specs.Parts.{zeroPointers}
-use Rattle.registers.specs.Fifos.{movedOn}
+use Rattle.fifos.specs.Fifos.{movedOn}
 use Rattle.decoder.specs.declared.Decoder.{Decoder}
 use Rattle.controller.specs.Widths.{ModelFits}
 use Rattle.controller.proofs.EffectCases.{act-keeps, write-keeps}

@@ -4,7 +4,7 @@ use mathlib.Core.Path.{_≡_, refl}
 use Prim.Native.Char.{code}
 use Prim.Native.Nat.{ℕ}
 use Rattle.output.specs.Ascii.{ascii}
-use Rattle.hexlines.specs.declared.LineNotes.{LineNotes}
+use Rattle.line_meanings.specs.declared.LineNotes.{LineNotes}
 use Rattle.decimal_digits.specs.Decimal.{decimalWithin, labelled}
 use Rattle.wrong_characters.specs.WrongCharacters.{characterText}
 use Rattle.messages.specs.Sentences.{wrongLength, reasonOf, sentenceOf}

@@ -6,8 +6,8 @@ use lib.Dec.{ltb, eqb}
 use lib.ListN.{length, length-append}
 use Rattle.bits.proofs.Truth.{choice}
 use Rattle.output.specs.Ascii.{ascii}
-use Rattle.hexlines.specs.declared.LineNotes.{LineNotes}
-use Rattle.hexlines.specs.Line.{digitLimit}
+use Rattle.line_meanings.specs.declared.LineNotes.{LineNotes}
+use Rattle.line_meanings.specs.Line.{digitLimit}
 use Rattle.decimal_digits.proofs.Lengths.{labelled-length, Short}
 use Rattle.wrong_characters.proofs.Lengths.{character-length}
 use Rattle.messages.specs.Sentences.{wrongLength, reasonOf, sentenceOf}

@@ -5,8 +5,8 @@ use mathlib.Core.List.{List, _++_}
 use Prim.Native.Nat.{ℕ}
 use lib.Dec.{ltb, eqb}
 use Rattle.output.specs.Ascii.{ascii}
-use Rattle.hexlines.specs.declared.LineNotes.{LineNotes}
-use Rattle.hexlines.specs.Line.{digitLimit}
+use Rattle.line_meanings.specs.declared.LineNotes.{LineNotes}
+use Rattle.line_meanings.specs.Line.{digitLimit}
 use Rattle.decimal_digits.specs.Decimal.{labelled}
 use Rattle.wrong_characters.specs.WrongCharacters.{wrongCharacter}
 

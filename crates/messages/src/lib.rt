@@ -4,7 +4,7 @@ ghost use Prim.Native.Nat.{_+_, _≤_};
 ghost use lib.ListN.{length};
 ghost use Rattle.output.specs.Block.{block, putAll};
 ghost use Rattle.messages.specs.Sentences.{wrongLength, reasonOf, sentenceOf};
-use hexlines::LineNotes;
+use line_meanings::LineNotes;
 
 // Number 8: the count of digits.
 fn put_wrong_length(out: &mut [u8], at: usize, notes: LineNotes) -> usize

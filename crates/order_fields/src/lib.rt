@@ -12,7 +12,7 @@ use text_numbers::Number;
 pub fn address_field(text: &[u8], kind: u64) -> Number
     ensures { λ r. ⌜ r ≡ addressField kind (wordsIn (now (text .entry))) ⌝ }
 {
-    if !orders::uses_address(kind) {
+    if !order_kinds::uses_address(kind) {
         return Number {
             right: true,
             value: 0,
@@ -24,14 +24,14 @@ pub fn address_field(text: &[u8], kind: u64) -> Number
 pub fn value_field(text: &[u8], kind: u64) -> Number
     ensures { λ r. ⌜ r ≡ valueField kind (wordsIn (now (text .entry))) ⌝ }
 {
-    let width = orders::value_width(kind);
+    let width = order_kinds::value_width(kind);
     if width == 0 {
         return Number {
             right: true,
             value: 0,
         };
     }
-    let ahead = 1 + command_names::one_if(orders::uses_address(kind));
+    let ahead = 1 + command_names::one_if(order_kinds::uses_address(kind));
     text_numbers::sized(
         width,
         text_numbers::read_number(16, text_words::word(text, ahead)),
@@ -42,7 +42,7 @@ pub fn frame_field(text: &[u8], kind: u64, bytes: &mut [u8]) -> FrameRead
     requires { ⌜ (length (now text) ≤ lineLimit) × (length (now bytes) ≡ frameLimit) ⌝ }
     ensures { λ r. ⌜ FrameAs r (now (bytes .exit)) (frameField kind (wordsIn (now (text .entry)))) ⌝ }
 {
-    if !orders::is_frame_kind(kind) {
+    if !order_kinds::is_frame_kind(kind) {
         return FrameRead {
             right: true,
             bits: 0,

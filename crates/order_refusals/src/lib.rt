@@ -61,7 +61,7 @@ impl Refusal {
     pub fn of_order(context: Context, line: u64, order: Order, bytes: usize) -> Refusal
         ensures { λ r. ⌜ r ≡ orderRefusal context line order bytes ⌝ }
     {
-        let number = context.number(order, bytes);
+        let number = contexts::number(context, order, bytes);
         if number == 0 {
             return Refusal::none();
         }
@@ -70,7 +70,7 @@ impl Refusal {
                 number: WRONG_ORDER,
                 line: line,
                 reason: OTHER_BITS,
-                asked: orders::frame_count(order.kind, context.cnt),
+                asked: order_kinds::frame_count(order.kind, context.cnt),
                 given: order.bits,
             };
         }

@@ -10,7 +10,7 @@ use lib.ListN.{length, take}
 use borrow.Author.Tests.{eqb-true, eqb-false, not-true, not-false}
 use Rattle.bits.proofs.Truth.{clash}
 use Rattle.orders.specs.Streams.{streamOf}
-use Rattle.hexlines.specs.Lines.{isEmpty}
+use Rattle.line_meanings.specs.Lines.{isEmpty}
 use Rattle.gathered_lines.specs.Gathering.{textSoFar, textsFrom}
 use Rattle.order_refusals.specs.Refusals.{refusal, refusalIn, ordersIn}
 use Rattle.compositions.specs.declared.Composition.{Composition}

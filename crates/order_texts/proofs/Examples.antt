@@ -3,7 +3,7 @@
 use mathlib.Core.Path.{refl}
 use Rattle.orders.specs.Fields.{orderFits}
 use Rattle.orders.specs.Streams.{commandBits, streamOf}
-use Rattle.hexlines.specs.Lines.{linesFrom}
+use Rattle.line_meanings.specs.Lines.{linesFrom}
 use Rattle.text_words.specs.Words.{upTo, wordsFrom, sameWord}
 use Rattle.text_numbers.specs.Numbers.{numberFrom, numberOf, sized}
 use Rattle.text_frames.specs.Frames.{bitsSaid, frameOf}

@@ -11,7 +11,7 @@ use lib.Seq.{sets, sets-eq, take-at}
 use Rattle.orders.specs.Streams.{streamOf, packed}
 use Rattle.orders.specs.Composing.{roomFits}
 use Rattle.orders.proofs.Packing.{packed-length}
-use Rattle.hexlines.specs.Lines.{linesOf}
+use Rattle.line_meanings.specs.Lines.{linesOf}
 use Rattle.gathered_lines.specs.Gathering.{lineTexts}
 use Rattle.gathered_lines.proofs.Gathering.{texts}
 use Rattle.order_refusals.specs.Refusals.{noRefusal, refusalIn, ordersIn}

@@ -7,7 +7,7 @@ use lib.Dec.{eqb}
 use lib.ListN.{length}
 use Rattle.orders.specs.Streams.{streamOf, packed}
 use Rattle.orders.specs.Composing.{start, roomFits}
-use Rattle.hexlines.specs.Lines.{linesOf}
+use Rattle.line_meanings.specs.Lines.{linesOf}
 use Rattle.gathered_lines.specs.Gathering.{lineTexts}
 use Rattle.order_refusals.specs.Refusals.{noRefusal, refusalIn, ordersIn}
 use Rattle.compositions.specs.Compositions.{outputLimit, Composed, composed, refusedWith, tooLong}

@@ -1,7 +1,7 @@
 -- The table of orders, computed.
 -- Assumes nothing.
 use mathlib.Core.Path.{refl}
-use Rattle.registers.specs.Plan.{planFits}
+use Rattle.plans.specs.Plan.{planFits}
 use Rattle.orders.specs.Fields.{orderFits, orderIn, ordersFrom}
 use Rattle.orders.specs.Streams.{commandBits, streamOf}
 use Rattle.orders.specs.Composing.{refusalFrom, composeOf}

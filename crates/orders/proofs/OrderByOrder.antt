@@ -10,7 +10,7 @@ use lib.Dec.{eqb}
 use lib.ListN.{length}
 use borrow.Author.Tests.{eq-eqb, ne-eqb, eqb-true, eqb-false}
 use Rattle.bits.proofs.Truth.{cases}
-use Rattle.registers.specs.declared.Plan.{Plan}
+use Rattle.plans.specs.declared.Plan.{Plan}
 use Rattle.orders.specs.declared.Order.{Order}
 use Rattle.orders.specs.declared.Context.{Context}
 use Rattle.orders.specs.declared.Composed.{Composed}

@@ -4,7 +4,7 @@ use mathlib.Core.Path.{_≡_}
 use mathlib.Core.List.{List, [], _∷_, _++_, map}
 use Prim.Native.Nat.{ℕ}
 use lib.ListN.{replicate}
-use Rattle.registers.specs.Plan.{defaultPlan}
+use Rattle.plans.specs.Plan.{defaultPlan}
 use Rattle.orders.specs.Fields.{ordersIn}
 use Rattle.orders.specs.Composing.{ComposeResult, composeOf}
 

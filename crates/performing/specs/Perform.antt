@@ -7,7 +7,7 @@ use lib.ListN.{set}
 use Rattle.limits.specs.Limits.{listUnit}
 use Rattle.recogniser.specs.declared.Request.{Request}
 use Rattle.recogniser.specs.declared.Request.the-variants.{Nothing, Lv1, Fast, BadFast, Slow}
-use Rattle.registers.specs.declared.Plan.{Plan}
+use Rattle.plans.specs.declared.Plan.{Plan}
 use Rattle.registers.specs.declared.Model.{Model}
 use Rattle.registers.specs.Registers.{cntOf}
 use Rattle.records.specs.declared.Cycle.{Cycle}

@@ -10,11 +10,11 @@ ghost use Rattle.registers.specs.Registers.{cntOf};
 ghost use Rattle.timing.specs.TooClose.{earlierBelow};
 ghost use Rattle.performing.specs.Perform.{performResult, performedWith, cntAfter, performOf};
 use decoder::Decoder;
+use plans::Plan;
 use recogniser::Request;
 use records::Cycle;
 use records::Record;
 use registers::Model;
-use registers::Plan;
 use timing::Earlier;
 
 // Where a call stands once a request is performed: the model with its CNT, the earlier record, the next free word of the list, and whether the call stops

@@ -10,10 +10,10 @@ use borrow.Author.Tests.{ne-eqb}
 use Rattle.output.specs.Ascii.{ascii}
 use Rattle.output.specs.Block.{block, putAll, putIfFits}
 use Rattle.output.proofs.Pieces.{put-when-fits, put-end-within}
-use Rattle.hexlines.specs.declared.LineSoFar.{LineSoFar}
-use Rattle.hexlines.specs.Line.{lineBytes, hexNumber}
-use Rattle.hexlines.specs.Lines.{emptyLine, answerOf, meaningSoFar, readSoFar, readFrom}
-use Rattle.hexlines.proofs.FitLines.{LineFits, line-fits, fitting-bits}
+use Rattle.line_meanings.specs.declared.LineSoFar.{LineSoFar}
+use Rattle.line_meanings.specs.Line.{lineBytes, hexNumber}
+use Rattle.line_meanings.specs.Lines.{emptyLine, answerOf, meaningSoFar, readSoFar, readFrom}
+use Rattle.line_meanings.proofs.FitLines.{LineFits, line-fits, fitting-bits}
 use Rattle.layout.specs.ListingLines.{refusedLine}
 use Rattle.number_lines.proofs.LineLengths.{line-length}
 use Rattle.program.specs.Listing.{outcome, nextLineNumber, listingOf}

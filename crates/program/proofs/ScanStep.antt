@@ -10,9 +10,9 @@ use borrow.Author.Tests.{le-leb}
 use Rattle.bits.proofs.Truth.{choice}
 use Rattle.limits.specs.Limits.{clockLimit}
 use Rattle.decoder.proofs.Soundness.{sound-parts}
-use Rattle.hexlines.specs.declared.Scanned.{Scanned}
-use Rattle.hexlines.specs.Lines.{emptyLine, scanOf, readSoFar, readFrom}
-use Rattle.hexlines.proofs.Blocks.{scan-complete, scan-incomplete, scan-to-end, scan-within, scan-advances}
+use Rattle.line_meanings.specs.declared.Scanned.{Scanned}
+use Rattle.line_meanings.specs.Lines.{emptyLine, scanOf, readSoFar, readFrom}
+use Rattle.line_meanings.proofs.Blocks.{scan-complete, scan-incomplete, scan-to-end, scan-within, scan-advances}
 use Rattle.program.specs.Listing.{bitsText, listingOf}
 use Rattle.program.specs.RunState.{Snapshot, snapshot, systemAt, blockThen, stillToPrint, allPrinted, linesPrinted}
 use Rattle.program.specs.RunState.{WellFormed, StepReady, lineBits, workLeft, AfterLineEnd, AfterSteps, withInput}

@@ -9,12 +9,12 @@ use lib.Dec.{leb, eqb}
 use lib.ListN.{length, set, take, drop, drop-of-length-le, length-take}
 use borrow.Author.Tests.{leb-true, eqb-true}
 use Rattle.bits.proofs.Truth.{both, clash}
-use Rattle.registers.specs.Plan.{defaultPlan}
+use Rattle.plans.specs.Plan.{defaultPlan}
 use Rattle.limits.specs.Limits.{storeLength, trayLength}
 use Rattle.calls.proofs.SoundnessKept.{start-sound}
 use Rattle.output.specs.Ascii.{lineFeed}
-use Rattle.hexlines.specs.Lines.{noCharacters, readFrom}
-use Rattle.hexlines.proofs.Blocks.{lines}
+use Rattle.line_meanings.specs.Lines.{noCharacters, readFrom}
+use Rattle.line_meanings.proofs.Blocks.{lines}
 use Rattle.program.specs.declared.RunState.{RunState}
 use Rattle.program.specs.Listing.{Outcome, outcome, printFirst, listingOf}
 use Rattle.program.specs.RunState.{start, Snapshot, snapshot, systemAt, endOf, stillToPrint, WellFormed, AfterSteps}

@@ -9,7 +9,7 @@ use Rattle.bits.proofs.Truth.{choice}
 use Rattle.limits.specs.Limits.{storeLength}
 use Rattle.decoder.specs.declared.Decoder.{Decoder}
 use Rattle.output.specs.Block.{blockLength}
-use Rattle.listing.proofs.State.{state-fits-block}
+use Rattle.state_listing.proofs.State.{state-fits-block}
 use Rattle.program.specs.declared.PrintOptions.{PrintOptions}
 use Rattle.program.specs.Listing.{stateLines}
 

@@ -15,9 +15,9 @@ use Rattle.calls.specs.Take.{Call, CallResult, takeOf}
 use Rattle.calls.proofs.SoundnessKept.{take-sound}
 use Rattle.output.specs.Block.{block, putAll}
 use Rattle.output.proofs.Pieces.{put-end-within}
-use Rattle.hexlines.specs.declared.LineNotes.{LineNotes}
-use Rattle.hexlines.specs.Line.{lineBytes}
-use Rattle.hexlines.specs.Lines.{readFrom}
+use Rattle.line_meanings.specs.declared.LineNotes.{LineNotes}
+use Rattle.line_meanings.specs.Line.{lineBytes}
+use Rattle.line_meanings.specs.Lines.{readFrom}
 use Rattle.listing.specs.Records.{recordsText}
 use Rattle.program.specs.Listing.{refusal, noRefusal, Outcome, outcome, printFirst, listingOf}
 use Rattle.program.specs.RunState.{Snapshot, snapshot, systemAt, blockThen, stillToPrint, allPrinted, WellFormed, StepReady, AfterTake}

@@ -22,8 +22,8 @@ use Rattle.calls.specs.Calls.{systemAfter}
 use Rattle.calls.proofs.RunFaithful.{run-faithful}
 use Rattle.calls.proofs.LoopInvariant.{length-bits}
 use Rattle.calls.proofs.Refusals.{buffers, range, taken, clock-over}
-use Rattle.hexlines.specs.declared.LineNotes.{LineNotes}
-use Rattle.hexlines.specs.Line.{lineBytes}
+use Rattle.line_meanings.specs.declared.LineNotes.{LineNotes}
+use Rattle.line_meanings.specs.Line.{lineBytes}
 use Rattle.listing.specs.Records.{recordsText}
 use Rattle.program.specs.RunState.{lineBits, listWords}
 use Rattle.program.specs.Listing.{refusal, Outcome, outcome, printFirst, bitsThen, bitsText}

@@ -11,7 +11,7 @@ use borrow.Author.Tests.{eqb-true, eqb-false}
 use Rattle.limits.specs.Limits.{storeLength, trayLength}
 use Rattle.output.specs.Ascii.{lineFeed}
 use Rattle.output.specs.Block.{blockLength}
-use Rattle.hexlines.specs.Lines.{noCharacters}
+use Rattle.line_meanings.specs.Lines.{noCharacters}
 use Rattle.program.specs.declared.PrintOptions.{PrintOptions}
 use Rattle.program.specs.declared.RunState.{RunState}
 use Rattle.program.specs.Listing.{outcome, stateLines}

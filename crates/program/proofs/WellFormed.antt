@@ -5,7 +5,7 @@ use mathlib.Core.List.{List}
 use mathlib.Core.Path.{_≡_, refl}
 use Prim.Native.Nat.{ℕ, _+_, _≤_}
 use lib.ListN.{length}
-use Rattle.hexlines.specs.declared.LineSoFar.{LineSoFar}
+use Rattle.line_meanings.specs.declared.LineSoFar.{LineSoFar}
 use Rattle.program.specs.declared.RunState.{RunState}
 use Rattle.program.specs.RunState.{Snapshot, snapshot, lineBits, WellFormed, withInput}
 

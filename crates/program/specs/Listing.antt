@@ -13,12 +13,12 @@ use Rattle.decoder.specs.declared.Decoder.{Decoder}
 use Rattle.calls.specs.Run.{stateAfter}
 use Rattle.calls.specs.Turn.{System, turnOf}
 use Rattle.calls.specs.Take.{clockFits}
-use Rattle.hexlines.specs.declared.LineNotes.{LineNotes}
-use Rattle.hexlines.specs.Notes.{noNotes}
-use Rattle.hexlines.specs.Lines.{LineRead}
+use Rattle.line_meanings.specs.declared.LineNotes.{LineNotes}
+use Rattle.line_meanings.specs.Notes.{noNotes}
+use Rattle.line_meanings.specs.Lines.{LineRead}
 use Rattle.layout.specs.ListingLines.{refusedLine}
 use Rattle.listing.specs.Records.{recordText}
-use Rattle.listing.specs.State.{stateText}
+use Rattle.state_listing.specs.State.{stateText}
 use Rattle.program.specs.declared.PrintOptions.{PrintOptions}
 
 -- The records cycle by cycle, whatever the taking calls are.

@@ -5,10 +5,10 @@ use mathlib.Core.List.{List, [], _++_}
 use mathlib.Core.Path.{_≡_}
 use Prim.Native.Nat.{ℕ}
 use lib.ListN.{take, drop}
-use Rattle.registers.specs.Plan.{defaultPlan}
+use Rattle.plans.specs.Plan.{defaultPlan}
 use Rattle.decoder.specs.Opening.{openOf}
 use Rattle.calls.specs.Turn.{System, systemOf, decoderOf}
-use Rattle.hexlines.specs.Lines.{linesOf, linesRead}
+use Rattle.line_meanings.specs.Lines.{linesOf, linesRead}
 use Rattle.program.specs.declared.PrintOptions.{PrintOptions}
 use Rattle.program.specs.declared.RunState.{RunState}
 use Rattle.program.specs.Listing.{Outcome, outcome, printFirst, listingOf, stateLines}

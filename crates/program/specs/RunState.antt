@@ -7,16 +7,16 @@ use Prim.Native.Nat.{ℕ, _+_, _*_, _-_, _<_, _≤_}
 use lib.Dec.{T, ltb, leb, eqb}
 use lib.ListN.{length, set, take, drop, replicate}
 use Rattle.bits.specs.Bits.{bitsOf}
-use Rattle.registers.specs.Plan.{defaultPlan}
+use Rattle.plans.specs.Plan.{defaultPlan}
 use Rattle.limits.specs.Limits.{storeLength, trayLength}
 use Rattle.decoder.specs.Opening.{openOf}
 use Rattle.decoder.specs.Sound.{soundOf}
 use Rattle.calls.specs.Turn.{System, systemOf}
 use Rattle.output.specs.Ascii.{lineFeed}
 use Rattle.output.specs.Block.{blockLength}
-use Rattle.hexlines.specs.declared.LineSoFar.{LineSoFar}
-use Rattle.hexlines.specs.Line.{lineBytes}
-use Rattle.hexlines.specs.Lines.{LineRead, emptyLine, noCharacters, readSoFar, readFrom}
+use Rattle.line_meanings.specs.declared.LineSoFar.{LineSoFar}
+use Rattle.line_meanings.specs.Line.{lineBytes}
+use Rattle.line_meanings.specs.Lines.{LineRead, emptyLine, noCharacters, readSoFar, readFrom}
 use Rattle.messages.specs.Sentences.{sentenceOf}
 use Rattle.program.specs.declared.RunState.{RunState}
 use Rattle.program.specs.Listing.{Refusal, refusal, noRefusal, Outcome, outcome, printFirst, bitsThen, listingOf}

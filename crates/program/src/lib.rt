@@ -9,8 +9,8 @@ ghost use Rattle.program.specs.Listing.{stateLines};
 ghost use Rattle.program.specs.RunState.{start, canStep, EndsLine, ScansLine};
 ghost use Rattle.program.specs.RunState.{messageOf, clockNumber, wantsInput, receivedOf, receivedBlock};
 use decoder::Decoder;
-use hexlines::LineSoFar;
-use registers::Plan;
+use line_meanings::LineSoFar;
+use plans::Plan;
 
 // What a program prints beside the records: the frames, and at the end of the run the controller as the commands left it.
 pub struct PrintOptions {
@@ -25,7 +25,7 @@ pub struct RunState {
     pub line: LineSoFar,
     pub lines: u64,
     // Of the line that ended last: its bytes, the first of its bits that is not taken yet, and how many are left.
-    pub bytes: [u8; hexlines::LINE_BYTES],
+    pub bytes: [u8; line_meanings::LINE_BYTES],
     pub first: usize,
     pub count: usize,
     // Of the block of input: the places after what is scanned, and after what a read brought. Of the block of output: the place after what is put.
@@ -63,7 +63,7 @@ impl RunState {
             decoder: decoder,
             line: LineSoFar::empty(),
             lines: 0,
-            bytes: [0; hexlines::LINE_BYTES],
+            bytes: [0; line_meanings::LINE_BYTES],
             first: 0,
             count: 0,
             next: 0,
@@ -104,7 +104,7 @@ impl RunState {
         ensures { λ r. ⌜ ScansLine (now (input .entry)) self (now (out .entry)) r (now (out .exit)) ⌝ }
     {
         let line = self.line;
-        let scanned = line.scan(input, self.next);
+        let scanned = line_scans::scan(line, input, self.next);
         let longer = scanned.line;
         let mut next = self;
         next.line = longer;
@@ -163,7 +163,7 @@ impl RunState {
             return 0;
         }
         let decoder = self.decoder;
-        listing::put_state(out, decoder, store)
+        state_listing::put_state(out, decoder, store)
     }
 
     // The message of the refusal that ended a run; the answer is how many bytes it takes.

@@ -10,7 +10,7 @@ use Rattle.damage.specs.Records.{Ahead, aheadOf, sends}
 use Rattle.damage.proofs.Separation.{by-items, by-pairs}
 use Rattle.damage.proofs.Comparison.{Standing, beside, counters}
 use Rattle.damage.proofs.Spacing.{alike-equal, only-first}
-use Rattle.damage.proofs.CallLists.{clean-recorded, hit-recorded}
+use Rattle.damaged_runs.proofs.CallLists.{clean-recorded, hit-recorded}
 use Rattle.damage.proofs.StreamBits.{stream-binary, inverted-binary, length-inverted}
 use Rattle.promises.specs.ManyHits.{FourthPromise, PremiseByItems, FourthPromiseMet}
 

@@ -11,9 +11,9 @@ use lib.Seq.{sets}
 use borrow.Author.Tests.{le-leb, lt-leb, ltb-true, ltb-false}
 use Rattle.bits.proofs.Truth.{clash}
 use Rattle.limits.specs.Limits.{clockLimit, storeLength, trayLength, inputLimit}
-use Rattle.registers.specs.declared.Plan.{Plan}
-use Rattle.registers.specs.Plan.{existsAt, planFits}
-use Rattle.registers.proofs.DefaultPlan.{default-numbers}
+use Rattle.plans.specs.declared.Plan.{Plan}
+use Rattle.plans.specs.Plan.{existsAt, planFits}
+use Rattle.plans.proofs.DefaultPlan.{default-numbers}
 use Rattle.decoder.specs.declared.Decoder.{Decoder}
 use Rattle.decoder.specs.Opening.{openOf}
 use Rattle.decoder.specs.Sound.{soundOf}
@@ -23,9 +23,9 @@ use Rattle.calls.specs.Turn.{turnOf}
 use Rattle.calls.specs.Take.{Call, CallResult, offered, lent, refused, clockFits, takenOf, takeOf, endingNumber}
 use Rattle.calls.proofs.RunEndings.{run-ended}
 use Rattle.calls.proofs.Refusals.{buffers, range, unsound, wrong-buffers, wrong-range, clock-over, taken, limits-agree}
-use Rattle.hexlines.specs.Digits.{isDigit, allDigits, bytesOf}
-use Rattle.hexlines.specs.Line as lines
-use Rattle.hexlines.specs.Line.{LineMeaning, Read, countFits, lineMeaning, readOf, readInto}
+use Rattle.line_meanings.specs.Digits.{isDigit, allDigits, bytesOf}
+use Rattle.line_meanings.specs.Line as lines
+use Rattle.line_meanings.specs.Line.{LineMeaning, Read, countFits, lineMeaning, readOf, readInto}
 use Rattle.promises.specs.Refusals.{firstOf, threeInMask, threeDiffer, takingRows, wrongCharacter, someWrong, hexRows, readingRows, readAs}
 use Rattle.promises.specs.Refusals.{Opens, Takes, AsBefore, LineMeans, ReadsLine, FirstDemand}
 

@@ -9,15 +9,15 @@ use lib.Dec.{leb, ltb, eqb}
 use lib.ListN.{length}
 use lib.Seq.{sets}
 use Rattle.limits.specs.Limits.{clockLimit, storeLength, trayLength, inputLimit, listUnit}
-use Rattle.registers.specs.declared.Plan.{Plan}
-use Rattle.registers.specs.Plan.{existsAt, defaultPlan}
+use Rattle.plans.specs.declared.Plan.{Plan}
+use Rattle.plans.specs.Plan.{existsAt, defaultPlan}
 use Rattle.decoder.specs.declared.Decoder.{Decoder}
 use Rattle.decoder.specs.Opening.{openedAt, openOf, openingNumber}
 use Rattle.decoder.specs.Sound.{soundOf}
 use Rattle.calls.specs.declared.Ending.{Ending}
 use Rattle.calls.specs.Take.{Call, refused, takenOf, takeWithin, takeOf, endingNumber}
-use Rattle.hexlines.specs.Digits.{bytesOf}
-use Rattle.hexlines.specs.Line.{Read, lineMeaning, readInto}
+use Rattle.line_meanings.specs.Digits.{bytesOf}
+use Rattle.line_meanings.specs.Line.{Read, lineMeaning, readInto}
 
 -- A row of the refusal table: its number, and whether it applies to this call.
 pub record Row : Type 0 where

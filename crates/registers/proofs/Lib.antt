@@ -1,4 +1,1 @@
-pub mod DefaultPlan
-pub mod PlanAddresses
 pub mod TestLoop
-pub mod WriteLoop

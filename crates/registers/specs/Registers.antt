@@ -5,7 +5,7 @@ use mathlib.Core.List.{List}
 use Prim.Native.Nat.{ℕ, _+_, _*_, _/_, _%_}
 use lib.Dec.{eqb}
 use lib.ListN.{getD, set, replicate}
-use Rattle.registers.specs.declared.Plan.{Plan}
+use Rattle.plans.specs.declared.Plan.{Plan}
 use Rattle.registers.specs.declared.Warnings.{Warnings}
 use Rattle.registers.specs.declared.Model.{Model}
 

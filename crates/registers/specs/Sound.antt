@@ -5,9 +5,9 @@ use mathlib.Core.List.{List}
 use Prim.Native.Nat.{ℕ, zero, suc, _+_}
 use lib.Dec.{ltb, eqb}
 use lib.ListN.{getD}
-use Rattle.registers.specs.declared.Plan.{Plan}
+use Rattle.plans.specs.declared.Plan.{Plan}
 use Rattle.registers.specs.declared.Model.{Model}
-use Rattle.registers.specs.Plan.{existsAt}
+use Rattle.plans.specs.Plan.{existsAt}
 
 -- A test of so many numbers from i on.
 unfoldable pub everyFrom : ℕ → ℕ → (ℕ → Bool) → Bool

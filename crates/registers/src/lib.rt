@@ -1,24 +1,13 @@
-// What the controller holds: the register plan, the registers, the FIFOs' pointers and words, counters, warnings and RunMode;
+// What the controller holds: the registers, the FIFOs' pointers, counters, warnings and RunMode;
 // how they are read, what a write stores, and what a sound state has of them.
 ghost use mathlib.Core.Path.{_≡_};
 ghost use mathlib.Core.Bool.{cond};
 ghost use Prim.Native.Nat.{_<_, _≤_};
 ghost use lib.Dec.{eqb};
-ghost use lib.ListN.{length};
-ghost use Rattle.registers.specs.Plan.{existsAt, planFits, defaultPlan};
-ghost use Rattle.limits.specs.Limits.{storeLength};
 ghost use Rattle.registers.specs.Registers.{registerOf, cntOf, warningBits, csrWith, readOf};
 ghost use Rattle.registers.specs.Parts.{cleared};
-ghost use Rattle.registers.specs.Fifos.{movedOn, writeOf, readWordOf};
 ghost use Rattle.registers.specs.Sound.{pointersFit, missingZero};
-
-// Document 01's register plan: the addresses that exist (bit n of the mask for address n), and those of CSR, FEEN and CNT.
-pub struct Plan {
-    pub mask: u16,
-    pub csr: u8,
-    pub feen: u8,
-    pub cnt: u8,
-}
+use plans::Plan;
 
 // L1ID, the trigger number, and the cycle from which the bunch number counts.
 pub struct Counters {
@@ -49,9 +38,6 @@ pub struct Model {
     pub pointers: Pointers,
 }
 
-// FIFO words have 27 bits: each is below this.
-pub const WORD: u32 = 0x0800_0000;
-
 pub fn flag(on: bool, bit: u8) -> u8
     ensures { λ r. ⌜ (r ≡ cond on bit 0) × (r ≤ bit) ⌝ }
 {
@@ -66,36 +52,14 @@ fn csr_with(value: u16, warnings: u16) -> u16
     value % 256 + warnings * 256 + value / 2048 * 2048
 }
 
-pub fn moved_on(pointer: u8) -> u8
-    ensures { λ r. ⌜ r ≡ movedOn pointer ⌝ }
+// What a write of a value stores: CSR's warning bits are not writable.
+pub fn stored(plan: Plan, address: u8, value: u16) -> u16
+    ensures { λ r. ⌜ r ≡ cond (eqb address (plan .csr)) (csrWith value 0) value ⌝ }
 {
-    (pointer % 128 + 1) % 128
-}
-
-// The word goes to each FIFO whose bit in FEEN is set, at its write pointer, which then moves on. Answers the pointers.
-pub fn write_all(writes: [u8; 16], feen: u16, word: u32, store: &mut [u32]) -> [u8; 16]
-    requires { ⌜ length (now store) ≡ storeLength ⌝ }
-    ensures { λ r. ⌜ (record { writes = r; store = now (store .exit) }) ≡ writeOf 16 0 feen word (record { writes = writes; store = now (store .entry) }) ⌝ }
-{
-    let mut p = writes;
-    let mut n: usize = 0;
-    while n < 16 {
-        if feen >> n & 1 == 1 {
-            let pointer = p[n];
-            store[n * 128 + (pointer % 128) as usize] = word;
-            p[n] = moved_on(pointer);
-        }
-        n = n + 1;
+    if address == plan.csr {
+        return csr_with(value, 0);
     }
-    p
-}
-
-// The word of FIFO n at its read pointer.
-pub fn read_word(store: &[u32], n: usize, pointer: u8) -> u32
-    requires { ⌜ (n < 16) × (length (now store) ≡ storeLength) ⌝ }
-    ensures { λ r. ⌜ r ≡ readWordOf (now (store .entry)) n pointer ⌝ }
-{
-    store[n * 128 + (pointer % 128) as usize] % WORD
+    value
 }
 
 // Whether the 16 pointers are below 128.
@@ -108,51 +72,6 @@ pub fn pointers_fit(pointers: [u8; 16]) -> bool
         }
     }
     true
-}
-
-impl Plan {
-    // The plan where the opener gives none.
-    pub fn default_plan() -> Plan
-        ensures { λ r. ⌜ r ≡ defaultPlan ⌝ }
-    {
-        Plan {
-            mask: 0x07FF,
-            csr: 0,
-            feen: 2,
-            cnt: 5,
-        }
-    }
-
-    // Whether an address is in the mask.
-    pub fn exists_at(self, address: u8) -> bool
-        ensures { λ r. ⌜ r ≡ existsAt self address ⌝ }
-    {
-        if 16 <= address {
-            return false;
-        }
-        self.mask >> address & 1 == 1
-    }
-
-    // Whether CSR, FEEN and CNT are three different addresses in the mask.
-    pub fn fits(self) -> bool
-        ensures { λ r. ⌜ r ≡ planFits self ⌝ }
-    {
-        let csr = self.exists_at(self.csr);
-        let feen = self.exists_at(self.feen);
-        let cnt = self.exists_at(self.cnt);
-        let apart = (self.csr != self.feen) & ((self.csr != self.cnt) & (self.feen != self.cnt));
-        csr & (feen & (cnt & apart))
-    }
-
-    // What a write of a value stores: CSR's warning bits are not writable.
-    pub fn stored(self, address: u8, value: u16) -> u16
-        ensures { λ r. ⌜ r ≡ cond (eqb address (self .csr)) (csrWith value 0) value ⌝ }
-    {
-        if address == self.csr {
-            return csr_with(value, 0);
-        }
-        value
-    }
 }
 
 impl Warnings {

@@ -8,7 +8,7 @@ use native.Mathlib.Omega.{arith}
 use lib.Dec.{T, leb}
 use lib.ListN.{length}
 use Rattle.bits.proofs.Truth.{both, and-both, true-holds}
-use Rattle.registers.specs.declared.Plan.{Plan}
+use Rattle.plans.specs.declared.Plan.{Plan}
 use Rattle.clean_streams.specs.Commands.{Command, lv1, bcr, ecr, cal, sync, codeOf, commandKind}
 use Rattle.clean_streams.specs.CleanStreams.{Item, zerosBetween, streamBits, spaced, timed}
 use Rattle.timing.specs.Table.{zerosAsked}

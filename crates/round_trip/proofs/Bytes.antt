@@ -14,8 +14,8 @@ use Rattle.limits.specs.Limits.{clockLimit}
 use Rattle.bits.specs.Bits.{bitOf}
 use Rattle.bits.proofs.Truth.{both}
 use Rattle.bits.proofs.BitRanges.{binary}
-use Rattle.registers.specs.declared.Plan.{Plan}
-use Rattle.registers.specs.Plan.{planFits}
+use Rattle.plans.specs.declared.Plan.{Plan}
+use Rattle.plans.specs.Plan.{planFits}
 use Rattle.orders.specs.declared.Composed.{Composed}
 use Rattle.orders.specs.Fields.{Ordered}
 use Rattle.orders.specs.Streams.{streamOf, packed}

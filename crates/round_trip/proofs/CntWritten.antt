@@ -9,11 +9,11 @@ use lib.ListN.{length, getD, replicate}
 use lib.Seq.{getD-set-same, getD-set-other}
 use borrow.Author.Tests.{eqb-true, eqb-false, not-true, ne-eqb}
 use Rattle.bits.proofs.Truth.{cases, clash, both}
-use Rattle.registers.specs.declared.Plan.{Plan}
+use Rattle.plans.specs.declared.Plan.{Plan}
 use Rattle.registers.specs.declared.Model.{Model}
-use Rattle.registers.specs.Plan.{existsAt, planFits}
+use Rattle.plans.specs.Plan.{existsAt, planFits}
 use Rattle.registers.specs.Registers.{cntOf, writtenOf}
-use Rattle.registers.proofs.PlanAddresses.{exists-low}
+use Rattle.plans.proofs.PlanAddresses.{exists-low}
 
 -- Registers at 0 read as 0.
 pub zeros-at : (n k : ℕ) → getD {A = ℕ} (replicate n 0) k 0 ≡ 0

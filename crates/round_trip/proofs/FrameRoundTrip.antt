@@ -15,8 +15,8 @@ use Rattle.frames.specs.Tray.{partOf, PartHolds, filledOf}
 use Rattle.frames.proofs.FrameFill.{part-holds}
 use Rattle.records.specs.declared.Record.{Record}
 use Rattle.records.specs.Records.{headOf, kindOf, kindSlow, isFrameHead}
-use Rattle.registers.specs.declared.Plan.{Plan}
-use Rattle.registers.specs.Plan.{planFits}
+use Rattle.plans.specs.declared.Plan.{Plan}
+use Rattle.plans.specs.Plan.{planFits}
 use Rattle.calls.specs.Run.{stateAfter}
 use Rattle.calls.specs.Turn.{System, Machine, turnOf}
 use Rattle.calls.proofs.RunFaithful.{state-append}

@@ -14,8 +14,8 @@ use Rattle.bits.proofs.Truth.{both, either, or-right, not-both}
 use Rattle.recogniser.specs.Parts.{idle}
 use Rattle.records.specs.declared.Record.{Record}
 use Rattle.records.specs.Records.{recordWords}
-use Rattle.registers.specs.declared.Plan.{Plan}
-use Rattle.registers.specs.Plan.{planFits}
+use Rattle.plans.specs.declared.Plan.{Plan}
+use Rattle.plans.specs.Plan.{planFits}
 use Rattle.registers.specs.Registers.{cntOf}
 use Rattle.controller.specs.Widths.{ModelFits}
 use Rattle.timing.specs.declared.Earlier.{Earlier}

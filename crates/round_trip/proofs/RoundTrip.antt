@@ -13,8 +13,8 @@ use Rattle.bits.proofs.Truth.{cases}
 use Rattle.recogniser.specs.Parts.{idle}
 use Rattle.records.specs.declared.Record.{Record}
 use Rattle.records.specs.Records.{recordWords}
-use Rattle.registers.specs.declared.Plan.{Plan}
-use Rattle.registers.specs.Plan.{planFits}
+use Rattle.plans.specs.declared.Plan.{Plan}
+use Rattle.plans.specs.Plan.{planFits}
 use Rattle.calls.specs.Run.{stateAfter, wordsAfter}
 use Rattle.calls.specs.Turn.{System, Machine, turnOf}
 use Rattle.calls.proofs.RunFaithful.{words-append}

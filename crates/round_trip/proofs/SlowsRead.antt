@@ -19,9 +19,9 @@ use Rattle.records.specs.declared.Cycle.the-variants.{Recorded}
 use Rattle.records.specs.declared.Record.{Record}
 use Rattle.registers.specs.declared.Model.{Model}
 use Rattle.registers.specs.Parts.{withRunning}
-use Rattle.registers.specs.Plan.{existsAt}
+use Rattle.plans.specs.Plan.{existsAt}
 use Rattle.registers.specs.Registers.{cntOf, readOf}
-use Rattle.registers.specs.Fifos.{readWordOf}
+use Rattle.fifos.specs.Fifos.{readWordOf}
 use Rattle.triggers.specs.declared.Acted.{Acted}
 use Rattle.controller.specs.Commands.{slowRecord, actOf}
 use Rattle.controller.specs.Requests.{changesRegisters}

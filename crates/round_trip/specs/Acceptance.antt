@@ -4,7 +4,7 @@ use mathlib.Core.List.{List, [], _∷_}
 use mathlib.Core.Path.{_≡_}
 use Prim.Native.Nat.{_<_}
 use Rattle.records.specs.Records.{kindSlow}
-use Rattle.registers.specs.declared.Plan.{Plan}
+use Rattle.plans.specs.declared.Plan.{Plan}
 use Rattle.patterns.specs.declared.Verdict.the-variants.{Accepted}
 use Rattle.patterns.specs.Verdicts.{verdictOf}
 use Rattle.orders.specs.Fields.{Ordered}

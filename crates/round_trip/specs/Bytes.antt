@@ -6,7 +6,7 @@ use Prim.Native.Nat.{ℕ, _+_, _*_, _/_, _<_, _≤_}
 use lib.ListN.{length, getD}
 use Rattle.limits.specs.Limits.{clockLimit}
 use Rattle.bits.specs.Bits.{bitOf, bitsOf}
-use Rattle.registers.specs.declared.Plan.{Plan}
+use Rattle.plans.specs.declared.Plan.{Plan}
 use Rattle.orders.specs.Fields.{Ordered}
 use Rattle.orders.specs.Streams.{streamOf}
 use Rattle.orders.specs.Composing.{composeOf}

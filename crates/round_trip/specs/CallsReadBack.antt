@@ -8,7 +8,7 @@ use lib.ListN.{length}
 use Rattle.limits.specs.Limits.{trayLength}
 use Rattle.records.specs.declared.Record.{Record}
 use Rattle.records.specs.Records.{recordWords}
-use Rattle.registers.specs.declared.Plan.{Plan}
+use Rattle.plans.specs.declared.Plan.{Plan}
 use Rattle.frames.specs.Tray.{partOf, PartHolds}
 use Rattle.calls.specs.Calls.{Part, carriedBits, carriedWords, carriedSystem}
 use Rattle.orders.specs.Fields.{Ordered, isFrameKind}

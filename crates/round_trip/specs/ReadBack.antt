@@ -9,8 +9,8 @@ use lib.ListN.{length}
 use Rattle.limits.specs.Limits.{trayLength}
 use Rattle.records.specs.declared.Record.{Record}
 use Rattle.records.specs.Records.{kindSlow, recordWords, frameBitsOf}
-use Rattle.registers.specs.declared.Plan.{Plan}
-use Rattle.registers.specs.Plan.{planFits}
+use Rattle.plans.specs.declared.Plan.{Plan}
+use Rattle.plans.specs.Plan.{planFits}
 use Rattle.decoder.specs.Opening.{openedAt}
 use Rattle.frames.specs.Tray.{partOf, PartHolds}
 use Rattle.calls.specs.Run.{stateAfter, wordsAfter}

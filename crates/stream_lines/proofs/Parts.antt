@@ -12,7 +12,7 @@ use lib.Seq.{drop-drop, length-take-le}
 use borrow.Author.Tests.{eq-eqb, ne-eqb, eqb-true, leb-true, leb-false}
 use Rattle.bits.proofs.Truth.{or-right}
 use Rattle.output.specs.Ascii.{lineFeed}
-use Rattle.hexlines.specs.Lines.{isEmpty}
+use Rattle.line_meanings.specs.Lines.{isEmpty}
 use Rattle.hex_digits.specs.Digits.{charactersOf}
 use Rattle.byte_lines.specs.ByteLines.{byteDigits, bytesLine}
 use Rattle.hex_digits.proofs.Digits.{digits-length}

@@ -5,7 +5,7 @@ use mathlib.Core.List.{List, [], _∷_, _++_}
 use Prim.Native.Nat.{ℕ, _+_}
 use lib.Dec.{eqb}
 use Rattle.output.specs.Ascii.{lineFeed}
-use Rattle.hexlines.specs.Lines.{isEmpty}
+use Rattle.line_meanings.specs.Lines.{isEmpty}
 use Rattle.hex_digits.specs.Digits.{charactersOf}
 
 -- The stream's bytes in lines of 64 digits, 32 bytes each, the last line shorter, behind n bytes of the present line.

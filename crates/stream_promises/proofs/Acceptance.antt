@@ -16,7 +16,7 @@ use Rattle.patterns.specs.Verdicts.{verdictNumber, verdictOf, acceptOf}
 use Rattle.patterns.specs.Accepted.{Told}
 use Rattle.patterns.proofs.Verdicts.{told, clean-accepted}
 use Rattle.patterns.proofs.Examples.{verdict-examples}
-use Rattle.judging.proofs.Examples.{judgement-examples}
+use Rattle.judgements.proofs.Examples.{judgement-examples}
 use Rattle.judging.proofs.Standing.{as-read}
 use Rattle.damage.specs.Inverted.{inverted}
 use Rattle.damage.specs.Hits.{invertedAt}

@@ -14,8 +14,8 @@ use Rattle.limits.specs.Limits.{clockLimit, inputLimit}
 use Rattle.bits.specs.Bits.{bitsOf}
 use Rattle.bits.specs.Range.{rangeFits}
 use Rattle.bits.proofs.Truth.{clash, choice, both}
-use Rattle.registers.specs.declared.Plan.{Plan}
-use Rattle.registers.specs.Plan.{planFits}
+use Rattle.plans.specs.declared.Plan.{Plan}
+use Rattle.plans.specs.Plan.{planFits}
 use Rattle.orders.specs.declared.Order.{Order}
 use Rattle.orders.specs.declared.Context.{Context}
 use Rattle.orders.specs.declared.Composed.{Composed}

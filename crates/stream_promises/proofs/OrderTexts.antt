@@ -11,8 +11,8 @@ use lib.Seq.{sets, sets-eq, take-at}
 use borrow.Author.Tests.{eq-eqb, eqb-true, eqb-false, leb-true}
 use Rattle.limits.specs.Limits.{clockLimit}
 use Rattle.bits.proofs.Truth.{clash, both}
-use Rattle.registers.specs.declared.Plan.{Plan}
-use Rattle.registers.specs.Plan.{planFits, defaultPlan}
+use Rattle.plans.specs.declared.Plan.{Plan}
+use Rattle.plans.specs.Plan.{planFits, defaultPlan}
 use Rattle.timing.specs.Table.{zerosAsked}
 use Rattle.orders.specs.declared.Order.{Order}
 use Rattle.orders.specs.declared.Context.{Context}
@@ -22,7 +22,7 @@ use Rattle.orders.specs.Streams.{streamOf, packed}
 use Rattle.orders.specs.Composing.{start, composed, contextAfter, orderNumber, refusalFrom, roomFits, ComposeResult, composeResult, composeOf}
 use Rattle.orders.proofs.Packing.{packed-length}
 use Rattle.orders.proofs.OrderByOrder.{refusal-later}
-use Rattle.hexlines.specs.Lines.{linesOf}
+use Rattle.line_meanings.specs.Lines.{linesOf}
 use Rattle.order_lines.specs.Lines.{LineMeaning, lineMeaning}
 use Rattle.gathered_lines.specs.Gathering.{LineText, lineTexts}
 use Rattle.order_refusals.specs.declared.Refusal.{Refusal}

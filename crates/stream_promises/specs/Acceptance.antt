@@ -18,7 +18,7 @@ use Rattle.patterns.specs.Verdicts.{verdictOf, acceptOf}
 use Rattle.patterns.specs.Accepted.{Clean, Told}
 use Rattle.patterns.specs.VerdictTable.{VerdictExamples}
 use Rattle.judging.specs.Blocks.{AsRead}
-use Rattle.judging.specs.Examples.{JudgementExamples}
+use Rattle.judgements.specs.Examples.{JudgementExamples}
 use Rattle.damage.specs.Inverted.{inverted}
 use Rattle.damage.specs.Hits.{HitCycles, invertedAt, Apart}
 use Rattle.promises.specs.Refusals.{Row, row}

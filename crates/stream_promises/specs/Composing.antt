@@ -11,8 +11,8 @@ use Rattle.bits.specs.Bits.{bitsOf}
 use Rattle.frames.specs.Tray.{partOf, PartHolds}
 use Rattle.records.specs.declared.Record.{Record}
 use Rattle.records.specs.Records.{recordWords}
-use Rattle.registers.specs.declared.Plan.{Plan}
-use Rattle.registers.specs.Plan.{defaultPlan}
+use Rattle.plans.specs.declared.Plan.{Plan}
+use Rattle.plans.specs.Plan.{defaultPlan}
 use Rattle.timing.specs.Table.{amongKinds, zerosAsked}
 use Rattle.patterns.specs.declared.Verdict.the-variants.{Accepted}
 use Rattle.patterns.specs.Verdicts.{acceptOf}
@@ -25,7 +25,7 @@ use Rattle.orders.specs.Fields.{Ordered, isFrameKind}
 use Rattle.orders.specs.Streams.{frameOf, streamOf}
 use Rattle.orders.specs.Composing.{start, contextAfter, ComposeResult, composeOf}
 use Rattle.orders.specs.ComposeTable.{ComposeExamples}
-use Rattle.hexlines.specs.Lines.{linesOf}
+use Rattle.line_meanings.specs.Lines.{linesOf}
 use Rattle.order_lines.specs.Examples.{LineExamples}
 use Rattle.gathered_lines.specs.Gathering.{lineTexts}
 use Rattle.order_refusals.specs.Refusals as texts

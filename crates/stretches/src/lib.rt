@@ -72,7 +72,7 @@ fn hunt_on(shift: u8, input: &[u8], from: Cursor, count: usize) -> Walk
             continue;
         }
         return Walk {
-            stretch: Stretch::of(count - left, Transition::hunted(window)),
+            stretch: Stretch::of(count - left, hunting::hunted(window)),
             behind: at,
         };
     }
@@ -106,7 +106,10 @@ fn body_on(r: Recogniser, input: &[u8], from: Cursor, count: usize) -> Walk
         left = left - 1;
         if 3 <= received {
             return Walk {
-                stretch: Stretch::of(count - left, standing(r, nibble, received).body(bit)),
+                stretch: Stretch::of(
+                    count - left,
+                    hunting::body(standing(r, nibble, received), bit),
+                ),
                 behind: at,
             };
         }
@@ -133,7 +136,7 @@ pub fn advance(r: Recogniser, input: &[u8], from: Cursor, count: usize, cnt: u16
         Phase::Hunt => hunt_on(r.shift, input, from, count),
         Phase::Body => body_on(r, input, from, count),
         _ => Walk {
-            stretch: Stretch::of(1, r.step(from.read(input), cnt)),
+            stretch: Stretch::of(1, steps::step(r, from.read(input), cnt)),
             behind: from.next(),
         },
     }

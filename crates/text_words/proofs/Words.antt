@@ -12,7 +12,7 @@ use lib.ListN.{length, getD, take, drop, length-append, length-drop, drop-of-len
 use lib.Seq.{drop-cons, take-suc, take-all, getD-drop, length-take-le}
 use borrow.Author.Tests.{eq-eqb, ne-eqb, eqb-true}
 use Rattle.bits.proofs.Truth.{clash, choice, both}
-use Rattle.hexlines.specs.Lines.{isEmpty}
+use Rattle.line_meanings.specs.Lines.{isEmpty}
 use Rattle.text_words.specs.Words.{upTo, isBlank, endedWord, wordsFrom, wordsIn, sameWord}
 
 -- ---- up to a character

@@ -7,7 +7,7 @@ use Rattle.records.specs.declared.Cycle.{Cycle}
 use Rattle.records.specs.declared.Cycle.the-variants.{Recorded}
 use Rattle.records.specs.declared.Record.{Record}
 use Rattle.records.specs.Records.{recordOf, kindLv1, kindFast, kindBadFast, flagActed, flagFlip, flagSent}
-use Rattle.registers.specs.declared.Plan.{Plan}
+use Rattle.plans.specs.declared.Plan.{Plan}
 use Rattle.registers.specs.declared.Counters.{Counters}
 use Rattle.registers.specs.declared.Pointers.{Pointers}
 use Rattle.registers.specs.declared.Model.{Model}

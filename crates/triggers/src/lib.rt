@@ -3,6 +3,7 @@ ghost use mathlib.Core.Path.{_≡_};
 ghost use Prim.Native.Nat.{_<_};
 ghost use Rattle.records.specs.Records.{recordOf};
 ghost use Rattle.triggers.specs.Triggers.{recorded, bunchOf, lv1Of, fastOf, badFastOf};
+use plans::Plan;
 use records::Cycle;
 use records::KIND_BAD_FAST;
 use records::KIND_FAST;
@@ -10,7 +11,6 @@ use records::KIND_LV1;
 use records::Record;
 use registers::Counters;
 use registers::Model;
-use registers::Plan;
 use registers::Pointers;
 
 // What a request leaves: the model, and what its cycle answers.

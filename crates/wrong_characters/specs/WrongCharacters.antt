@@ -6,7 +6,7 @@ use Prim.Native.Char.{code}
 use Prim.Native.Nat.{ℕ}
 use lib.Dec.{leb, eqb}
 use Rattle.output.specs.Ascii.{ascii}
-use Rattle.hexlines.specs.declared.LineNotes.{LineNotes}
+use Rattle.line_meanings.specs.declared.LineNotes.{LineNotes}
 use Rattle.decimal_digits.specs.Decimal.{labelled}
 
 -- What a character is that is none of 0-9 and A-F.

@@ -4,7 +4,7 @@ ghost use Prim.Native.Nat.{_+_, _≤_};
 ghost use lib.ListN.{length};
 ghost use Rattle.output.specs.Block.{block, putAll};
 ghost use Rattle.wrong_characters.specs.WrongCharacters.{characterText, wrongCharacter};
-use hexlines::LineNotes;
+use line_meanings::LineNotes;
 
 // What a character is that is no digit: those that captures have most often by their names, any other by its number.
 fn put_character(out: &mut [u8], at: usize, character: u8) -> usize

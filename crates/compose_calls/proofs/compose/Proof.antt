@@ -6,7 +6,7 @@ use native.Mathlib.Omega.{arith}
 use lib.ListN.{length}
 use borrow.Author.Needs.{needs}
 use borrow.Author.Tests.{not-true, not-false}
-use Rattle.registers.specs.Plan.{planFits}
+use Rattle.plans.specs.Plan.{planFits}
 use Rattle.orders.specs.declared.Composed.{Composed}
 use Rattle.orders.specs.Fields.{ordersIn}
 use Rattle.orders.specs.Composing.{roomFits, composeResult}

@@ -4,8 +4,8 @@ use mathlib.Core.Bool.{true}
 use mathlib.Core.Path.{_≡_, sym, _∙_}
 use borrow.Author.Tests.{not-true, not-false}
 use borrow.Author.Needs.{needs}
-use Rattle.registers.specs.Plan.{existsAt}
-use Rattle.registers.proofs.PlanAddresses.{exists-low}
+use Rattle.plans.specs.Plan.{existsAt}
+use Rattle.plans.proofs.PlanAddresses.{exists-low}
 use Rattle.controller.proofs.write_register.Statement.{statement}
 use Rattle.controller.proofs.write_register.Tie as tie
 

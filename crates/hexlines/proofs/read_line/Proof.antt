@@ -4,7 +4,7 @@ use native.Mathlib.Omega.{arith}
 use lib.ListN.{length}
 use borrow.Author.Needs.{needs}
 use borrow.Author.Tests.{lt-ltb, le-ltb}
-use Rattle.hexlines.specs.Line.{lineBytes, readInto}
+use Rattle.line_meanings.specs.Line.{lineBytes, readInto}
 use Rattle.hexlines.proofs.read_line.Statement.{statement}
 use Rattle.hexlines.proofs.read_line.Tie as tie
 

@@ -8,11 +8,11 @@ use lib.ListN.{length, take}
 use lib.Seq.{sets}
 use borrow.Author.Needs.{needs}
 use Rattle.output.specs.Block.{Block}
-use Rattle.hexlines.specs.declared.HexLine.{HexLine}
-use Rattle.hexlines.specs.declared.LineSoFar.{LineSoFar}
-use Rattle.hexlines.specs.Line.{lineBytes, hexCount, readAs, readOf}
-use Rattle.hexlines.specs.Lines.{emptyLine, withCharacters}
-use Rattle.hexlines.proofs.Meaning.{count-limit, count-within, bytes-count, line-read}
+use Rattle.line_meanings.specs.declared.HexLine.{HexLine}
+use Rattle.line_meanings.specs.declared.LineSoFar.{LineSoFar}
+use Rattle.line_meanings.specs.Line.{lineBytes, hexCount, readAs, readOf}
+use Rattle.line_meanings.specs.Lines.{emptyLine, withCharacters}
+use Rattle.line_meanings.proofs.Meaning.{count-limit, count-within, bytes-count, line-read}
 use Rattle.hexlines.proofs.read_with_room.Statement.{statement}
 use Rattle.hexlines.proofs.read_with_room.Tie as tie
 

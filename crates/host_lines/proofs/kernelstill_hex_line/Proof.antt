@@ -2,7 +2,7 @@
 -- Assumes nothing.
 use mathlib.Core.Path.{ap}
 use borrow.Author.Needs.{needs}
-use Rattle.hexlines.specs.Line.{Read}
+use Rattle.line_meanings.specs.Line.{Read}
 use Rattle.host_lines.specs.Lines.{lineResult}
 use Rattle.host_lines.proofs.kernelstill_hex_line.Statement.{statement}
 use Rattle.host_lines.proofs.kernelstill_hex_line.Tie as tie

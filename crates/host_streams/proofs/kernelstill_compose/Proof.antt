@@ -2,7 +2,7 @@
 -- Assumes nothing.
 use mathlib.Core.Path.{_∙_, ap}
 use borrow.Author.Needs.{needs}
-use Rattle.registers.specs.declared.Plan.{Plan}
+use Rattle.plans.specs.declared.Plan.{Plan}
 use Rattle.orders.specs.Fields.{ordersIn}
 use Rattle.orders.specs.Composing.{composeOf}
 use Rattle.host_streams.specs.Compose.{composeWords, wordsOf, composeWordsOf}

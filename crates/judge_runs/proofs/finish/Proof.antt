@@ -6,8 +6,8 @@ use native.Mathlib.Omega.{arith}
 use lib.Seq.{length-take-le}
 use borrow.Author.Needs.{needs}
 use Rattle.output.proofs.Pieces.{put-end-within}
-use Rattle.judging.specs.Judgement.{textOf, messageOf}
-use Rattle.judging.proofs.Texts.{text-short, message-short}
+use Rattle.judgements.specs.Judgement.{textOf, messageOf}
+use Rattle.judgements.proofs.Texts.{text-short, message-short}
 use Rattle.judge_runs.proofs.Statuses.{whole-status, refused-status}
 use Rattle.judge_runs.proofs.finish.Statement.{statement}
 use Rattle.judge_runs.proofs.finish.Tie as tie

@@ -7,7 +7,7 @@ use native.Mathlib.Omega.{arith}
 use lib.ListN.{length}
 use borrow.Author.Needs.{needs}
 use borrow.Author.Tests.{lt-ltb, le-ltb}
-use Rattle.hexlines.specs.declared.LineNotes.{LineNotes}
+use Rattle.line_meanings.specs.declared.LineNotes.{LineNotes}
 use Rattle.output.specs.Ascii.{ascii}
 use Rattle.decimal_digits.specs.Decimal.{labelled}
 use Rattle.messages.specs.Sentences.{wrongLength}

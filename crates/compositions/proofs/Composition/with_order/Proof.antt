@@ -4,7 +4,7 @@ use mathlib.Core.Path.{_∙_, sym, ap}
 use Prim.Native.Nat.{_<_}
 use native.Mathlib.Omega.{arith}
 use lib.ListN.{length}
-use Rattle.registers.specs.declared.Plan.{Plan}
+use Rattle.plans.specs.declared.Plan.{Plan}
 use Rattle.orders.specs.Composing.{contextAfter}
 use Rattle.composing.specs.Checked.{SomeFit}
 use Rattle.order_refusals.specs.declared.Refusal.{Refusal}

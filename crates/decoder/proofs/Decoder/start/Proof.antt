@@ -4,7 +4,7 @@ use mathlib.Core.Bool.{true}
 use mathlib.Core.Path.{_≡_, sym, _∙_}
 use borrow.Author.Needs.{needs}
 use borrow.Author.Tests.{le-leb, lt-leb, not-true, not-false}
-use Rattle.registers.specs.Plan.{planFits}
+use Rattle.plans.specs.Plan.{planFits}
 use Rattle.decoder.specs.Opening.{openOf}
 use Rattle.decoder.proofs.Decoder.start.Statement.{statement}
 use Rattle.decoder.proofs.Decoder.start.Tie as tie

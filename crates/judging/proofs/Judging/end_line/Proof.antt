@@ -2,8 +2,8 @@
 -- Assumes nothing.
 use mathlib.Core.Path.{_≡_, _∙_, sym, ap, subst}
 use borrow.Author.Needs.{needs}
-use Rattle.hexlines.specs.Line.{hexNumber}
-use Rattle.hexlines.specs.Lines.{answerOf}
+use Rattle.line_meanings.specs.Line.{hexNumber}
+use Rattle.line_meanings.specs.Lines.{answerOf}
 use Rattle.judging.specs.Judging.{EndsLine}
 use Rattle.judging.proofs.LineEnds.{line-refused}
 use Rattle.judging.proofs.Judging.end_line.Statement.{statement}

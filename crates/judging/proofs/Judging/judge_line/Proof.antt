@@ -10,9 +10,9 @@ use borrow.Author.Needs.{needs}
 use borrow.Author.Tests.{le-leb}
 use Rattle.limits.specs.Limits.{clockLimit, inputLimit}
 use Rattle.bits.specs.Range.{rangeFits}
-use Rattle.hexlines.specs.declared.LineSoFar.{LineSoFar}
-use Rattle.hexlines.specs.Line.{lineBytes}
-use Rattle.hexlines.proofs.FitLines.{LineFits, line-fits}
+use Rattle.line_meanings.specs.declared.LineSoFar.{LineSoFar}
+use Rattle.line_meanings.specs.Line.{lineBytes}
+use Rattle.line_meanings.proofs.FitLines.{LineFits, line-fits}
 use Rattle.judging.specs.Judging.{refusedAt, EndsLine}
 use Rattle.judging.proofs.LineEnds.{clock-refused, judged}
 use Rattle.judging.proofs.Judging.judge_line.Statement.{statement}

@@ -7,10 +7,10 @@ use borrow.Author.Needs.{needs}
 use borrow.Author.Tests.{eq-eqb, ne-eqb}
 use Rattle.patterns.specs.declared.Verdict.{Verdict}
 use Rattle.acceptance.specs.Progress.{verdictOn}
-use Rattle.hexlines.specs.Notes.{noNotes}
+use Rattle.line_meanings.specs.Notes.{noNotes}
 use Rattle.judging.specs.declared.Judging.{Judging}
-use Rattle.judging.specs.declared.Judgement.{Judgement}
-use Rattle.judging.specs.Judgement.{byVerdict, byLine}
+use Rattle.judgements.specs.declared.Judgement.{Judgement}
+use Rattle.judgements.specs.Judgement.{byVerdict, byLine}
 use Rattle.judging.specs.Judging.{judgementOf}
 use Rattle.judging.proofs.Judging.judgement.Statement.{statement}
 use Rattle.judging.proofs.Judging.judgement.Tie as tie

@@ -5,10 +5,10 @@ use mathlib.Core.Path.{_≡_, sym, ap, _∙_}
 use Prim.Native.Nat.{ℕ}
 use native.Mathlib.Omega.{arith}
 use borrow.Author.Needs.{needs}
-use Rattle.hexlines.specs.Line.{hexNumber}
-use Rattle.hexlines.specs.Lines.{answerOf}
+use Rattle.line_meanings.specs.Line.{hexNumber}
+use Rattle.line_meanings.specs.Lines.{answerOf}
 use Rattle.program.specs.RunState.{Snapshot, snapshot, StepReady}
-use Rattle.hexlines.proofs.FitLines.{line-fits}
+use Rattle.line_meanings.proofs.FitLines.{line-fits}
 use Rattle.program.proofs.LineEnd.{LineEnded, line-refused, line-accepted}
 use Rattle.program.proofs.RunState.end_line.Statement.{statement}
 use Rattle.program.proofs.RunState.end_line.Tie as tie

@@ -2,7 +2,7 @@
 -- Assumes nothing.
 use mathlib.Core.Path.{_∙_, ap}
 use borrow.Author.Needs.{needs}
-use Rattle.registers.specs.declared.Plan.{Plan}
+use Rattle.plans.specs.declared.Plan.{Plan}
 use Rattle.decoder.specs.Opening.{openOf}
 use Rattle.program.proofs.RunState.start.Statement.{statement}
 use Rattle.program.proofs.RunState.start.Tie as tie

@@ -1,0 +1,2 @@
+pub mod Field5Commands
+pub mod StepsFit

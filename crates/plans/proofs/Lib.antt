@@ -1,0 +1,2 @@
+pub mod DefaultPlan
+pub mod PlanAddresses
