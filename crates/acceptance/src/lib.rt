@@ -1,4 +1,6 @@
 // The check of a finished stream of trigger and fast commands: one pass, bit by bit, which may go on from part to part of a stream.
+#![tactic(auto)]
+
 ghost use Rattle.std.specs.Prelude.{◌≡◌, true, [], ◌∷◌, ◌/◌, ◌^◌, ◌<◌, ◌≤◌, length};
 ghost use Rattle.limits.specs.Limits.{clock_limit};
 ghost use Rattle.bits.specs.Bits.{bits_of};
@@ -11,7 +13,7 @@ use patterns::Verdict;
 use records::{KIND_FAST, KIND_LV1};
 
 // What the bits of a pattern so far are: the beginning of a command, a whole one by the kind of its record, or neither.
-#[derive(Drop)]
+#[derive(Clone, Copy)]
 enum Reading {
     Begun,
     Whole { kind: u8 },
@@ -19,7 +21,7 @@ enum Reading {
 }
 
 // How far a stream is accepted.
-#[derive(Drop)]
+#[derive(Clone, Copy)]
 pub struct Progress {
     // The place of the first bit that is not accepted yet: the first of the pattern under way, or the next one.
     pub place: u64,

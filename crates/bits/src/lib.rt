@@ -1,4 +1,6 @@
 // The input as a stream of bits, one for each clock cycle.
+#![tactic(auto)]
+
 ghost use Rattle.std.specs.Prelude.{◌≡◌, ◌+◌, ◌<◌, length};
 ghost use Rattle.limits.specs.Limits.{input_limit};
 ghost use Rattle.bits.specs.Bits.{bit_of};
@@ -9,7 +11,7 @@ ghost use Rattle.bits.specs.Range.{range_fits};
 pub const INPUT_LIMIT: usize = 1048576;
 
 // A place of the input, kept as a reader goes on: a byte, and a bit of it, 7 for the highest, which comes first.
-#[derive(Drop)]
+#[derive(Clone, Copy)]
 pub struct Cursor {
     pub byte: usize,
     pub bit: u32,

@@ -1,4 +1,6 @@
 // A block of input listed into a block of output: the taking calls of a program's run, and its steps in a row.
+#![tactic(auto)]
+
 ghost use Rattle.std.specs.Prelude.{◌≡◌, true, false, ◌<◌, ◌≤◌, length};
 ghost use Rattle.program.specs.RunState.{snapshot, work_left, can_step, WellFormed, StepReady, AfterTake, AfterSteps};
 

@@ -1,4 +1,6 @@
 // Lines of bytes in digits: a frame's, and those of a composed stream. No public call asks anything of its caller.
+#![tactic(auto)]
+
 ghost use Rattle.std.specs.Prelude.{◌≡◌, ◌+◌, ◌≤◌, length};
 ghost use Rattle.output.specs.Block.{block, put_all, put_if_fits};
 ghost use Rattle.byte_lines.specs.ByteLines.{byte_digits, frame_line, bytes_line};

@@ -1,4 +1,6 @@
 // A taking call that is not refused: the loop over the bits.
+#![tactic(auto)]
+
 ghost use Rattle.std.specs.Prelude.{◌≡◌, true, ◌+◌, ◌*◌, ◌≤◌, length};
 ghost use Rattle.limits.specs.Limits.{clock_limit, store_length, input_limit};
 ghost use Rattle.timing.specs.TooClose.{earlier_below};

@@ -1,4 +1,6 @@
 // What a taking call is made of but for its requests: its refusals and its answer. The loop over the bits is in `call_loop`, the call itself in `taking`.
+#![tactic(auto)]
+
 ghost use Rattle.std.specs.Prelude.{◌≡◌, ◌+◌, ◌-◌, ◌/◌, ◌≤◌, length};
 ghost use Rattle.limits.specs.Limits.{clock_limit, list_unit};
 ghost use Rattle.calls.specs.Take.{taken_with, decoder_after, buffers_fit, ending_number};
@@ -8,7 +10,7 @@ use performing::Performed;
 use recogniser::Recogniser;
 
 // How a taking call ends; the last four are its refusals, numbers 3 to 6.
-#[derive(Drop)]
+#[derive(Clone, Copy)]
 pub enum Ending {
     Done,
     Frame,
@@ -37,14 +39,14 @@ impl Ending {
 }
 
 // What a taking call reports beside the state: bits taken, records written, and its ending.
-#[derive(Drop)]
+#[derive(Clone, Copy)]
 pub struct Report {
     pub bits: usize,
     pub records: usize,
     pub ending: Ending,
 }
 
-#[derive(Drop)]
+#[derive(Clone, Copy)]
 pub struct Taken {
     pub decoder: Decoder,
     pub report: Report,

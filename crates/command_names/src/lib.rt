@@ -1,4 +1,6 @@
 // The names of the commands in a text of orders: the kind that has a name, and how many fields it has.
+#![tactic(auto)]
+
 ghost use Rattle.std.specs.Prelude.{◌≡◌, ◌≤◌, ◌<◌, length};
 ghost use Rattle.text_words.specs.Words.{same_word};
 ghost use Rattle.command_names.specs.Names.{commands, name_at, kind_at, kind_named, one_if, field_count};

@@ -1,4 +1,6 @@
 // The programs `station`, `reading`, `model`, `accept`, `compose` and `reply` by their words.
+#![tactic(auto)]
+
 ghost use Rattle.std.specs.Prelude.{◌≡◌, true};
 ghost use Rattle.statuses.specs.Status.{IsStatus};
 ghost use Rattle.tasks.specs.Tasks.{task_fits};

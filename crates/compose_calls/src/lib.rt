@@ -1,4 +1,6 @@
 // The composing call: a list of orders in words, checked as a whole and then written.
+#![tactic(auto)]
+
 ghost use Rattle.std.specs.Prelude.{◌≡◌, length};
 ghost use Rattle.std.proofs.lemmas.List.Edits.{sets};
 ghost use Rattle.orders.specs.Fields.{orders_in};

@@ -1,4 +1,6 @@
 // What a run of `compose` prints and says in the end.
+#![tactic(auto)]
+
 ghost use Rattle.std.specs.Prelude.{◌≡◌, ◌+◌, ◌≤◌, min, length};
 ghost use Rattle.output.specs.Block.{block_length};
 ghost use Rattle.stream_lines.specs.StreamLines.{part_limit};

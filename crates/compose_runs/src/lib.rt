@@ -1,4 +1,6 @@
 // A run of `compose` over an input: the loop that reads and has the characters composed. What it prints and says in the end is in `compose_ends`.
+#![tactic(auto)]
+
 ghost use Rattle.statuses.specs.Status.{IsStatus};
 ghost use Rattle.compose_runs.specs.Runs.{ComposedRun};
 

@@ -1,4 +1,6 @@
 // The bits of one order, written and counted.
+#![tactic(auto)]
+
 ghost use Rattle.std.specs.Prelude.{◌≡◌, ◌+◌, length};
 ghost use Rattle.orders.specs.Streams.{field_frame, field5_bits, slow_fields, command_bits, order_bits};
 ghost use Rattle.orders.specs.Composing.{room_fits};

@@ -1,4 +1,6 @@
 // A run of `compose` under way: orders are put into it, line by line, and it has an outcome.
+#![tactic(auto)]
+
 ghost use Rattle.std.specs.Prelude.{◌≡◌, not, eqb};
 ghost use Rattle.compositions.specs.Compositions.{start, passed_with, WellFormed, AddsOrder, Finishes};
 
@@ -12,7 +14,7 @@ use stream_writer::Writer;
 pub const OUTPUT_LIMIT: usize = 1048576;
 
 // The state of a run under way.
-#[derive(Drop)]
+#[derive(Clone, Copy)]
 pub struct Composition {
     // What the next order goes by, and where its bits go; beyond the output's room they go nowhere.
     pub context: Context,
@@ -27,7 +29,7 @@ pub struct Composition {
 }
 
 // The outcome: a refusal, or so many bytes of the stream, from the output's first on.
-#[derive(Drop)]
+#[derive(Clone, Copy)]
 pub struct Outcome {
     pub refusal: Refusal,
     pub bytes: usize,

@@ -1,4 +1,6 @@
 // What an order goes by: whether it is fit there, its refusal number, and what it leaves to the next order.
+#![tactic(auto)]
+
 ghost use Rattle.std.specs.Prelude.{◌≡◌, true};
 ghost use Rattle.orders.specs.Fields.{address_fits, value_fits, frame_fits, order_fits};
 ghost use Rattle.orders.specs.Composing.{start, context_after, order_number};

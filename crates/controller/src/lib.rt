@@ -1,4 +1,6 @@
 // What each request does to the registers, FIFOs, counters, warnings and RunMode, and its record.
+#![tactic(auto)]
+
 ghost use Rattle.std.specs.Prelude.{◌≡◌, true, ◌<◌, length};
 ghost use Rattle.limits.specs.Limits.{store_length};
 ghost use Rattle.triggers.specs.Triggers.{acted};

@@ -1,4 +1,6 @@
 // A number in decimal digits between two texts.
+#![tactic(auto)]
+
 ghost use Rattle.std.specs.Prelude.{◌≡◌, ◌+◌, ◌≤◌, length};
 ghost use Rattle.output.specs.Block.{block, put_all};
 ghost use Rattle.decimal_digits.specs.Decimal.{labelled};

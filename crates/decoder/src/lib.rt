@@ -1,4 +1,6 @@
 // The state that is kept between calls: opening it, and whether a state is sound.
+#![tactic(auto)]
+
 ghost use Rattle.std.specs.Prelude.{◌≡◌};
 ghost use Rattle.decoder.specs.Opening.{opened_at, open_of, opening_number};
 ghost use Rattle.decoder.specs.Sound.{inside_slow, sound_of};
@@ -9,7 +11,7 @@ use registers::Model;
 use timing::Earlier;
 
 // The whole state: nothing else is kept between calls.
-#[derive(Drop)]
+#[derive(Clone, Copy)]
 pub struct Decoder {
     pub plan: Plan,
     // The number of the next cycle.
@@ -21,7 +23,7 @@ pub struct Decoder {
 }
 
 // How an opening ends: accepted, or refused with number 1 or 2.
-#[derive(Drop)]
+#[derive(Clone, Copy)]
 pub enum Opening {
     Accepted,
     WrongPlan,
@@ -41,7 +43,7 @@ impl Opening {
     }
 }
 
-#[derive(Drop)]
+#[derive(Clone, Copy)]
 pub struct Opened {
     pub decoder: Decoder,
     pub opening: Opening,

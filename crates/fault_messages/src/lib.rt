@@ -1,4 +1,6 @@
 // The sentence that standard error gets for a pattern at fault.
+#![tactic(auto)]
+
 ghost use Rattle.std.specs.Prelude.{◌≡◌, ◌+◌, ◌≤◌, length};
 ghost use Rattle.output.specs.Block.{block, put_all};
 ghost use Rattle.fault_messages.specs.FaultSentences.{fault_reason, fault_sentence};

@@ -1,4 +1,6 @@
 // The receiver FIFOs: words written and read at their pointers.
+#![tactic(auto)]
+
 ghost use Rattle.std.specs.Prelude.{◌≡◌, ◌<◌, length};
 ghost use Rattle.limits.specs.Limits.{store_length};
 ghost use Rattle.fifos.specs.Fifos.{moved_on, write_of, read_word_of};

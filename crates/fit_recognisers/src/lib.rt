@@ -1,4 +1,6 @@
 // Whether a sound state may hold a recogniser.
+#![tactic(auto)]
+
 ghost use Rattle.std.specs.Prelude.{◌≡◌, ◌<◌, ◌^◌};
 ghost use Rattle.fit_recognisers.specs.Fit.{has_field5, keeps, has_groups, nibble_fits, field4_fits, field5_fits, fit_of};
 

@@ -1,4 +1,6 @@
 // Field 5 of a frame, cycle by cycle: its bits, and the groups of a front_end frame.
+#![tactic(auto)]
+
 ghost use Rattle.std.specs.Prelude.{◌≡◌, ◌<◌};
 ghost use Rattle.recogniser.specs.Groups.{frame_cycle_of, frame_field_of};
 

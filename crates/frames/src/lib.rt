@@ -1,4 +1,6 @@
 // Frame bits in the tray, and the part of the tray that a frame fills.
+#![tactic(auto)]
+
 ghost use Rattle.std.specs.Prelude.{◌≡◌, ◌<◌};
 ghost use Rattle.frames.specs.Tray.{with_bit, stored_of, tray_of, part_of};
 

@@ -1,4 +1,6 @@
 // The present line of a text, gathered character by character.
+#![tactic(auto)]
+
 ghost use Rattle.std.specs.Prelude.{◌≡◌, ◌≤◌, length};
 ghost use Rattle.output.specs.Ascii.{line_feed};
 ghost use Rattle.text_words.specs.Words.{line_limit};
@@ -7,7 +9,7 @@ ghost use Rattle.gathered_lines.specs.Gathering.{empty_line, Gathers};
 use text_words::LINE_LIMIT;
 
 // The present line so far, in a buffer that is lent: its characters up to the limit, and whether it has more.
-#[derive(Drop)]
+#[derive(Clone, Copy)]
 pub struct Gathered {
     pub length: usize,
     pub long: bool,

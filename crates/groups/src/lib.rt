@@ -1,5 +1,7 @@
 // The eight cycles of a front_end bit: what is held of them, the vote among them, and whether they differ.
 // A group is a byte: the bits received of it, the latest lowest, so that its first stands highest once it is whole.
+#![tactic(auto)]
+
 ghost use Rattle.std.specs.Prelude.{◌≡◌, ◌<◌};
 ghost use Rattle.groups.specs.Vote.{vote_of, unsteady};
 ghost use Rattle.groups.specs.Received.{held_with, bits_in, left_by_some};

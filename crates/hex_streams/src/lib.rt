@@ -1,4 +1,6 @@
 // The stream that hexadecimal lines carry: the bits of each line as it ends, up to a line that is refused.
+#![tactic(auto)]
+
 ghost use Rattle.std.specs.Prelude.{◌≡◌, ◌<◌, length};
 ghost use Rattle.hex_streams.specs.SoFar.{start, refused_at, WellFormed, EndsLine, ReadsOn, EndsInput};
 
@@ -6,7 +8,7 @@ use decoder::Decoder;
 use line_meanings::{LINE_BYTES, LineSoFar};
 
 // A stream as far as its lines are read.
-#[derive(Drop)]
+#[derive(Clone, Copy)]
 pub struct StreamSoFar {
     // The present line so far, or the line that was refused, and how many lines have ended.
     pub line: LineSoFar,
@@ -19,7 +21,7 @@ pub struct StreamSoFar {
 
 // More of it: the stream then; the bits of a line that has ended, the first `count` of its bytes' bits, none while no line has; and the place in the block
 // behind what was read.
-#[derive(Drop)]
+#[derive(Clone, Copy)]
 pub struct StreamPart {
     pub stream: StreamSoFar,
     pub bytes: [u8; LINE_BYTES],

@@ -1,4 +1,6 @@
 // A hexadecimal line read into a buffer. No public call asks anything of its caller.
+#![tactic(auto)]
+
 ghost use Rattle.std.specs.Prelude.{◌≡◌, ◌≤◌, length};
 ghost use Rattle.line_meanings.specs.Line.{line_bytes, read_as, read_of, read_into};
 

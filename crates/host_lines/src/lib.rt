@@ -1,5 +1,7 @@
 // The library for hosts that are not written in Rattle: a frame's bits and bytes, and lines. include/kernelstill.h declares these
 // functions. None asks anything of its caller.
+#![tactic(auto)]
+
 ghost use Rattle.std.specs.Prelude.{cond, ◌≡◌, length};
 ghost use Rattle.frames.specs.Tray.{part_of};
 ghost use Rattle.records.specs.Records.{kind_of, is_frame_head, frame_bits_of};

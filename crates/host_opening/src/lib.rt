@@ -1,5 +1,7 @@
 // The library for hosts that are not written in Rattle: opening, with the state as an image in words, and whether words are such an image.
 // include/kernelstill.h declares `kernelstill_open`. It asks nothing of its caller.
+#![tactic(auto)]
+
 ghost use Rattle.std.specs.Prelude.{◌≡◌, length};
 ghost use Rattle.decoder.specs.Opening.{open_of};
 ghost use Rattle.image_fields.specs.Image.{image_length};

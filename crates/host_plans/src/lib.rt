@@ -1,4 +1,6 @@
 // A plan by four numbers of any size, as hosts give it.
+#![tactic(auto)]
+
 ghost use Rattle.std.specs.Prelude.{◌≡◌};
 ghost use Rattle.host_plans.specs.Plans.{empty_plan, plan_of};
 

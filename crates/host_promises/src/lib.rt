@@ -1,1 +1,3 @@
 // The library for hosts and the programs as promises: the demands on images, and the programs' texts. Nothing here runs.
+#![tactic(auto)]
+

@@ -1,4 +1,6 @@
 // What a taking call on an image answers: its result in words. The call itself is in `kernelstill`.
+#![tactic(auto)]
+
 ghost use Rattle.std.specs.Prelude.{◌≡◌, length};
 ghost use Rattle.host_results.specs.Take.{ending_code, result_length, result_words};
 

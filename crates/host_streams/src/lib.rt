@@ -1,5 +1,7 @@
 // The library for hosts that are not written in Rattle: streams checked and composed, replies read, and what is answered of them in one word.
 // include/kernelstill.h declares these functions. None asks anything of its caller.
+#![tactic(auto)]
+
 ghost use Rattle.std.specs.Prelude.{◌≡◌};
 ghost use Rattle.patterns.specs.Verdicts.{accept_of};
 ghost use Rattle.host_streams.specs.Accept.{accept_word};

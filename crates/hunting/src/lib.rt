@@ -1,4 +1,6 @@
 // One clock cycle while the recogniser hunts, and in a body: what the window or the body means.
+#![tactic(auto)]
+
 ghost use Rattle.std.specs.Prelude.{◌≡◌, ◌<◌};
 ghost use Rattle.windows.specs.Windows.{meaning_of};
 ghost use Rattle.recogniser.specs.Hunting.{hunt_by, hunt_of, body_of};

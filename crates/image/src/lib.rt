@@ -1,4 +1,6 @@
 // Which words are the image of a state.
+#![tactic(auto)]
+
 ghost use Rattle.std.specs.Prelude.{◌≡◌};
 ghost use Rattle.image_fields.specs.Image.{image_fits};
 

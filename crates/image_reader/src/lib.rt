@@ -1,4 +1,6 @@
 // The state read from plain 64-bit words.
+#![tactic(auto)]
+
 ghost use Rattle.std.specs.Prelude.{◌≡◌, length};
 ghost use Rattle.image_fields.specs.Fields.{phase_of, plan_from, recogniser_from, model_from, earlier_from};
 ghost use Rattle.image_fields.specs.Image.{image_length, numbers_of, state_of};

@@ -1,4 +1,6 @@
 // The words of an image: where its arrays stand, numbers put and read word by word, and words compared.
+#![tactic(auto)]
+
 ghost use Rattle.std.specs.Prelude.{◌≡◌, ◌+◌, ◌≤◌, length, replicate};
 ghost use Rattle.std.proofs.lemmas.List.Edits.{sets};
 ghost use Rattle.image_fields.specs.Fields.{bits};

@@ -1,4 +1,6 @@
 // The state written as plain 64-bit words, for hosts that are not written in Rattle and for storing it.
+#![tactic(auto)]
+
 ghost use Rattle.std.specs.Prelude.{◌≡◌, length, set};
 ghost use Rattle.image_fields.specs.Fields.{phase_number};
 ghost use Rattle.image_fields.specs.Image.{image_length, word_place, scalars_of, image_of, state_of};

@@ -1,4 +1,6 @@
 // A run of `accept` over an input: the loop that reads and has the characters judged, and what it prints and says in the end.
+#![tactic(auto)]
+
 ghost use Rattle.std.specs.Prelude.{◌≡◌, length};
 ghost use Rattle.output.specs.Block.{block_length};
 ghost use Rattle.statuses.specs.Status.{IsStatus, Finished};

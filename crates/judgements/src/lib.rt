@@ -1,4 +1,6 @@
 // What the program that accepts streams says in the end: the line that it prints, and the sentence that standard error gets.
+#![tactic(auto)]
+
 ghost use Rattle.std.specs.Prelude.{◌≡◌, length};
 ghost use Rattle.output.specs.Block.{block_length, block, put_all};
 ghost use Rattle.judgements.specs.Judgement.{text_of, message_of};
@@ -6,7 +8,7 @@ ghost use Rattle.judgements.specs.Judgement.{text_of, message_of};
 use line_meanings::LineNotes;
 
 // What is said in the end: a refusal's number, 0 for none; the place of a pattern at fault; or the number of a line that was refused, from 1, and its notes.
-#[derive(Drop)]
+#[derive(Clone, Copy)]
 pub struct Judgement {
     pub number: u8,
     pub place: u64,

@@ -1,4 +1,6 @@
 // A run of `accept` but for its reads and writes: from the characters of hexadecimal lines to what is said of their bits.
+#![tactic(auto)]
+
 ghost use Rattle.std.specs.Prelude.{◌≡◌};
 ghost use Rattle.line_meanings.specs.Line.{hex_number};
 ghost use Rattle.line_meanings.specs.Lines.{answer_of};
@@ -11,7 +13,7 @@ use judgements::Judgement;
 use line_meanings::{LineNotes, LineSoFar};
 
 // The state of a run under way.
-#[derive(Drop)]
+#[derive(Clone, Copy)]
 pub struct Judging {
     pub progress: Progress,
     // The present line so far, or the line that was refused, and how many lines have ended.

@@ -1,5 +1,7 @@
 // The library for hosts that are not written in Rattle: taking, with the state as an image in words.
 // include/kernelstill.h declares this function. It asks nothing of its caller.
+#![tactic(auto)]
+
 ghost use Rattle.std.specs.Prelude.{◌≡◌};
 ghost use Rattle.calls.specs.Take.{call, take_of};
 ghost use Rattle.image_fields.specs.Image.{state_of};

@@ -1,4 +1,6 @@
 // The bytes of the listing's lines of numbers: a record's, and those of refusals. No call asks anything of its caller.
+#![tactic(auto)]
+
 ghost use Rattle.std.specs.Prelude.{◌≡◌};
 ghost use Rattle.output.specs.Block.{block, put_if_fits};
 ghost use Rattle.layout.specs.ListingLines.{record_line, refused_line, fault_line};

@@ -1,4 +1,6 @@
 // An order off the words that a caller lends, and the bytes lent for its frame.
+#![tactic(auto)]
+
 ghost use Rattle.std.specs.Prelude.{◌≡◌, drop};
 ghost use Rattle.orders.specs.Fields.{order_in};
 

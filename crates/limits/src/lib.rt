@@ -1,1 +1,3 @@
 // The limits of document 01; definitions only, in specs/.
+#![tactic(auto)]
+

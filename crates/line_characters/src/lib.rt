@@ -1,4 +1,6 @@
 // A line as far as it is read, with more characters: digits, and characters that are none.
+#![tactic(auto)]
+
 ghost use Rattle.std.specs.Prelude.{◌≡◌, ◌<◌, true, if◌then◌else◌, nat_eq};
 ghost use Rattle.line_meanings.specs.Digits.{is_digit, digit_of};
 ghost use Rattle.line_meanings.specs.Lines.{with_characters};

@@ -1,4 +1,6 @@
 // The end of a line of a text of orders, by a run of `compose` under way.
+#![tactic(auto)]
+
 ghost use Rattle.compositions.specs.Compositions.{WellFormed};
 ghost use Rattle.line_ends.specs.LineEnds.{Lent, EndsLine};
 

@@ -1,10 +1,12 @@
 // The hexadecimal lines of an input, which may be of any length and may come in blocks: what one means, and a line as far as it is read.
+#![tactic(auto)]
+
 ghost use Rattle.std.specs.Prelude.{◌≡◌};
 ghost use Rattle.line_meanings.specs.Line.{hex_number};
 ghost use Rattle.line_meanings.specs.Lines.{empty_line, answer_of, no_characters};
 
 // What a hexadecimal line means: n bytes, or rejected with number 7 or 8; and with number 4 where a call that reads it is lent too few bytes.
-#[derive(Drop)]
+#[derive(Clone, Copy)]
 pub enum HexLine {
     Bytes(usize),
     WrongCharacter,
@@ -34,7 +36,7 @@ pub const LINE_BYTES: usize = 32;
 
 // What the message of a refusal tells of a line: its length so far, and of the first character that is no digit the place, from 1, and the character
 // itself. The place is 0 while there is none.
-#[derive(Drop)]
+#[derive(Clone, Copy)]
 pub struct LineNotes {
     pub length: u64,
     pub place: u64,
@@ -42,7 +44,7 @@ pub struct LineNotes {
 }
 
 // A line as far as it is read; it may be of any length.
-#[derive(Drop)]
+#[derive(Clone, Copy)]
 pub struct LineSoFar {
     // Whether a character was none of 0-9 and A-F.
     pub wrong: bool,
@@ -54,7 +56,7 @@ pub struct LineSoFar {
 }
 
 // What a scan of a block leaves: the line so far, the place in the block after what was scanned, and whether a line feed completed the line.
-#[derive(Drop)]
+#[derive(Clone, Copy)]
 pub struct Scanned {
     pub line: LineSoFar,
     pub next: usize,

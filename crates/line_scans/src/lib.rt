@@ -1,4 +1,6 @@
 // A block of input scanned for the rest of a line.
+#![tactic(auto)]
+
 ghost use Rattle.std.specs.Prelude.{◌≡◌, ◌+◌, ◌≤◌, length, drop};
 ghost use Rattle.line_meanings.specs.Lines.{up_to_line_feed, scan_of};
 

@@ -1,4 +1,6 @@
 // The listing: the text of a taking call's records.
+#![tactic(auto)]
+
 ghost use Rattle.std.specs.Prelude.{◌≡◌, ◌+◌, ◌≤◌, length};
 ghost use Rattle.output.specs.Block.{block, put_all};
 ghost use Rattle.listing.specs.Records.{record_text, records_text};

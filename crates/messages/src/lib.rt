@@ -1,4 +1,6 @@
 // The sentence that standard error gets for a refused line of hexadecimal digits.
+#![tactic(auto)]
+
 ghost use Rattle.std.specs.Prelude.{◌≡◌, ◌+◌, ◌≤◌, length};
 ghost use Rattle.output.specs.Block.{block, put_all};
 ghost use Rattle.messages.specs.Sentences.{wrong_length, reason_of, sentence_of};

@@ -1,4 +1,6 @@
 // Lines of numbers in digits, parted by spaces, with a text ahead of them.
+#![tactic(auto)]
+
 ghost use Rattle.std.specs.Prelude.{◌≡◌, cond, [], ◌∷◌, ◌++◌, ◌+◌, ◌≤◌, ◌<◌, leb, length};
 ghost use Rattle.output.specs.Ascii.{line_feed};
 ghost use Rattle.output.specs.Block.{block, put_all, put_if_fits};

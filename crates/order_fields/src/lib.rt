@@ -1,4 +1,6 @@
 // The fields of a command in a line of a text of orders, by the line's words.
+#![tactic(auto)]
+
 ghost use Rattle.std.specs.Prelude.{◌≡◌, ◌≤◌, length};
 ghost use Rattle.text_words.specs.Words.{line_limit, words_in};
 ghost use Rattle.text_frames.specs.Frames.{frame_limit, FrameAs};

@@ -1,4 +1,6 @@
 // The kinds of commands that an order may have: whether one is known, which fields it uses, and how wide they are.
+#![tactic(auto)]
+
 ghost use Rattle.std.specs.Prelude.{◌≡◌, ◌≤◌};
 ghost use Rattle.orders.specs.Fields.{is_known, is_frame_kind, uses_address, field4, value_width, frame_count};
 

@@ -1,4 +1,6 @@
 // A line of a text of orders: the order that its words make, or why they make none.
+#![tactic(auto)]
+
 ghost use Rattle.std.specs.Prelude.{◌≡◌, List, ℕ, ◌≤◌, length};
 ghost use Rattle.text_words.specs.Words.{line_limit, words_in};
 ghost use Rattle.text_frames.specs.Frames.{frame_limit};
@@ -7,7 +9,7 @@ ghost use Rattle.order_lines.specs.Lines.{no_order, blank_line, wrong_line, fiel
 use orders::Order;
 
 // What a line means: nothing; or why it is no order, 0 for none; or an order, whose frame is so many bytes of those lent, from the first on.
-#[derive(Drop)]
+#[derive(Clone, Copy)]
 pub struct OrderLine {
     pub blank: bool,
     pub reason: u8,

@@ -1,4 +1,6 @@
 // The sentence that standard error gets for an order that is refused.
+#![tactic(auto)]
+
 ghost use Rattle.std.specs.Prelude.{◌≡◌, ◌+◌, ◌≤◌, length};
 ghost use Rattle.output.specs.Block.{block, put_all};
 ghost use Rattle.order_messages.specs.OrderSentences.{asked_and_given, order_numbers, order_reason, order_sentence};

@@ -1,4 +1,6 @@
 // What is refused of a text of orders: its number, its line and its sentence.
+#![tactic(auto)]
+
 ghost use Rattle.std.specs.Prelude.{◌≡◌, length};
 ghost use Rattle.output.specs.Block.{block_length, block, put_all};
 ghost use Rattle.layout.specs.ListingLines.{refused_line};
@@ -8,7 +10,7 @@ use orders::{Context, Order};
 
 // A refusal: its number, 0 for none; the line's number from 1, 0 for the whole stream; the reason for the message, and the two numbers that some reasons
 // have.
-#[derive(Drop)]
+#[derive(Clone, Copy)]
 pub struct Refusal {
     pub number: u8,
     pub line: u64,

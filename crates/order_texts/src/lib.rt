@@ -1,4 +1,6 @@
 // A run of `compose` but for its reads and writes, from the characters of a text of orders: its blocks and its end.
+#![tactic(auto)]
+
 ghost use Rattle.compositions.specs.Compositions.{WellFormed};
 ghost use Rattle.line_ends.specs.LineEnds.{Lent};
 ghost use Rattle.order_texts.specs.Running.{ComposesBlock, EndsInput};

@@ -1,6 +1,8 @@
 // Orders, from which a stream is composed: a command by its kind, its fields and the zeros ahead of it; what one goes by, and what composing answers.
 // An order. What a field holds that its command does not use is not looked at.
-#[derive(Drop)]
+#![tactic(auto)]
+
+#[derive(Clone, Copy)]
 pub struct Order {
     // The kind of the command's record.
     pub kind: u64,
@@ -16,14 +18,14 @@ pub struct Order {
 }
 
 // What an order goes by: the kind of the command before it, 0 for none, and CNT as the orders before it wrote it.
-#[derive(Drop)]
+#[derive(Clone, Copy)]
 pub struct Context {
     pub last: u8,
     pub cnt: u16,
 }
 
 // What composing answers: a refusal's number, 0 for none; the number of the order that was refused, counted from 0; the count of bits.
-#[derive(Drop)]
+#[derive(Clone, Copy)]
 pub struct Composed {
     pub number: u8,
     pub order: u64,

@@ -1,4 +1,6 @@
 // Bytes put into a buffer one text after another.
+#![tactic(auto)]
+
 ghost use Rattle.std.specs.Prelude.{◌≡◌, ◌+◌, ◌≤◌, length};
 ghost use Rattle.output.specs.Block.{block, put_all};
 

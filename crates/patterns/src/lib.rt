@@ -1,9 +1,11 @@
 // What is said of a finished stream of trigger and fast commands: accepted, or a pattern at fault, by number and place.
+#![tactic(auto)]
+
 ghost use Rattle.std.specs.Prelude.{◌≡◌};
 ghost use Rattle.patterns.specs.Verdicts.{verdict_number, verdict_place};
 
 // A place is that of the first bit of the pattern at fault, counted from 0 at the stream's first bit.
-#[derive(Drop)]
+#[derive(Clone, Copy)]
 pub enum Verdict {
     Accepted,
     WrongRange,

@@ -1,4 +1,6 @@
 // A request performed within a taking call: its effect, and its record in the list.
+#![tactic(auto)]
+
 ghost use Rattle.std.specs.Prelude.{◌≡◌, true, false, ◌-◌, ◌<◌, ◌≤◌, length, set};
 ghost use Rattle.limits.specs.Limits.{clock_limit, store_length, list_unit};
 ghost use Rattle.records.specs.Records.{head_of};
@@ -16,7 +18,7 @@ use timing::Earlier;
 
 // Where a call stands once a request is performed: the model with its CNT, the earlier record, the next free word of the list, and whether the call stops
 // here.
-#[derive(Drop)]
+#[derive(Clone, Copy)]
 pub struct Performed {
     pub model: Model,
     pub cnt: u16,

@@ -1,9 +1,11 @@
 // The register plan: the default one, the addresses that a plan has, and whether one opens.
+#![tactic(auto)]
+
 ghost use Rattle.std.specs.Prelude.{◌≡◌};
 ghost use Rattle.plans.specs.Plan.{exists_at, plan_fits, default_plan};
 
 // Document 01's register plan: the addresses that exist (bit n of the mask for address n), and those of CSR, FEEN and CNT.
-#[derive(Drop)]
+#[derive(Clone, Copy)]
 pub struct Plan {
     pub mask: u16,
     pub csr: u8,

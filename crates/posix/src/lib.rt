@@ -1,4 +1,6 @@
 // Reads and writes that go on after an interruption, and messages on standard error. A contract cannot say what the system reads or writes.
+#![tactic(auto)]
+
 ghost use Rattle.std.specs.Prelude.{◌≡◌, true, ◌≤◌, length};
 
 use libc::{STDERR_FILENO, STDOUT_FILENO};
@@ -7,7 +9,7 @@ use libc::{STDERR_FILENO, STDOUT_FILENO};
 pub const TURNS: u64 = u64::MAX;
 
 // What a read brought: how many characters, 0 at the input's end; or that it failed.
-#[derive(Drop)]
+#[derive(Clone, Copy)]
 pub struct Got {
     pub count: usize,
     pub failed: bool,

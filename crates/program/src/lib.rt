@@ -1,4 +1,6 @@
 // A program's run but for its reads and writes: from the characters of hexadecimal lines to the text of their listing.
+#![tactic(auto)]
+
 ghost use Rattle.std.specs.Prelude.{◌≡◌, ◌+◌, ◌<◌, ◌≤◌, true, false, length};
 ghost use Rattle.limits.specs.Limits.{store_length};
 ghost use Rattle.output.specs.Block.{block_length, block, put_all};
@@ -11,14 +13,14 @@ use line_meanings::LineSoFar;
 use plans::Plan;
 
 // What a program prints beside the records: the frames, and at the end of the run the controller as the commands left it.
-#[derive(Drop)]
+#[derive(Clone, Copy)]
 pub struct PrintOptions {
     pub frames: bool,
     pub state: bool,
 }
 
 // The state of a run under way, but for its buffers.
-#[derive(Drop)]
+#[derive(Clone, Copy)]
 pub struct RunState {
     pub decoder: Decoder,
     // The present line so far, or the line that was refused, and how many lines have ended.

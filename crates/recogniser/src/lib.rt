@@ -1,12 +1,14 @@
 // Where the recogniser stands on the command line, what one clock cycle asks for, and what the phases share.
 // It owns only what the chip triplicates; registers, counters and RunMode belong to the model.
+#![tactic(auto)]
+
 ghost use Rattle.std.specs.Prelude.{◌≡◌, ◌<◌};
 ghost use Rattle.recogniser.specs.Parts.{start_of, move_to, gathered_of};
 ghost use Rattle.recogniser.specs.declared.Phase.TheVariants.{Hunt};
 ghost use Rattle.recogniser.specs.Fields.{ends_of};
 
 // Where the recogniser stands.
-#[derive(Drop)]
+#[derive(Clone, Copy)]
 pub enum Phase {
     Hunt,
     Body,
@@ -16,14 +18,14 @@ pub enum Phase {
 }
 
 // What one cycle does to the frame: nothing, or a bit at its place. The bit is as wide as the place, so that an event stays in registers.
-#[derive(Drop)]
+#[derive(Clone, Copy)]
 pub enum FrameBit {
     None,
     At { place: u32, bit: u32 },
 }
 
 // What one cycle of a Slow command asks of the controller: leaving RunMode, or a record with its effect.
-#[derive(Drop)]
+#[derive(Clone, Copy)]
 pub enum SlowRequest {
     LeaveRunMode,
     Command {
@@ -41,7 +43,7 @@ pub enum SlowRequest {
 }
 
 // What one cycle asks of the controller: nothing, a record with its effect, or what a Slow command asks.
-#[derive(Drop)]
+#[derive(Clone, Copy)]
 pub enum Request {
     Nothing,
     Lv1 { position: u8 },
@@ -51,7 +53,7 @@ pub enum Request {
 }
 
 // What one cycle asks for.
-#[derive(Drop)]
+#[derive(Clone, Copy)]
 pub struct Event {
     pub frame: FrameBit,
     pub request: Request,
@@ -65,7 +67,7 @@ impl Event {
     };
 }
 
-#[derive(Drop)]
+#[derive(Clone, Copy)]
 pub struct Recogniser {
     pub phase: Phase,
     // The window; in a body, Field 3 or Field 4, the bits received of it.
@@ -83,7 +85,7 @@ pub struct Recogniser {
 }
 
 // One cycle's answer: the recogniser after it, and what it asks for.
-#[derive(Drop)]
+#[derive(Clone, Copy)]
 pub struct Transition {
     pub next: Recogniser,
     pub event: Event,

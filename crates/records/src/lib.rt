@@ -1,4 +1,6 @@
 // A record by its parts, its first word, and what the words of a frame's record say.
+#![tactic(auto)]
+
 ghost use Rattle.std.specs.Prelude.{◌≡◌, ◌<◌};
 ghost use Rattle.limits.specs.Limits.{clock_limit};
 ghost use Rattle.records.specs.Records.{kind_of, head_of, is_frame_head, frame_bits_of};
@@ -15,7 +17,7 @@ pub const KIND_SLOW: u8 = 0x20;
 pub const KIND_BAD_SLOW: u8 = 0x2F;
 
 // A record by its parts. Its two words are made where it is written.
-#[derive(Drop)]
+#[derive(Clone, Copy)]
 pub struct Record {
     pub time: u64,
     pub kind: u8,
@@ -41,7 +43,7 @@ impl Record {
 }
 
 // What one cycle answers: nothing, or a record.
-#[derive(Drop)]
+#[derive(Clone, Copy)]
 pub enum Cycle {
     Silent,
     Recorded { entry: Record },

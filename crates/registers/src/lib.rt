@@ -1,5 +1,7 @@
 // What the controller holds: the registers, the FIFOs' pointers, counters, warnings and RunMode;
 // how they are read, what a write stores, and what a sound state has of them.
+#![tactic(auto)]
+
 ghost use Rattle.std.specs.Prelude.{◌≡◌, cond, ◌<◌, ◌≤◌, eqb};
 ghost use Rattle.registers.specs.Registers.{register_of, cnt_of, warning_bits, csr_with, read_of};
 ghost use Rattle.registers.specs.Parts.{cleared};
@@ -8,14 +10,14 @@ ghost use Rattle.registers.specs.Sound.{pointers_fit, missing_zero};
 use plans::Plan;
 
 // L1ID, the trigger number, and the cycle from which the bunch number counts.
-#[derive(Drop)]
+#[derive(Clone, Copy)]
 pub struct Counters {
     pub l1id: u8,
     pub base: u64,
 }
 
 // The warnings, CSR bits 8, 9 and 10.
-#[derive(Drop)]
+#[derive(Clone, Copy)]
 pub struct Warnings {
     pub wlv1: bool,
     pub wfst: bool,
@@ -23,14 +25,14 @@ pub struct Warnings {
 }
 
 // The FIFOs' write and read pointers.
-#[derive(Drop)]
+#[derive(Clone, Copy)]
 pub struct Pointers {
     pub writes: [u8; 16],
     pub reads: [u8; 16],
 }
 
 // The controller as the commands left it.
-#[derive(Drop)]
+#[derive(Clone, Copy)]
 pub struct Model {
     // RunMode.
     pub running: bool,

@@ -1,4 +1,6 @@
 // The reply on the line back from the controller: its header, and behind it the data bits, each of eight cycles.
+#![tactic(auto)]
+
 ghost use Rattle.std.specs.Prelude.{◌≡◌, true, ◌<◌, ◌≤◌, length};
 ghost use Rattle.bits.specs.Bits.{bits_of};
 ghost use Rattle.bits.specs.Range.{range_fits};
@@ -8,7 +10,7 @@ ghost use Rattle.replies.specs.Reception.{received, start, is_whole, hunted_of, 
 use bits::Cursor;
 
 // What is said of a reply, or the refusal of a call.
-#[derive(Drop)]
+#[derive(Clone, Copy)]
 pub enum Reply {
     Whole,
     NoHeader,
@@ -68,7 +70,7 @@ impl Reply {
 }
 
 // A reply under way.
-#[derive(Drop)]
+#[derive(Clone, Copy)]
 pub struct Reception {
     // The cycles of all data bits that are expected.
     pub total: u32,

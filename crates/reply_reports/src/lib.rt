@@ -1,4 +1,6 @@
 // What the program that reads replies says in the end: the lines that it prints, and the sentence that standard error gets.
+#![tactic(auto)]
+
 ghost use Rattle.std.specs.Prelude.{◌≡◌, ◌+◌, ◌≤◌, length};
 ghost use Rattle.output.specs.Block.{block_length, block, put_all};
 ghost use Rattle.reply_reports.specs.Report.{verdict_line, data_line, reason_of, whole_report, reply_read, text_of, message_of};
@@ -6,7 +8,7 @@ ghost use Rattle.reply_reports.specs.Report.{verdict_line, data_line, reason_of,
 use line_meanings::LineNotes;
 
 // What is said in the end: what came of a reply; or, unless it is whole, a line that was refused.
-#[derive(Drop)]
+#[derive(Clone, Copy)]
 pub struct Report {
     // Which of the three answers, the complete data bits, and how many are expected.
     pub verdict: u8,

@@ -1,4 +1,6 @@
 // A run of `reply` over an input: the loop that reads and has the characters received, and what it prints and says in the end.
+#![tactic(auto)]
+
 ghost use Rattle.std.specs.Prelude.{◌≡◌, true, ◌≤◌, length};
 ghost use Rattle.output.specs.Block.{block_length};
 ghost use Rattle.statuses.specs.Status.{IsStatus};

@@ -1,4 +1,6 @@
 // The word by which the program that reads replies is told how many data bits it expects.
+#![tactic(auto)]
+
 ghost use Rattle.std.specs.Prelude.{◌≡◌};
 ghost use Rattle.reply_words.specs.Words.{data_bits};
 

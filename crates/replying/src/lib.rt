@@ -1,4 +1,6 @@
 // A run of `reply` but for its reads and writes: from the characters of hexadecimal lines to what is said of their reply.
+#![tactic(auto)]
+
 ghost use Rattle.std.specs.Prelude.{◌≡◌, ◌≤◌};
 ghost use Rattle.replies.specs.Replies.{most_bits};
 ghost use Rattle.hex_streams.specs.SoFar.{PartFits};
@@ -10,7 +12,7 @@ use replies::Reception;
 use reply_reports::Report;
 
 // The state of a run under way: the stream so far, and what is received of a reply of so many bits.
-#[derive(Drop)]
+#[derive(Clone, Copy)]
 pub struct Replying {
     pub expected: u32,
     pub reception: Reception,

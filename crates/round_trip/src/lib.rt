@@ -1,1 +1,3 @@
 // A composed stream reads back as its orders. Theorems only.
+#![tactic(auto)]
+

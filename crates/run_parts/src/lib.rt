@@ -1,4 +1,6 @@
 // The parts of a program's run over an input beside its loop: a read where one is due, and the end of the run.
+#![tactic(auto)]
+
 ghost use Rattle.std.specs.Prelude.{◌≡◌, ◌<◌, length};
 ghost use Rattle.output.specs.Block.{block_length};
 ghost use Rattle.limits.specs.Limits.{store_length};
@@ -9,7 +11,7 @@ use libc::STDOUT_FILENO;
 use program::{PrintOptions, RunState};
 
 // A run after a read, or as it was if the read failed.
-#[derive(Drop)]
+#[derive(Clone, Copy)]
 pub struct Refilled {
     pub state: RunState,
     pub failed: bool,

@@ -1,4 +1,6 @@
 // A program's run over an input: the loop that reads, has the characters turned into text by the crate `program`, and writes.
+#![tactic(auto)]
+
 ghost use Rattle.std.specs.Prelude.{◌≡◌, length};
 ghost use Rattle.limits.specs.Limits.{store_length, tray_length};
 ghost use Rattle.statuses.specs.Status.{IsStatus};

@@ -1,4 +1,6 @@
 // The commands that Field 3 names, the length of Field 5, and what is kept of it.
+#![tactic(auto)]
+
 ghost use Rattle.std.specs.Prelude.{◌≡◌, ◌<◌};
 ghost use Rattle.slow_fields.specs.Slow.{is_slow, is_frame, length_of, kept_of};
 

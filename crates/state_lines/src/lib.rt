@@ -1,4 +1,6 @@
 // The bytes of the lines by which a program shows the model's state. No call asks anything of its caller.
+#![tactic(auto)]
+
 ghost use Rattle.std.specs.Prelude.{◌≡◌, cond};
 ghost use Rattle.output.specs.Block.{block, put_if_fits};
 ghost use Rattle.state_lines.specs.StateLines.{register_line, l1id_line, base_line, runmode_line, pointers_line, word_line};

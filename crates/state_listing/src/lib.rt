@@ -1,4 +1,6 @@
 // The text of the controller as the commands left it.
+#![tactic(auto)]
+
 ghost use Rattle.std.specs.Prelude.{◌≡◌, ◌+◌, ◌≤◌, length};
 ghost use Rattle.limits.specs.Limits.{store_length};
 ghost use Rattle.output.specs.Block.{block_length, block, put_all};

@@ -1,4 +1,6 @@
 // The program `station`: hexadecimal lines in; one line per record and one per frame out.
+#![tactic(auto)]
+
 fn main() {
     commands::kernelstill_run_station();
 }

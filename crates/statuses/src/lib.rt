@@ -1,4 +1,6 @@
 // The exit status: the whole input, a line was refused, wrong words, the system failed.
+#![tactic(auto)]
+
 pub const WHOLE: u8 = 0;
 
 pub const REFUSED: u8 = 1;

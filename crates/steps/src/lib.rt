@@ -1,4 +1,6 @@
 // One clock cycle of the command line, by the phase; and the fields of a Slow command, but for a frame's Field 5.
+#![tactic(auto)]
+
 ghost use Rattle.std.specs.Prelude.{◌≡◌, ◌<◌};
 ghost use Rattle.recogniser.specs.Fields.{slow_request_of, field3_of, field4_of, kept_field_of};
 ghost use Rattle.recogniser.specs.Step.{field5_of, step_of};

@@ -1,4 +1,6 @@
 // The hexadecimal lines of a composed stream.
+#![tactic(auto)]
+
 ghost use Rattle.std.specs.Prelude.{◌≡◌, ◌+◌, ◌≤◌, min, length};
 ghost use Rattle.output.specs.Block.{block_length, block, put_all};
 ghost use Rattle.stream_lines.specs.StreamLines.{stream_text, part_limit};

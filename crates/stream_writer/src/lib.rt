@@ -1,4 +1,6 @@
 // Bits written into bytes one after another, the highest bit of a byte first.
+#![tactic(auto)]
+
 ghost use Rattle.std.specs.Prelude.{◌≡◌, [], ◌∷◌, ◌+◌, ◌*◌, ◌<◌, ◌≤◌, length};
 ghost use Rattle.std.proofs.lemmas.List.Edits.{sets};
 ghost use Rattle.bits.specs.Bits.{bits_of};
@@ -8,7 +10,7 @@ ghost use Rattle.stream_writer.specs.Writer.{start, place_of, Fits, Wrote};
 use bits::Cursor;
 
 // A place in the output: the next byte, and the bits that are held of it, as a number, with their count.
-#[derive(Drop)]
+#[derive(Clone, Copy)]
 pub struct Writer {
     pub at: usize,
     pub held: u8,

@@ -1,4 +1,6 @@
 // Several clock cycles of the command line at once, as the taking loop walks them: a loop each for hunting and for a body; in any other phase one cycle.
+#![tactic(auto)]
+
 ghost use Rattle.std.specs.Prelude.{◌≡◌, ◌<◌, length};
 ghost use Rattle.bits.specs.Bits.{bits_of};
 ghost use Rattle.bits.specs.Place.{place_under};
@@ -12,7 +14,7 @@ use recogniser::{Event, Phase, Recogniser, Request, Transition};
 use windows::Meaning;
 
 // How many cycles, the recogniser after them, and what the last of them asks for.
-#[derive(Drop)]
+#[derive(Clone, Copy)]
 pub struct Stretch {
     pub taken: usize,
     pub next: Recogniser,
@@ -35,7 +37,7 @@ impl Stretch {
 }
 
 // A stretch of the input, and the place behind it.
-#[derive(Drop)]
+#[derive(Clone, Copy)]
 pub struct Walk {
     pub stretch: Stretch,
     pub behind: Cursor,

@@ -1,4 +1,6 @@
 // The taking call. It asks nothing of its caller: it refuses by number.
+#![tactic(auto)]
+
 ghost use Rattle.std.specs.Prelude.{◌≡◌};
 ghost use Rattle.calls.specs.Take.{call, result, take_of};
 

@@ -1,10 +1,12 @@
 // What the programs do with their input.
+#![tactic(auto)]
+
 ghost use Rattle.std.specs.Prelude.{◌≡◌};
 ghost use Rattle.tasks.specs.Tasks.{input_place};
 
 // Lists it, with frames, without, or with the state at the end; tells whether its stream is accepted; composes a stream from its orders; reads a reply of
 // so many data bits.
-#[derive(Drop)]
+#[derive(Clone, Copy)]
 pub enum Task {
     Station,
     Reading,

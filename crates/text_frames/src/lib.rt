@@ -1,4 +1,6 @@
 // The frame that a word of a text stands for: its digits, and how many of their bits it has.
+#![tactic(auto)]
+
 ghost use Rattle.std.specs.Prelude.{◌≡◌, ◌≤◌, ◌<◌, length, get_or};
 ghost use Rattle.output.specs.Block.{block, put_all};
 ghost use Rattle.text_words.specs.Words.{line_limit};
@@ -10,7 +12,7 @@ use text_numbers::Number;
 pub const FRAME_LIMIT: usize = 16384;
 
 // A frame of a line, or that there is none: the count of its bits, and that of the bytes in which they are lent.
-#[derive(Drop)]
+#[derive(Clone, Copy)]
 pub struct FrameRead {
     pub right: bool,
     pub bits: u64,

@@ -1,9 +1,11 @@
 // The number that a word of a text stands for, hexadecimal or decimal.
+#![tactic(auto)]
+
 ghost use Rattle.std.specs.Prelude.{◌≡◌, ◌≤◌, ◌<◌};
 ghost use Rattle.text_numbers.specs.Numbers.{digit_of, with_digit, number_of, sized};
 
 // A number of a line, or that there is none.
-#[derive(Drop)]
+#[derive(Clone, Copy)]
 pub struct Number {
     pub right: bool,
     pub value: u64,

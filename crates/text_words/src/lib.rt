@@ -1,4 +1,6 @@
 // The words of a text, and the place of a character in it.
+#![tactic(auto)]
+
 ghost use Rattle.std.specs.Prelude.{◌≡◌, [], length, get_or};
 ghost use Rattle.text_words.specs.Words.{up_to, is_blank, words_in};
 

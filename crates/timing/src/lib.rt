@@ -1,4 +1,6 @@
 // The timing table, and whether a record's command was sent too close to the recorded one before it.
+#![tactic(auto)]
+
 ghost use Rattle.std.specs.Prelude.{◌≡◌, true, ◌<◌, ◌^◌};
 ghost use Rattle.limits.specs.Limits.{clock_limit};
 ghost use Rattle.timing.specs.Table.{zeros_asked};
@@ -7,7 +9,7 @@ ghost use Rattle.timing.specs.TooClose.{none, earlier_of, earlier_below, cycles_
 use records::{KIND_FAST, KIND_LV1, KIND_SLOW, Record};
 
 // The earlier record: that of the command before, by its time and kind. Kind 0, which no record has, stands for none.
-#[derive(Drop)]
+#[derive(Clone, Copy)]
 pub struct Earlier {
     pub time: u64,
     pub kind: u8,

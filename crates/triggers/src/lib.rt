@@ -1,4 +1,6 @@
 // What an LV1, a Fast and a bad Fast do to the counters, warnings and FIFO pointers, and their records.
+#![tactic(auto)]
+
 ghost use Rattle.std.specs.Prelude.{◌≡◌, ◌<◌};
 ghost use Rattle.records.specs.Records.{record_of};
 ghost use Rattle.triggers.specs.Triggers.{recorded, bunch_of, lv1_of, fast_of, bad_fast_of};
@@ -8,7 +10,7 @@ use records::{Cycle, KIND_BAD_FAST, KIND_FAST, KIND_LV1, Record};
 use registers::{Counters, Model, Pointers};
 
 // What a request leaves: the model, and what its cycle answers.
-#[derive(Drop)]
+#[derive(Clone, Copy)]
 pub struct Acted {
     pub model: Model,
     pub cycle: Cycle,

@@ -1,10 +1,12 @@
 // What a window and a body mean, and the registers of five and of four bits that receive them.
+#![tactic(auto)]
+
 ghost use Rattle.std.specs.Prelude.{◌≡◌, true, ◌<◌};
 ghost use Rattle.bits.specs.Bits.{shifted};
 ghost use Rattle.windows.specs.Windows.{is_lv1, position_of, meaning_of, is_fast};
 
 // What a window means.
-#[derive(Drop)]
+#[derive(Clone, Copy)]
 pub enum Meaning {
     Quiet,
     // An LV1. `position`: which of its five received bits was hit, from 1; 0 for an exact one.

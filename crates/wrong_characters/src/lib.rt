@@ -1,4 +1,6 @@
 // The sentence that standard error gets for a refused line: the first character that is none of 0-9 and A-F.
+#![tactic(auto)]
+
 ghost use Rattle.std.specs.Prelude.{◌≡◌, ◌+◌, ◌≤◌, length};
 ghost use Rattle.output.specs.Block.{block, put_all};
 ghost use Rattle.wrong_characters.specs.WrongCharacters.{character_text, wrong_character};
