@@ -1,4 +1,4 @@
--- Field 5 of a front_end frame: eight cycles gather a group, whose eighth stores the vote.
+-- Field 5 of a front-end frame: eight cycles gather a group, whose eighth stores the vote.
 -- Assumes nothing.
 use mathlib.Core.Bool.{Bool, true, false, ◌||◌}
 use mathlib.Core.List.{List, [], ◌∷◌, ◌++◌, append_assoc}
@@ -24,7 +24,7 @@ use Rattle.frames.specs.Tray.{tray_of, filled_of}
 use Rattle.calls.specs.Turn.{System, Machine, cnt_at}
 use Rattle.calls.proofs.FrameTurns.{FrameTaken, system, at, moved, last_taken, cycle_taken}
 
--- A front_end frame behind so many whole groups and some bits of the next.
+-- A front-end frame behind so many whole groups and some bits of the next.
 module _ (command address place : ℕ) (part : List ℕ) (u : Bool) where
   abbrev count : ℕ
   count = 8 * place + length part

@@ -15,7 +15,7 @@ use Rattle.command_names.specs.Names.{Named, commands, kind_among, kind_named, n
 -- The names as one text.
 abbrev pub names_text : List ℕ
 names_text =
-    ascii "lv1 bcr ecr cal sync wr_register rd_register wr_fifo rd_fifo wr_front_end rd_front_end wr_receiver en_data_take global_reset_mcc global_reset_fe"
+    ascii "lv1 bcr ecr cal sync wr-register rd-register wr-fifo rd-fifo wr-front-end rd-front-end wr-receiver en-data-take global-reset-mcc global-reset-fe"
 
 names_text_lem : map (λ (c : Named). c.name) commands ≡ words_in names_text
 unfolding words_from

@@ -16,7 +16,7 @@ const WR_RECEIVER: u64 = 0x26;
 // A stream's bits are at most the clock's cycles.
 const BIT_LIMIT: u64 = 0x1_0000_0000_0000;
 
-// A frame's bits: a WrReceiver's are whole bytes; front_end bits last eight cycles each.
+// A frame's bits: a WrReceiver's are whole bytes; front-end bits last eight cycles each.
 fn put_frame(writer: Writer, out: &mut [u8], order: Order, lent: &[u8]) -> Writer
     requires { Fits writer × FrameFit order (length lent.now) × Room writer out.old (field_frame (ordered order lent.now)) }
     ensures { Wrote writer out.old (field_frame (ordered order lent.now)) result out.new }

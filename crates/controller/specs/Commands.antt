@@ -82,7 +82,7 @@ bad_slow_of m command time =
     let w = m.warnings in
     recorded (with_warnings (warnings w.wlv1 w.wfst true) m) (record_of time kind_bad_slow 0 command)
 
--- "front_end frames, control bits × 65,536 + data bits; WrReceiver, the count of its bits"
+-- "front-end frames, control bits × 65,536 + data bits; WrReceiver, the count of its bits"
 abbrev pub frame_value_of : ℕ → ℕ → ℕ
 frame_value_of command cnt =
     cond (eqb command 6) (receiver_bits cnt) (control_bits cnt * 65536 + data_bits cnt)

@@ -1,4 +1,4 @@
-// Field 5 of a frame, cycle by cycle: its bits, and the groups of a front_end frame.
+// Field 5 of a frame, cycle by cycle: its bits, and the groups of a front-end frame.
 #![tactic(auto)]
 
 ghost use Rattle.std.specs.Prelude.{◌≡◌, ◌<◌};

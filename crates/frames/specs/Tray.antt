@@ -11,7 +11,7 @@ with_bit byte place bit =
     let weight = 2 ^ (7 - place) in
     byte - byte / weight % 2 * weight + cond (eqb bit 1) weight 0
 
--- "Frame bits fill the tray from byte 0, highest bit first; a byte is zeroed as its first bit arrives": of a front_end frame in its group's eighth cycle, in
+-- "Frame bits fill the tray from byte 0, highest bit first; a byte is zeroed as its first bit arrives": of a front-end frame in its group's eighth cycle, in
 -- which it is stored (document 02, F-4).
 abbrev pub stored_of : List ℕ → ℕ → ℕ → List ℕ
 stored_of tray place bit =

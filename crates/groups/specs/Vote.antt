@@ -1,4 +1,4 @@
--- The eight cycles of a front_end bit: the vote among them (document 02, F-4), and whether they differ (document 01, "What commands do"). Where a sender
+-- The eight cycles of a front-end bit: the vote among them (document 02, F-4), and whether they differ (document 01, "What commands do"). Where a sender
 -- keeps each bit stable for its eight cycles, as the chip paper asks, the vote is that bit (`promises/specs/Frames`: `SteadyVote`).
 -- Assumes nothing.
 use Rattle.std.specs.Prelude.{Bool, false, cond, not, ◌||◌, List, [], ◌∷◌, ℕ, zero, suc, ◌+◌, leb, eqb, get_or, take, drop}
@@ -8,7 +8,7 @@ abbrev pub ones_of : List ℕ → ℕ
 ones_of [] = 0
 ones_of (bit ∷ bits) = bit + ones_of bits
 
--- "A front_end bit becomes 1 if five or more ones are among the eight cycles of its group, and 0 if three or fewer are; four ones keep the first
+-- "A front-end bit becomes 1 if five or more ones are among the eight cycles of its group, and 0 if three or fewer are; four ones keep the first
 -- cycle's value."
 abbrev pub vote_of : List ℕ → ℕ
 vote_of group = cond (leb 5 (ones_of group)) 1 (cond (leb (ones_of group) 3) 0 (get_or group 0 0))

@@ -1,4 +1,4 @@
-// The eight cycles of a front_end bit: what is held of them, the vote among them, and whether they differ.
+// The eight cycles of a front-end bit: what is held of them, the vote among them, and whether they differ.
 // A group is a byte: the bits received of it, the latest lowest, so that its first stands highest once it is whole.
 #![tactic(auto)]
 

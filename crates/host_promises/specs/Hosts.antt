@@ -11,7 +11,7 @@ use Rattle.host_plans.specs.Plans.{empty_plan, plan_of}
 use Rattle.host_opening.specs.Open.{open_result_of}
 use Rattle.host_results.specs.Take.{result_length, refused_call, answered, take_result_by, take_result_of}
 
--- The image of a state is well_formed, and read back it is that state.
+-- The image of a state is well-formed, and read back it is that state.
 pub record RoundTrip (d : Decoder) : Type 0 where
   pub fits : image_fits (image_of d) ≡ true
   pub back : state_of (image_of d) ≡ d
@@ -37,7 +37,7 @@ Unchanged image result c =
 abbrev pub HostAsBefore : List ℕ → List ℕ → Call → Type 0
 HostAsBefore image result c = length c.input ≤ 65536 → take_result_of image result c ≡ take_result_by (take_within 65536) image result c
 
--- What is well_formed by the round trip is well_formed by widths, and the other way round.
+-- What is well-formed by the round trip is well-formed by widths, and the other way round.
 pub record ByWidths (image : List ℕ) : Type 0 where
   pub only : image_fits image ≡ true → Formed image
   pub all : Formed image → image_fits image ≡ true

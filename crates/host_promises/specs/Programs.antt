@@ -30,12 +30,12 @@ pub record ProgramPromise : Type 0 where
   pub as_read : (prints : PrintOptions) (store tray out input : List ℕ) (turns : List Turn) → length store ≡ 2048 → length tray ≡ 8192
       → length out ≡ 65536 → length input ≡ 65536 → RunsAsRead prints store tray out input turns
   -- "Input lines B5C074 and E0B080 print, whole:", and "the third line's value becomes 0005011C" (document 02, F-1).
-  pub listing : (station_on (ascii "B5C074\n_e0_b080\n")).text
+  pub listing : (station_on (ascii "B5C074\nE0B080\n")).text
       ≡ ascii "000000000010 28 01 00000000\n"
       ++ (ascii "000000000015 01 05 00000015\n" ++ (ascii "00000000001C 01 07 0005011C\n" ++ ascii "000000000028 11 01 00000000\n"))
-  pub to_the_end : (station_on (ascii "B5C074\n_e0_b080\n")).refusal ≡ no_refusal
+  pub to_the_end : (station_on (ascii "B5C074\nE0B080\n")).refusal ≡ no_refusal
   -- "The default plan grows .. It reaches the station program" (document 02, F-9): register 10 exists, and 11 does not.
   pub default_plan : (station_on (ascii "B585091A5AC2C48D00\n")).text ≡ ascii "000000000020 20 01 000A1234\n" ++ ascii "000000000041 20 08 000B1234\n"
   -- "A refused line prints "!", the number in two digits, a space, the line's number from 1 in eight, and ends the run."
-  pub refused : (station_on (ascii "B5C074\n_e0b080\n_e0_b080\n")).text
+  pub refused : (station_on (ascii "B5C074\nE0b080\nE0B080\n")).text
       ≡ ascii "000000000010 28 01 00000000\n" ++ (ascii "000000000015 01 05 00000015\n" ++ ascii "!07 00000002\n")

@@ -1,4 +1,4 @@
--- The image of a state, read back, is the state; and it is well_formed.
+-- The image of a state, read back, is the state; and it is well-formed.
 -- Assumes nothing.
 use mathlib.Core.Bool.{Bool, true, false}
 use mathlib.Core.List.{List, [], ◌∷◌, ◌++◌, append_assoc}
@@ -69,7 +69,7 @@ pub read_back : (d : Decoder) → Widths d → state_of (image_of d) ≡ d
 unfolding image_of state_of
 read_back d w = ap state_from (fun_ext (λ (name : String). numbers_back d name fields (within d w) (layout ∷ []) 1 refl)) ∙ made_back d
 
--- What is well_formed has the image's length, and the image of a state is well_formed.
+-- What is well-formed has the image's length, and the image of a state is well-formed.
 pub fits_length : (image : List ℕ) → image_fits image ≡ true → length image ≡ image_length
 unfolding image_fits
 fits_length image e = eqb-true (length image) image_length (both (eqb (length image) image_length) _ e).0

@@ -1,4 +1,4 @@
--- Well-formed by the round trip is well_formed by widths.
+-- Well-formed by the round trip is well-formed by widths.
 -- Assumes nothing.
 use mathlib.Core.Bool.{true}
 use mathlib.Core.List.{List, [], ◌∷◌}

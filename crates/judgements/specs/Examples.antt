@@ -10,8 +10,8 @@ use Rattle.judgements.specs.Judgement.{text_of, judged_of}
 pub record JudgementExamples : Type 0 where
   pub accepted : text_of (judged_of (ascii "1D00E8\n")) ≡ []
   pub too_close : text_of (judged_of (ascii "B0AC20\n")) ≡ ascii "!0F 00000000000A\n"
-  pub unknown : text_of (judged_of (ascii "1D\n_b5\n")) ≡ ascii "!0D 000000000008\n"
+  pub unknown : text_of (judged_of (ascii "1D\nB5\n")) ≡ ascii "!0D 000000000008\n"
   pub cut : text_of (judged_of (ascii "1D0B\n")) ≡ ascii "!0E 00000000000C\n"
-  pub fault_first : text_of (judged_of (ascii "B0AC20\n0_g\n")) ≡ ascii "!0F 00000000000A\n"
-  pub refused_first : text_of (judged_of (ascii "1D0B\n0_g\n")) ≡ ascii "!07 00000002\n"
+  pub fault_first : text_of (judged_of (ascii "B0AC20\n0G\n")) ≡ ascii "!0F 00000000000A\n"
+  pub refused_first : text_of (judged_of (ascii "1D0B\n0G\n")) ≡ ascii "!07 00000002\n"
   pub odd : text_of (judged_of (ascii "B0AC0\n")) ≡ ascii "!08 00000001\n"

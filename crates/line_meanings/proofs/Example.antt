@@ -16,10 +16,10 @@ fit bytes length = record { meaning = record { number = 0; bytes = bytes }; note
 abbrev unfit : ℕ → ℕ → ℕ → ℕ → LineRead
 unfit number length place character = record { meaning = refused number; notes = record { length = length; place = place; character = character } }
 
--- The two lines of document 01's listing; an empty line; a lower_case digit; a space; an odd count; a wrong character with an odd count; 64 digits, and 66.
+-- The two lines of document 01's listing; an empty line; a lower-case digit; a space; an odd count; a wrong character with an odd count; 64 digits, and 66.
 abbrev input : List ℕ
 input =
-    ascii "B5C074\n_e0_b080\n\n0a\n0 \n_aBC\n_g\n" ++ replicate 64 (code "F") ++ ascii "\n" ++ replicate 66 (code "F") ++ ascii "\n"
+    ascii "B5C074\nE0B080\n\n0a\n0 \nABC\nG\n" ++ replicate 64 (code "F") ++ ascii "\n" ++ replicate 66 (code "F") ++ ascii "\n"
 
 abbrev answers : List LineRead
 answers =
@@ -43,7 +43,7 @@ unfolding read_from with_character with_note meaning_so_far answer_of
 by_characters = refl
 
 -- "A line ends at a line feed or at the end of the input; nothing after the last line feed is no line."
-pub ends : lines_of (ascii "AB\n_cD") ≡ ascii "AB" ∷ ascii "CD" ∷ []
+pub ends : lines_of (ascii "AB\nCD") ≡ ascii "AB" ∷ ascii "CD" ∷ []
 unfolding lines_from
 ends = refl
 

@@ -1,4 +1,4 @@
--- The longest front_end frame, computed.
+-- The longest front-end frame, computed.
 -- Assumes nothing.
 use mathlib.Core.Path.{refl}
 use Rattle.recogniser.specs.Step.{step_of}

@@ -1,4 +1,4 @@
--- The longest front_end frame (document 01, the first edge below the table of streams); the other edge is in `CallTable`.
+-- The longest front-end frame (document 01, the first edge below the table of streams); the other edge is in `CallTable`.
 -- Assumes nothing.
 use Rattle.std.specs.Prelude.{◌≡◌, ℕ, zero, suc, ◌+◌, length, replicate}
 use Rattle.recogniser.specs.declared.Phase.TheVariants.{Field5}

@@ -28,7 +28,7 @@ pub tab : sentence_of 7 2 (wrong_at 5 (code "\t")) ≡ ascii "line 2: character 
 unfolding decimal_within labelled character_text wrong_length reason_of
 tab = refl
 
-pub lower_case : sentence_of 7 2 (wrong_at 5 (code "e")) ≡ ascii "line 2: character 5 is a lower_case letter\n"
+pub lower_case : sentence_of 7 2 (wrong_at 5 (code "e")) ≡ ascii "line 2: character 5 is a lower-case letter\n"
 unfolding decimal_within labelled character_text wrong_length reason_of
 lower_case = refl
 

@@ -14,5 +14,5 @@ pub record ComposedExamples : Type 0 where
   pub fasts : printed (ascii "lv1\nbcr # reset\n\necr 2") ≡ ascii "ED84B100\n"
   pub nothing : printed (ascii "# none\n\n") ≡ []
   pub too_close : printed (ascii "bcr\nbcr 1\n") ≡ ascii "!0A 00000002\n"
-  pub frame_bits : printed (ascii "wr_front_end 5C8:9\n") ≡ ascii "!09 00000001\n"
-  pub unknown : printed (ascii "\n_lV1\nlv1 x\n") ≡ ascii "!09 00000002\n"
+  pub frame_bits : printed (ascii "wr-front-end 5C8:9\n") ≡ ascii "!09 00000001\n"
+  pub unknown : printed (ascii "\nLV1\nlv1 x\n") ≡ ascii "!09 00000002\n"

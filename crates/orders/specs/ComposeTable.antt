@@ -50,7 +50,7 @@ compose_table =
     -- EnDataTake, GlobalResetMCC, GlobalResetFE with SyncW 9
     ∷ writes (plain 0x28 0 ++ plain 0x29 0) [] 34 (0xB5 ∷ 0xC0 ∷ 0x5A ∷ 0xE4 ∷ 0x00 ∷ replicate 7 0xEE)
     ∷ writes (one 0x2A 0 0 9 0 0) [] 21 (0xB5 ∷ 0xD0 ∷ 0x48 ∷ replicate 9 0xEE)
-    -- CNT 0: frames of no bits, wherever they stand; CNT 0001: WrReceiver of eight bits; CNT 0008: one front_end bit, eight times
+    -- CNT 0: frames of no bits, wherever they stand; CNT 0001: WrReceiver of eight bits; CNT 0008: one front-end bit, eight times
     ∷ writes (one 0x24 0 0 0 99 0) [] 17 (0xB5 ∷ 0xA0 ∷ 0x00 ∷ replicate 9 0xEE)
     ∷ writes (set_cnt 1 ++ one 0x26 0 0 0 1 8) (0xFF ∷ 0xA5 ∷ []) 58
     (0xB5 ∷ 0x82 ∷ 0x80 ∷ 0x00 ∷ 0xDA ∷ 0xD8 ∷ 0x29 ∷ 0x40 ∷ replicate 4 0xEE)

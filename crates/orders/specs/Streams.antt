@@ -21,7 +21,7 @@ abbrev pub repeated : ℕ → List ℕ → List ℕ
 repeated times [] = []
 repeated times (bit ∷ bits) = replicate times bit ++ repeated times bits
 
--- The frame's bits, and how often each is sent: "with front_end bits eight cycles each".
+-- The frame's bits, and how often each is sent: "with front-end bits eight cycles each".
 abbrev pub frame_of : Ordered → List ℕ
 frame_of x = bits_of x.lent 0 x.order.bits
 

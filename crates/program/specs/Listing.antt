@@ -54,7 +54,7 @@ outcome text r s = record { text = text; refusal = r; system = s }
 abbrev pub print_first : List ℕ → Outcome → Outcome
 print_first text o = outcome (text ++ o.text) o.refusal o.system
 
--- The bits of the n_th line, and then the rest of the run, given for each state. At the clock's end they are rejected with number 6, and the run ends.
+-- The bits of the n-th line, and then the rest of the run, given for each state. At the clock's end they are rejected with number 6, and the run ends.
 abbrev pub bits_then : Bool → System → ℕ → LineNotes → List ℕ → (System → Outcome) → Outcome
 bits_then frames s n notes bits rest =
     cond (clock_fits s.machine.next (length bits))

@@ -19,7 +19,7 @@ use Rattle.calls.specs.Calls.{Part, carried_bits, carried_words, carried_system}
 abbrev pub cycles_each : ℕ → ℕ
 cycles_each command = cond (eqb command 6) 1 8
 
--- The frame's bits, by those that arrived in Field 5; a front_end bit is the vote of its eight.
+-- The frame's bits, by those that arrived in Field 5; a front-end bit is the vote of its eight.
 abbrev pub frame_bits_in : ℕ → List ℕ → List ℕ
 frame_bits_in command field = cond (eqb command 6) field (votes_of (length field / 8) field)
 

@@ -1,4 +1,4 @@
--- A cycle of a front_end frame: one that gathers a bit of its group, and the one that finishes it.
+-- A cycle of a front-end frame: one that gathers a bit of its group, and the one that finishes it.
 -- Assumes nothing.
 use mathlib.Core.Bool.{true, false, ◌||◌}
 use mathlib.Core.Path.{◌≡◌}

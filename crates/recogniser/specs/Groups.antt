@@ -20,7 +20,7 @@ is_eighth count = eqb (count % 8) 7
 abbrev pub group_of : Recogniser → ℕ → ℕ
 group_of r bit = cond (eqb r.command 6) 0 (cond (is_eighth r.count) 0 (held_with r.group bit))
 
--- The frame bit of a cycle. "WrReceiver carries one bit a cycle." A front_end bit is the vote of its group, "stored .. in the eighth cycle".
+-- The frame bit of a cycle. "WrReceiver carries one bit a cycle." A front-end bit is the vote of its group, "stored .. in the eighth cycle".
 abbrev pub frame_bit_of : Recogniser → ℕ → FrameBit
 frame_bit_of r bit =
     cond (eqb r.command 6) (At r.count bit)

@@ -18,12 +18,12 @@ says expected characters = message_of (read_text expected characters).report
 -- no header; a refused line ahead of the last bit, or with it.
 pub record ReportExamples : Type 0 where
   pub whole : prints 2 (ascii "EFF800\n") ≡ ascii "whole 0002\n>80\n"
-  pub two_lines : prints 2 (ascii "EF\n_f800") ≡ ascii "whole 0002\n>80\n"
-  pub whole_first : prints 2 (ascii "EFF800\n0_g\n") ≡ ascii "whole 0002\n>80\n"
+  pub two_lines : prints 2 (ascii "EF\nF800") ≡ ascii "whole 0002\n>80\n"
+  pub whole_first : prints 2 (ascii "EFF800\n0G\n") ≡ ascii "whole 0002\n>80\n"
   pub cut_short : prints 9 (ascii "EFF800\n") ≡ ascii "cut short 0002\n>80\n"
   pub no_bit : prints 9 (ascii "EF\n") ≡ ascii "cut short 0000\n"
   pub no_header : prints 2 (ascii "00\n") ≡ ascii "no header\n"
-  pub refused_first : prints 2 (ascii "EFF8\n0_g\n") ≡ ascii "!07 00000002\n"
+  pub refused_first : prints 2 (ascii "EFF8\n0G\n") ≡ ascii "!07 00000002\n"
   pub refused_inside : prints 2 (ascii "EFF800G\n") ≡ ascii "!07 00000001\n"
   pub whole_said : says 2 (ascii "EFF800\n") ≡ []
   pub cut_said : says 9 (ascii "EFF800\n") ≡ ascii "cut short: 2 of 9 bits\n"

@@ -34,7 +34,7 @@ abbrev pub next : ℕ → Cell
 next n = cell (image_at 5) n
 
 -- The recogniser: its phase (0 hunting, 1 body, 2 Field 3, 3 Field 4, 4 Field 5), the window or the bits received of a body, Field 3 or Field 4, Fields 3
--- and 4 once received, how many bits of the present field are received, the bits held of Field 5, those received of a front_end frame's present group of
+-- and 4 once received, how many bits of the present field are received, the bits held of Field 5, those received of a front-end frame's present group of
 -- eight, the latest lowest, and whether a finished group of the frame was unsteady.
 abbrev pub phase : ℕ → Cell
 phase n = cell (image_at 6) n

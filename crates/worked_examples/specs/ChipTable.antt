@@ -8,7 +8,7 @@ use Rattle.worked_examples.specs.Example.{Row, row, done}
 abbrev running : List Cell
 running = run_mode 1 ∷ []
 
--- Flags 05 with kind 01 are the paper's "LV1" and flags 07 its "LV1 (w. bit_flip)"; kind 1F is its "bad Fast command";
+-- Flags 05 with kind 01 are the paper's "LV1" and flags 07 its "LV1 (w. bit-flip)"; kind 1F is its "bad Fast command";
 -- where no record is expected the paper has "missed command".
 abbrev pub table : List Row
 table =

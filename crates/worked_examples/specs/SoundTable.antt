@@ -89,7 +89,7 @@ table =
     ∷ sound (phase 4 ∷ command 10 ∷ count 3 ∷ held 7 ∷ [])
     ∷ unsound (phase 4 ∷ command 10 ∷ count 3 ∷ held 8 ∷ [])
     ∷ unsound (phase 4 ∷ command 10 ∷ count 4 ∷ [])
-    -- "the variable ones by the present CNT": 1 data bit is 8 cycles of a front_end frame, CNT<12:0> 1 is 8 of a WrReceiver
+    -- "the variable ones by the present CNT": 1 data bit is 8 cycles of a front-end frame, CNT<12:0> 1 is 8 of a WrReceiver
     ∷ sound (register 5 0x0008 ∷ phase 4 ∷ command 4 ∷ count 7 ∷ [])
     ∷ unsound (register 5 0x0008 ∷ phase 4 ∷ command 4 ∷ count 8 ∷ [])
     ∷ sound (register 5 0x0008 ∷ phase 4 ∷ command 5 ∷ count 7 ∷ [])

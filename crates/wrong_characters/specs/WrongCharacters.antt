@@ -12,7 +12,7 @@ character_text c =
     cond (eqb c (code "\r")) (ascii "a carriage return\n")
     (cond (eqb c (code " ")) (ascii "a space\n")
     (cond (eqb c (code "\t")) (ascii "a tab\n")
-    (cond (leb (code "a") c && leb c (code "z")) (ascii "a lower_case letter\n")
+    (cond (leb (code "a") c && leb c (code "z")) (ascii "a lower-case letter\n")
     (labelled (ascii "byte ") c (ascii ", none of 0-9 and A-F\n")))))
 
 -- Number 7, by the first such character of the line.

@@ -1,0 +1,25 @@
+-- `Model::missing_zero` answers `missing_zero`: what is left of the 16 addresses decides as the whole.
+-- Assumes nothing.
+use mathlib.Core.Bool.{◌||◌}
+use mathlib.Core.Path.{◌≡◌, ◌∙◌}
+use Prim.Native.Nat.{◌-◌}
+use lib.Dec.{eqb}
+use borrow.Author.Tests.{not-true, not-false}
+use Rattle.registers.specs.Sound.{zero_at, missing_zero}
+use Rattle.registers.proofs.TestLoop.{Invariant, initially, failed, passed, over}
+use Rattle.registers.proofs.Model.missing_zero.Goals as goal
+use Rattle.registers.proofs.Model.missing_zero.Goals.{After-register-held}
+
+-- The code's test is the definition's.
+tested : (c : After-register-held) →
+    let l = c.before.before.before in
+    let a = l.args in
+    zero_at a.plan a.self.registers l.loop-i.i ≡ (c.exists_at-there.result || eqb c.register-held.result 0)
+tested c = rw (c.exists_at-there.ensures, c.register-held.ensures)
+
+pub loop-i-init : goal.loop-i-init
+loop-i-init c = initially _
+
+pub returns : goal.returns
+unfolding missing_zero
+returns c = over _ c.loop-i.invariant c.loop-i-test.false
