@@ -82,7 +82,7 @@ known_case P each kind known =
                     each.write_fifo,
                     (
                       each.read_fifo,
-                      (each.write-front-end, (each.read-front-end, (each.write_receiver, (each.enable, (each.reset, (each.reset_front_ends, tt)))))),
+                      (each.write_front_end, (each.read_front_end, (each.write_receiver, (each.enable, (each.reset, (each.reset_front_ends, tt)))))),
                     ),
                   ),
                 ),
