@@ -15,23 +15,14 @@ use Rattle.byte_lines.proofs.bytes_line.Goals.{After-slice_known-2-1, Else-out-a
 
 pub returns-then-out-at : goal.returns-then-out-at
 returns-then-out-at c =
-    let b3 = c.before.before.before in
+    let b3 = c in
     let a = b3.args in
     sym (put_when_full _ _ (bytes_line a.bytes.now) (omega (arith, bytes_line_length a.bytes.now, c.if-out-at.true)))
 
 pub returns-then-out-at-2 : goal.returns-then-out-at-2
 returns-then-out-at-2 c =
-    let b1 = c.before in
-    let b4 = b1.before.before.before in
+    let b1 = c in
+    let b4 = b1 in
     let a = b4.args in
     sym (put_when_full _ _ (bytes_line a.bytes.now) (omega (arith, bytes_line_length a.bytes.now, c.if-out-at-2.true, b1.if-out-at.false)))
-
-pub put_byte_digits-end-requires : goal.put_byte_digits-end-requires
-put_byte_digits-end-requires c =
-    let b1 = c.before in
-    let b5 = b1.before.before.before.before in
-    next_fits (whole b1) (byte_digits b5.args.bytes.now) (line_feed ∷ []) refl
-
-pub bounds-out-end : goal.bounds-out-end
-bounds-out-end c = let f = (feed_left c).ranges in omega arith
 

@@ -24,6 +24,3 @@ returns-then-out-at-2 c =
     let a = c.args in
     sym (put_when_full _ _ (frame_line a.bytes.now) (omega (arith, frame_length a.bytes.now)))
 
-pub bounds-out-end : goal.bounds-out-end
-bounds-out-end c = let f = (feed_left c).ranges in omega arith
-

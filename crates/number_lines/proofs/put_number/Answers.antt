@@ -6,6 +6,6 @@ use Rattle.number_lines.proofs.put_number.Goals as goal
 
 pub returns : goal.returns
 returns c =
-    let put = c.before.before in
+    let put = c in
     let a = put.args in
-    rw put.put_digits.ensures (digits_then_separator a.out-1.now a.at a.number a.width a.separator)
+    rw put.put_digits.ensures (digits_then_separator a.out.now a.at a.number a.width a.separator)

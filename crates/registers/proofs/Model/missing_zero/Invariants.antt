@@ -5,6 +5,7 @@ use mathlib.Core.Path.{◌≡◌, ◌∙◌}
 use Prim.Native.Nat.{◌-◌}
 use lib.Dec.{eqb}
 use borrow.Author.Tests.{not-true, not-false}
+use borrow.Author.Rules.{rules}
 use Rattle.registers.specs.Sound.{zero_at, missing_zero}
 use Rattle.registers.proofs.TestLoop.{Invariant, initially, failed, passed, over}
 use Rattle.registers.proofs.Model.missing_zero.Given as goal
