@@ -4,7 +4,7 @@
 ghost use Rattle.std.specs.Prelude.{◌≡◌, true, ◌+◌, ◌*◌, ◌≤◌, length};
 ghost use Rattle.limits.specs.Limits.{clock_limit, store_length, input_limit};
 ghost use Rattle.timing.specs.TooClose.{earlier_below};
-ghost use Rattle.calls.specs.Take.{call, result, taken_of};
+ghost use Rattle.calls.specs.Take.{call, call_result, taken_of};
 
 use bits::Cursor;
 use calls::{Ending, Taken};
@@ -25,8 +25,8 @@ pub fn run(
 ) -> Taken
     requires count_bound { (decoder.next + count ≤ clock_limit) × (length store.old ≡ store_length) × (earlier_below decoder.earlier decoder.next ≡ true) }
     requires input_len_bound { (length input.now ≤ input_limit) × (first + count ≤ 8 * length input.now) × (free ≤ length list.old) }
-    ensures* { λ r. ⌜ result r store.new tray.new list.new
-        ≡ taken_of decoder (call input.now first count store.old tray.old list.old free) ⌝ }
+    ensures { call_result result store.new tray.new list.new
+        ≡ taken_of decoder (call input.now first count store.old tray.old list.old free) }
 {
     let plan = decoder.plan;
     let mut recogniser = decoder.recogniser;

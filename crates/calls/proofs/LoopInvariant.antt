@@ -40,7 +40,7 @@ use Rattle.performing.specs.declared.Performed.{Performed}
 use Rattle.performing.specs.Perform.{PerformResult, performed_with, recorded_at, perform_of}
 use Rattle.calls.specs.Run.{Run, ended, one_bit, one_record, after_cycle, run_of}
 use Rattle.calls.specs.Turn.{System, decoder_of, turn_of}
-use Rattle.calls.specs.Take.{Call, CallResult, result, taken_with, finished, taken_of}
+use Rattle.calls.specs.Take.{Call, CallResult, call_result, taken_with, finished, taken_of}
 use Rattle.calls.proofs.RunStretch.{landed, bits_ahead, run_stretch}
 
 -- The system that the loop's locals make up, and the bits that are left.
@@ -57,7 +57,7 @@ left c taken = bits_of c.input (c.first + taken) (c.count - taken)
 -- The answer at an end of the loop.
 abbrev pub answered : Call → System → ℕ → ℕ → Ending → List ℕ → CallResult
 answered c s taken at ending list =
-    result (taken_with (decoder_of s) taken ((at - c.free) / 2) ending) s.machine.store s.machine.tray list
+    call_result (taken_with (decoder_of s) taken ((at - c.free) / 2) ending) s.machine.store s.machine.tray list
 
 -- The run that is left, finished onto what is taken and written so far, is the whole call. The earlier record has a time below the next cycle.
 pub record Invariant (d : Decoder) (c : Call) (store tray list : List ℕ) (r : Recogniser) (p : Performed) (taken : ℕ) : Type 0 where
@@ -110,7 +110,7 @@ wrote_one taken at free x list r h =
     let n : (at - free) / 2 + suc (suc (length r.words)) / 2 ≡ (at + 2 - free) / 2 + length r.words / 2 = omega arith in
     let a : suc at ≡ at + 1 = omega arith in
     let b : suc (suc at) ≡ at + 2 = omega arith in
-    λ i. result (taken_with (decoder_of r.state) (taken + r.bits) (n i) r.ending) r.state.machine.store r.state.machine.tray
+    λ i. call_result (taken_with (decoder_of r.state) (taken + r.bits) (n i) r.ending) r.state.machine.store r.state.machine.tray
     (sets (set (set list at (head_of x)) (a i) x.value) (b i) r.words)
 
 -- Once a request is performed, the call goes on, or it stops at a frame's record.

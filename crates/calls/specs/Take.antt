@@ -49,8 +49,8 @@ pub record CallResult : Type 0 where
   pub tray : List ℕ
   pub list : List ℕ
 
-abbrev pub result : Taken → List ℕ → List ℕ → List ℕ → CallResult
-result taken store tray list = record { taken = taken; store = store; tray = tray; list = list }
+abbrev pub call_result : Taken → List ℕ → List ℕ → List ℕ → CallResult
+call_result taken store tray list = record { taken = taken; store = store; tray = tray; list = list }
 
 -- A state with what a call tells of itself.
 abbrev pub taken_with : Decoder → ℕ → ℕ → Ending → Taken
@@ -62,12 +62,12 @@ decoder_after d r m earlier taken = record { plan = d.plan; next = d.next + take
 
 -- "a refused taking gives 0 bits, 0 records and the state and buffers it came with"
 abbrev pub refused : Decoder → Call → Ending → CallResult
-refused d c ending = result (taken_with d 0 0 ending) c.store c.tray c.list
+refused d c ending = call_result (taken_with d 0 0 ending) c.store c.tray c.list
 
 -- A run as a call answers it: the words stand in the list from its first free word on, and "list, tray and store change nowhere else".
 abbrev pub finished : ℕ → ℕ → List ℕ → ℕ → Run System → CallResult
 finished bits records list free r =
-    result (taken_with (decoder_of r.state) (bits + r.bits) (records + length r.words / list_unit) r.ending)
+    call_result (taken_with (decoder_of r.state) (bits + r.bits) (records + length r.words / list_unit) r.ending)
     r.state.machine.store r.state.machine.tray (sets list free r.words)
 
 -- The state with the store and the tray that the call is lent.

@@ -3,11 +3,10 @@
 use mathlib.Core.Path.{◌≡◌, ◌∙◌, refl, ap}
 use mathlib.Core.List.{List, [], ◌∷◌}
 use Prim.Native.Nat.{ℕ, ◌≤◌}
+use mathlib.Core.Logic.{◌≢◌}
 use native.Mathlib.Omega.{arith}
 use lib.Dec.{ltb}
 use lib.ListN.{length}
-use types.Run.{OneOf, miss}
-use denote.Enum.Declared.{tag_of}
 use Rattle.bits.specs.Bits.{shifted}
 use Rattle.bits.proofs.Truth.{cond_case, cond_taken}
 use Rattle.recogniser.specs.declared.Phase.{Phase}
@@ -21,7 +20,6 @@ use Rattle.recogniser.specs.Parts.{start_of, no_event, move_to, gathered_of}
 use Rattle.windows.specs.Windows.{meaning_of}
 use Rattle.recogniser.specs.Hunting.{hunt_by, body_of}
 use Rattle.recogniser.specs.Step.{step_of}
-use Rattle.recogniser.specs.contracts.Phase.{the_type}
 use Rattle.recogniser.proofs.StepByPhase.{step_at}
 use Rattle.stretches.specs.declared.Stretch.{Stretch}
 use Rattle.stretches.specs.Stretch.{stretched, one_more, hunt_beyond, hunt_on, body_on, step_on, stretch_by, stretch_of}
@@ -39,14 +37,14 @@ unfolding stretch_of
 stretch_at r cnt bits e = ap (λ (q : Phase). stretch_by q r cnt bits) e
 
 -- Where it neither hunts nor is in a body, a stretch is one cycle.
-once_by : (r : Recogniser) (cnt : ℕ) (bits : List ℕ) (p : Phase) → OneOf (2 ∷ 3 ∷ 4 ∷ []) (tag_of the_type p) → stretch_by p r cnt bits ≡ step_on r cnt bits
-once_by r cnt bits Hunt k = absurd (miss (2 ∷ 3 ∷ 4 ∷ []) _ tt k)
-once_by r cnt bits Body k = absurd (miss (2 ∷ 3 ∷ 4 ∷ []) _ tt k)
-once_by r cnt bits Field3 k = refl
-once_by r cnt bits Field4 k = refl
-once_by r cnt bits Field5 k = refl
+once_by : (r : Recogniser) (cnt : ℕ) (bits : List ℕ) (p : Phase) → p ≢ Hunt → p ≢ Body → stretch_by p r cnt bits ≡ step_on r cnt bits
+once_by r cnt bits Hunt h b = absurd (h refl)
+once_by r cnt bits Body h b = absurd (b refl)
+once_by r cnt bits Field3 h b = refl
+once_by r cnt bits Field4 h b = refl
+once_by r cnt bits Field5 h b = refl
 
-pub stretch_once : (r : Recogniser) (cnt : ℕ) (bits : List ℕ) → OneOf (2 ∷ 3 ∷ 4 ∷ []) (tag_of the_type r.phase) → stretch_of r cnt bits ≡ step_on r cnt bits
+pub stretch_once : (r : Recogniser) (cnt : ℕ) (bits : List ℕ) → r.phase ≢ Hunt → r.phase ≢ Body → stretch_of r cnt bits ≡ step_on r cnt bits
 unfolding stretch_of
 stretch_once r cnt bits = once_by r cnt bits r.phase
 

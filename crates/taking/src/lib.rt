@@ -2,7 +2,7 @@
 #![tactic(auto)]
 
 ghost use Rattle.std.specs.Prelude.{◌≡◌};
-ghost use Rattle.calls.specs.Take.{call, result, take_of};
+ghost use Rattle.calls.specs.Take.{call, call_result, take_of};
 
 use calls::{Ending, Taken};
 use decoder::Decoder;
@@ -19,8 +19,8 @@ pub fn take(
     list: &mut [u64],
     free: usize,
 ) -> Taken
-    ensures* { λ r. ⌜ result r store.new tray.new list.new
-        ≡ take_of decoder (call input.now first count store.old tray.old list.old free) ⌝ }
+    ensures { call_result result store.new tray.new list.new
+        ≡ take_of decoder (call input.now first count store.old tray.old list.old free) }
 {
     if !decoder.sound() {
         return Taken::refused(decoder, Ending::Unsound);

@@ -1,28 +1,59 @@
 -- `byte_lines::bytes_line` meets its contract: where the line fits, its digits and the line feed; else nothing.
 -- Assumes nothing.
 use mathlib.Core.List.{List, [], ◌∷◌}
-use mathlib.Core.Path.{refl, sym, ◌∙◌}
-use Prim.Native.Nat.{ℕ, ◌+◌}
+use mathlib.Core.Path.{◌≡◌, refl, sym, ◌∙◌}
+use Prim.Native.Nat.{ℕ, ◌+◌, ◌*◌, ◌<◌, ◌≤◌}
 use native.Mathlib.Omega.{arith}
-use lib.ListN.{set}
+use lib.ListN.{length, set}
 use Rattle.output.specs.Ascii.{line_feed}
+use Rattle.output.specs.Block.{block, put_all, put_if_fits}
 use Rattle.output.proofs.Pieces.{PartlyPut, none_put, next_fits, next_put, all_put, put_when_fits, put_when_full}
 use Rattle.byte_lines.specs.ByteLines.{byte_digits, bytes_line}
 use Rattle.byte_lines.proofs.LineLengths.{bytes_line_length}
-use borrow.Author.Rules.{rules}
 use Rattle.byte_lines.proofs.bytes_line.Goals as goal
-use Rattle.byte_lines.proofs.bytes_line.Goals.{After-slice_known-2-1, Else-out-at-2, Start}
+
+-- What is left to put of the line: past the tests all of it, after the bytes the line feed, and then nothing.
+module _ (out bs : List ℕ) (at : ℕ) (room : at + (2 * length bs + 1) ≤ length out) where
+  whole : PartlyPut out at (bytes_line bs) out at (bytes_line bs)
+  whole = none_put out at (bytes_line bs) (omega (arith, bytes_line_length bs))
+
+  digits_fit : at + length (byte_digits bs) ≤ length out
+  digits_fit = next_fits whole (byte_digits bs) (line_feed ∷ []) refl
+
+  module _ (out' : List ℕ) (end : ℕ) (e : block out' end ≡ put_all out at (byte_digits bs)) where
+    feed_left : PartlyPut out at (bytes_line bs) out' end (line_feed ∷ [])
+    feed_left = next_put whole (byte_digits bs) (line_feed ∷ []) refl out' end e
+
+    feed_fits : end < length out'
+    feed_fits = let f = feed_left.fits in omega arith
+
+    line_put : block (set out' end line_feed) (end + 1) ≡ put_if_fits out at (bytes_line bs)
+    line_put =
+        all_put (next_put feed_left (line_feed ∷ []) [] refl (set out' end line_feed) (end + 1) refl) refl
+        ∙ sym (put_when_fits out at (bytes_line bs) whole.fits)
 
 pub returns-then-out-at : goal.returns-then-out-at
 returns-then-out-at c =
-    let b3 = c in
-    let a = b3.args in
+    let a = c.args in
     sym (put_when_full _ _ (bytes_line a.bytes.now) (omega (arith, bytes_line_length a.bytes.now, c.if-out-at.true)))
 
 pub returns-then-out-at-2 : goal.returns-then-out-at-2
 returns-then-out-at-2 c =
-    let b1 = c in
-    let b4 = b1 in
-    let a = b4.args in
-    sym (put_when_full _ _ (bytes_line a.bytes.now) (omega (arith, bytes_line_length a.bytes.now, c.if-out-at-2.true, b1.if-out-at.false)))
+    let a = c.args in
+    sym (put_when_full _ _ (bytes_line a.bytes.now) (omega (arith, bytes_line_length a.bytes.now, c.if-out-at-2.true, c.if-out-at.false)))
 
+pub put_byte_digits-end-requires : goal.put_byte_digits-end-requires
+put_byte_digits-end-requires c = digits_fit c.args.out.now c.args.bytes.now c.args.at (omega (arith, c.if-out-at-2.false, c.if-out-at.false))
+
+pub bounds-out-end : goal.bounds-out-end
+bounds-out-end c =
+    feed_fits c.args.out.now c.args.bytes.now c.args.at (omega (arith, c.if-out-at-2.false, c.if-out-at.false)) _ _ c.put_byte_digits-end.ensures
+
+pub overflow_add-result : goal.overflow_add-result
+overflow_add-result c =
+    let f = feed_fits c.args.out.now c.args.bytes.now c.args.at (omega (arith, c.if-out-at-2.false, c.if-out-at.false)) _ _ c.put_byte_digits-end.ensures in
+    omega arith
+
+pub returns : goal.returns
+returns c =
+    line_put c.args.out.now c.args.bytes.now c.args.at (omega (arith, c.if-out-at-2.false, c.if-out-at.false)) _ _ c.put_byte_digits-end.ensures

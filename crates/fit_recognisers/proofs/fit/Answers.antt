@@ -15,7 +15,7 @@ pub returns-in-Field3 : goal.returns-in-Field3
 returns-in-Field3 c = c.nibble_fits-in-Field3.ensures ∙ sym (fit_at _ _ c.in-Field3.is)
 
 pub returns-in-Field4 : goal.returns-in-Field4
-returns-in-Field4 c = c.field4_fits_lem.ensures ∙ sym (fit_at _ _ c.in-Field4.is)
+returns-in-Field4 c = c.field4_fits.ensures ∙ sym (fit_at _ _ c.in-Field4.is)
 
 pub returns-in-Field5 : goal.returns-in-Field5
-returns-in-Field5 c = c.field5_fits_lem.ensures ∙ sym (fit_at _ _ c.in-Field5.is)
+returns-in-Field5 c = c.field5_fits.ensures ∙ sym (fit_at _ _ c.in-Field5.is)

@@ -1,0 +1,54 @@
+-- `accept` is the verdict on a range, from a stream's start to its end.
+-- Assumes nothing.
+use mathlib.Core.Bool.{true, false}
+use mathlib.Core.List.{List, [], ◌++◌}
+use mathlib.Core.Path.{◌≡◌, ◌∙◌, sym, ap, subst}
+use Prim.Native.Nat.{ℕ}
+use native.Mathlib.Omega.{arith}
+use lib.ListN.{length}
+use borrow.Author.Rules.{rules}
+use borrow.Author.Tests.{not-true, not-false}
+use Rattle.bits.specs.Bits.{bits_of}
+use Rattle.bits.specs.Range.{range_fits}
+use Rattle.patterns.specs.declared.Verdict.TheVariants.{WrongRange}
+use Rattle.patterns.specs.Verdicts.{verdict_of, accept_of}
+use Rattle.acceptance.specs.declared.Progress.{Progress}
+use Rattle.acceptance.specs.Progress.{Fits, verdict_on}
+use Rattle.acceptance.proofs.Steps.{start_fits, from_start}
+use Rattle.acceptance.proofs.accept.Goals as goal
+use Rattle.acceptance.proofs.accept.Goals.{Else-not-range_fits}
+
+-- A range that fits, and one that does not.
+module _ (input : List ℕ) (first count : ℕ) where
+  rejected : range_fits (length input) first count ≡ false → WrongRange ≡ accept_of input first count
+  unfolding accept_of
+  rejected e = simp e
+
+  judged : range_fits (length input) first count ≡ true → verdict_of (bits_of input first count) ≡ accept_of input first count
+  unfolding accept_of
+  judged e = simp e
+
+fits : (c : Else-not-range_fits)
+    → range_fits (length c.args.input.now) c.args.first c.args.count
+    ≡ true
+fits c = sym c.range_fits.ensures ∙ not-false c.range_fits.result c.if-not-range_fits.false-raw
+
+pub returns-then-not-range_fits : goal.returns-then-not-range_fits
+returns-then-not-range_fits c = let r = c in rejected _ _ _ (sym r.range_fits.ensures ∙ not-true r.range_fits.result c.if-not-range_fits.true-raw)
+
+pub check-progress-requires : goal.check-progress-requires
+check-progress-requires c =
+    let e = c.start.ensures in
+    (fits c.before, rw e (omega arith), subst Fits (sym e) start_fits)
+
+pub returns : goal.returns
+returns c =
+    let k = c in
+    let l = k.before.before in
+    let a = l.args in
+    let bits = bits_of a.input.now a.first a.count in
+    c.verdict.ensures
+    ∙ k.check-progress.ensures.same []
+    ∙ ap (λ (p : Progress). verdict_on p (bits ++ [])) k.start.ensures
+    ∙ from_start bits
+    ∙ judged a.input.now a.first a.count (fits l)
