@@ -324,6 +324,7 @@ pub fn kernelstill_run_compose(rt: HostRuntime) -> u8
 }
 
 // `reply`: whether a reply of so many data bits is whole, and its bytes.
+#[tactic(auto, using(reply_words::proofs::Words::fit_bits))]
 pub fn kernelstill_run_reply(rt: HostRuntime) -> u8
     ensures { IsStatus result }
 {

@@ -2,7 +2,7 @@
 //! error, and the calls that fail. What is expected is imagined from the same
 //! description.
 
-use super::errors::{EBADF, EFBIG, EIO, EISDIR, ENOSPC, EPIPE};
+use super::errors::{EBADF, EFBIG, EILSEQ, EIO, EISDIR, ENOSPC, EPIPE};
 use super::expected::{Expected, Imagined};
 use super::faults::Faults;
 use reader::Program;
@@ -161,7 +161,9 @@ impl Situation {
     fn imagined(&self) -> Imagined<'_> {
         let (contents, read_error) = self.read();
         let mut system = Imagined::new(contents);
-        system.open_error = self.open_error;
+        // The language's library opens files by text alone.
+        let no_text = self.names_no_text().then_some(EILSEQ);
+        system.open_error = no_text.or(self.open_error);
         system.read_error = read_error;
         system.write_error = match self.output {
             Output::Kept => self.faults.write_fails_at.map(|at| (at, ENOSPC)),
@@ -172,9 +174,9 @@ impl Situation {
             Output::Leaves { after, .. } => Some((after, EPIPE)),
         };
         system.stops_at = self.faults.write_stops_at;
-        system.close_error = self.faults.close_error;
         system.joined = self.error == ErrorOutput::Joined;
-        system.signals = matches!(self.output, Output::Leaves { ignored: false, .. });
+        // It closes standard output nowhere, so that no error of closing is
+        // met, and its start has the signal of a closed pipe ignored.
         system
     }
 
@@ -191,6 +193,11 @@ impl Situation {
             (_, None) if self.names_a_folder() => (&[], Some(EISDIR)),
             (_, None) => (&self.contents, None),
         }
+    }
+
+    fn names_no_text(&self) -> bool {
+        let no_text = |word: &Vec<u8>| std::str::from_utf8(word).is_err();
+        self.words.iter().any(no_text)
     }
 
     fn names_a_folder(&self) -> bool {
