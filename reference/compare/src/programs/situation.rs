@@ -150,8 +150,25 @@ impl Situation {
 
     /// What the separate reader does.
     pub fn expected(&self, program: Program) -> Expected {
+        self.expected_in(program, self.imagined())
+    }
+
+    /// What it does in the system as the library of the programs in Rattle
+    /// shows it: files are opened by text alone, standard output is closed
+    /// nowhere, and the signal of a closed pipe is ignored from the start on.
+    pub fn expected_by_library(&self, program: Program) -> Expected {
+        let mut system = self.imagined();
+        if self.names_no_text() {
+            system.open_error = Some(EILSEQ);
+        }
+        system.close_error = None;
+        system.signals = false;
+        self.expected_in(program, system)
+    }
+
+    fn expected_in(&self, program: Program, system: Imagined) -> Expected {
         let words = self.words_of(program);
-        let mut expected = Expected::of(program, &words, self.imagined());
+        let mut expected = Expected::of(program, &words, system);
         if self.error != ErrorOutput::Kept {
             expected.said.clear();
         }
@@ -161,9 +178,7 @@ impl Situation {
     fn imagined(&self) -> Imagined<'_> {
         let (contents, read_error) = self.read();
         let mut system = Imagined::new(contents);
-        // The language's library opens files by text alone.
-        let no_text = self.names_no_text().then_some(EILSEQ);
-        system.open_error = no_text.or(self.open_error);
+        system.open_error = self.open_error;
         system.read_error = read_error;
         system.write_error = match self.output {
             Output::Kept => self.faults.write_fails_at.map(|at| (at, ENOSPC)),
@@ -174,9 +189,9 @@ impl Situation {
             Output::Leaves { after, .. } => Some((after, EPIPE)),
         };
         system.stops_at = self.faults.write_stops_at;
+        system.close_error = self.faults.close_error;
         system.joined = self.error == ErrorOutput::Joined;
-        // It closes standard output nowhere, so that no error of closing is
-        // met, and its start has the signal of a closed pipe ignored.
+        system.signals = matches!(self.output, Output::Leaves { ignored: false, .. });
         system
     }
 
@@ -195,7 +210,8 @@ impl Situation {
         }
     }
 
-    fn names_no_text(&self) -> bool {
+    /// Whether a word behind the first ones is no UTF-8.
+    pub fn names_no_text(&self) -> bool {
         let no_text = |word: &Vec<u8>| std::str::from_utf8(word).is_err();
         self.words.iter().any(no_text)
     }
