@@ -144,10 +144,13 @@ module _ (sent : Bool) (hits : HitCycles) where
         ys,
         ap (λ l. l ++ xs) p.first,
         recorded n i a b t u s.same p ys,
-        beside _ _ (item_ahead a n i) (hit_after hits b n i) (n + item_size i) is (goes_on s h) (spaced_timed i.command is h),
+        beside (may_differ hits kind_ecr n i t) (may_differ hits kind_bcr n i u) (item_ahead a n i) (hit_after hits b n i) (n + item_size i) is (goes_on s h)
+            (spaced_timed i.command is h),
       )
 
   pub counters : (t u : Bool) (a b : Ahead) (n : ℕ) (is : List Item) → SameCounters t u a.counters b.counters
       → SameCounters (may_differ_after hits kind_ecr n is t) (may_differ_after hits kind_bcr n is u) (clean_ahead a n is).counters (hit_ahead hits b n is).counters
   counters t u a b n [] same = same
-  counters t u a b n (i ∷ is) same = counters _ _ (item_ahead a n i) (hit_after hits b n i) (n + item_size i) is (counters_on n i a b t u same)
+  counters t u a b n (i ∷ is) same =
+      counters (may_differ hits kind_ecr n i t) (may_differ hits kind_bcr n i u) (item_ahead a n i) (hit_after hits b n i) (n + item_size i) is
+      (counters_on n i a b t u same)

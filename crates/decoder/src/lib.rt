@@ -86,6 +86,7 @@ impl Decoder {
     }
 
     // Opening: the start state of the plan at the cycle; refused, the default start state at cycle 0.
+    #[tactic(auto, unfolding(crate::specs::Opening::open_of))]
     pub fn start(plan: Plan, cycle: u64) -> Opened
         ensures { result ≡ open_of plan cycle }
     {
@@ -108,6 +109,7 @@ impl Decoder {
     }
 
     // Whether the state is sound; a taking call rejects any other.
+    #[tactic(auto, unfolding(crate::specs::Sound::sound_of))]
     pub fn sound(self) -> bool
         ensures { result ≡ sound_of self }
     {

@@ -16,7 +16,6 @@ use Rattle.acceptance.specs.declared.Progress.{Progress}
 use Rattle.acceptance.specs.Progress.{Fits, verdict_on}
 use Rattle.acceptance.proofs.Steps.{start_fits, from_start}
 use Rattle.acceptance.proofs.accept.Goals as goal
-use Rattle.acceptance.proofs.accept.Goals.{Else-not-range_fits}
 
 -- A range that fits, and one that does not.
 module _ (input : List ℕ) (first count : ℕ) where
@@ -28,27 +27,20 @@ module _ (input : List ℕ) (first count : ℕ) where
   unfolding accept_of
   judged e = simp e
 
-fits : (c : Else-not-range_fits)
-    → range_fits (length c.args.input.now) c.args.first c.args.count
-    ≡ true
-fits c = sym c.range_fits.ensures ∙ not-false c.range_fits.result c.if-not-range_fits.false-raw
-
 pub returns-then-not-range_fits : goal.returns-then-not-range_fits
-returns-then-not-range_fits c = let r = c in rejected _ _ _ (sym r.range_fits.ensures ∙ not-true r.range_fits.result c.if-not-range_fits.true-raw)
+returns-then-not-range_fits c = rejected _ _ _ (sym c.range_fits.ensures ∙ c.if-not-range_fits.true)
 
 pub check-progress-requires : goal.check-progress-requires
 check-progress-requires c =
     let e = c.start.ensures in
-    (fits c.before, rw e (omega arith), subst Fits (sym e) start_fits)
+    (sym c.range_fits.ensures ∙ c.if-not-range_fits.false, rw e (omega arith), subst Fits (sym e) start_fits)
 
 pub returns : goal.returns
 returns c =
-    let k = c in
-    let l = k.before.before in
-    let a = l.args in
+    let a = c.args in
     let bits = bits_of a.input.now a.first a.count in
     c.verdict.ensures
-    ∙ k.check-progress.ensures.same []
-    ∙ ap (λ (p : Progress). verdict_on p (bits ++ [])) k.start.ensures
+    ∙ c.check-progress.ensures.same []
+    ∙ ap (λ (p : Progress). verdict_on p (bits ++ [])) c.start.ensures
     ∙ from_start bits
-    ∙ judged a.input.now a.first a.count (fits l)
+    ∙ judged a.input.now a.first a.count (sym c.range_fits.ensures ∙ c.if-not-range_fits.false)

@@ -34,6 +34,9 @@ module _ (out bs : List ℕ) (at : ℕ) (room : at + (2 * length bs + 2) ≤ len
     feed_fits : end < length out'
     feed_fits = let f = feed_left.fits in omega arith
 
+    feed_within : end < length out
+    feed_within = omega (arith, feed_fits, feed_left.same_length)
+
     -- and then nothing
     line_put : block (set out' end line_feed) (end + 1) ≡ put_if_fits out at (frame_line bs)
     line_put =
@@ -59,7 +62,7 @@ bounds-out-end c =
 
 pub overflow_add-result : goal.overflow_add-result
 overflow_add-result c =
-    let f = feed_fits c.args.out.now c.args.bytes.now c.args.at (omega (arith, c.if-out-at-2.false, c.if-out-at.false)) _ _ c.put_byte_digits-end.ensures in
+    let f = feed_within c.args.out.now c.args.bytes.now c.args.at (omega (arith, c.if-out-at-2.false, c.if-out-at.false)) _ _ c.put_byte_digits-end.ensures in
     omega arith
 
 pub returns : goal.returns

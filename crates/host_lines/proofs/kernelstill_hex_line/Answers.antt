@@ -1,0 +1,9 @@
+-- `kernelstill_hex_line` answers what reading the line into the buffer answers.
+-- Assumes nothing.
+use mathlib.Core.Path.{ap}
+use Rattle.line_meanings.specs.Line.{Read}
+use Rattle.host_lines.specs.Lines.{line_result}
+use Rattle.host_lines.proofs.kernelstill_hex_line.Goals as goal
+
+pub returns : goal.returns
+returns c = rw c.number-result.ensures (ap (λ (read : Read). line_result read.number read.buffer) c.read_line-answer.ensures)
