@@ -7,7 +7,7 @@ ghost use Rattle.stream_lines.specs.StreamLines.{part_limit};
 ghost use Rattle.statuses.specs.Status.{Finished};
 
 use compositions::Outcome;
-use libc::STDOUT_FILENO;
+use posix::{Stream, System};
 
 // Where a part of the stream ends that begins at a place: its text fills a block.
 fn part_end(length: usize, at: usize) -> usize
@@ -21,14 +21,14 @@ fn part_end(length: usize, at: usize) -> usize
 }
 
 // Writes the hexadecimal lines of the stream, part by part, and tells whether it could.
-fn write_stream(bytes: &[u8], text: &mut [u8]) -> bool
+fn write_stream(system: &mut System, bytes: &[u8], text: &mut [u8]) -> bool
     requires { length text.old ≡ block_length }
 {
     let mut at: usize = 0;
     while at < bytes.len() {
         let end = part_end(bytes.len(), at);
         let n = stream_lines::put_stream(&bytes[at..end], text);
-        if !posix::write_whole(STDOUT_FILENO, &text[..n]) {
+        if !posix::write_whole(system, Stream::Output, &text[..n]) {
             return false;
         }
         at = end;
@@ -37,29 +37,36 @@ fn write_stream(bytes: &[u8], text: &mut [u8]) -> bool
 }
 
 // Writes what the outcome prints: the stream, or the line of a refusal.
-fn write_outcome(outcome: Outcome, stream: &[u8], text: &mut [u8]) -> bool
+fn write_outcome(system: &mut System, outcome: Outcome, stream: &[u8], text: &mut [u8]) -> bool
     requires { (outcome.bytes ≤ length stream.now) × (length text.old ≡ block_length) }
 {
     let refusal = outcome.refusal;
     if refusal.number == 0 {
         let bytes = outcome.bytes;
-        return write_stream(&stream[..bytes], text);
+        return write_stream(system, &stream[..bytes], text);
     }
     let n = refusal.put_line(text);
-    posix::write_whole(STDOUT_FILENO, &text[..n])
+    posix::write_whole(system, Stream::Output, &text[..n])
 }
 
 // The end of a run: the stream or the line of a refusal, its message, the status.
-pub fn finish(name: &[u8], source: &[u8], outcome: Outcome, stream: &[u8], text: &mut [u8]) -> u8
+pub fn finish(
+    system: &mut System,
+    name: &[u8],
+    source: &[u8],
+    outcome: Outcome,
+    stream: &[u8],
+    text: &mut [u8],
+) -> u8
     requires { (outcome.bytes ≤ length stream.now) × (length text.old ≡ block_length) }
     ensures { Finished outcome.refusal.number result }
 {
-    if !write_outcome(outcome, stream, text) {
-        posix::fail_output(name);
+    if !write_outcome(system, outcome, stream, text) {
+        posix::fail_output(system, name);
         return statuses::FAILED;
     }
-    if !posix::close_output() {
-        posix::fail_output(name);
+    if !posix::close_output(system) {
+        posix::fail_output(system, name);
         return statuses::FAILED;
     }
     let refusal = outcome.refusal;
@@ -67,6 +74,6 @@ pub fn finish(name: &[u8], source: &[u8], outcome: Outcome, stream: &[u8], text:
         return statuses::WHOLE;
     }
     let message = refusal.put_message(text);
-    posix::tell(name, source, &text[..message]);
+    posix::tell(system, name, source, &text[..message]);
     statuses::REFUSED
 }

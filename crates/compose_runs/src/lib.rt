@@ -5,9 +5,10 @@ ghost use Rattle.statuses.specs.Status.{IsStatus};
 ghost use Rattle.compose_runs.specs.Runs.{ComposedRun};
 
 use compositions::Composition;
+use posix::{Input, System};
 
 // A run over an input that is open, up to its end or to a refusal. The lent buffers are here.
-fn compose(name: &[u8], source: &[u8], fd: i32) -> u8
+fn compose(system: &mut System, name: &[u8], source: &[u8], from: &mut Input) -> u8
     ensures { ComposedRun result }
 {
     let mut input = io::large_buffer();
@@ -19,9 +20,9 @@ fn compose(name: &[u8], source: &[u8], fd: i32) -> u8
     let mut turns = posix::TURNS;
     while (0 < turns) & !(state.is_over() | ended) {
         turns -= 1;
-        let got = posix::read_input(fd, &mut input);
+        let got = posix::read_input(system, from, &mut input);
         if got.failed {
-            posix::fail(name, source);
+            posix::fail(system, name, source);
             return statuses::FAILED;
         }
         let count = got.count;
@@ -33,11 +34,11 @@ fn compose(name: &[u8], source: &[u8], fd: i32) -> u8
     }
     let last = order_texts::end_input(state, &line, &mut frame, &mut out);
     let outcome = last.outcome(&mut out);
-    compose_ends::finish(name, source, outcome, &out, &mut input)
+    compose_ends::finish(system, name, source, outcome, &out, &mut input)
 }
 
-pub fn compose_input(name: &[u8], source: &[u8], fd: i32) -> u8
+pub fn compose_input(system: &mut System, name: &[u8], source: &[u8], from: &mut Input) -> u8
     ensures { IsStatus result }
 {
-    compose(name, source, fd)
+    compose(system, name, source, from)
 }

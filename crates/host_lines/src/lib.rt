@@ -1,5 +1,5 @@
-// The library for hosts that are not written in Rattle: a frame's bits and bytes, and lines. include/kernelstill.h declares these
-// functions. None asks anything of its caller.
+// The library for hosts that are not written in Rattle: a frame's bits and bytes, and lines. `kernelstill_c` exports these functions, which
+// include/kernelstill.h declares. None asks anything of its caller.
 #![tactic(auto)]
 
 ghost use Rattle.std.specs.Prelude.{cond, ◌≡◌, length};
@@ -11,8 +11,7 @@ ghost use Rattle.host_lines.specs.Lines.{line_result, hex_result_of, record_resu
 const WRONG_BUFFERS: u64 = 4;
 
 // A frame's count of bits, off the two words of its record; 0 for the records of other kinds.
-#[unsafe(no_mangle)]
-pub extern "C" fn kernelstill_frame_bits(head: u64, value: u64) -> u64
+pub fn kernelstill_frame_bits(head: u64, value: u64) -> u64
     ensures { result ≡ cond (is_frame_head head) (frame_bits_of (kind_of head) value) 0 }
 {
     if records::is_frame_head(head) {
@@ -22,8 +21,7 @@ pub extern "C" fn kernelstill_frame_bits(head: u64, value: u64) -> u64
 }
 
 // How many bytes of the tray a frame of so many bits fills.
-#[unsafe(no_mangle)]
-pub extern "C" fn kernelstill_frame_part(tray: &[u8], bits: usize) -> usize
+pub fn kernelstill_frame_part(tray: &[u8], bits: usize) -> usize
     ensures { result ≡ length (part_of tray.now bits) }
 {
     let part = frames::frame_part(tray, bits);
@@ -31,8 +29,7 @@ pub extern "C" fn kernelstill_frame_part(tray: &[u8], bits: usize) -> usize
 }
 
 // A hexadecimal line's bytes, and the refusal number.
-#[unsafe(no_mangle)]
-pub extern "C" fn kernelstill_hex_line(line: &[u8], bytes: &mut [u8]) -> u64
+pub fn kernelstill_hex_line(line: &[u8], bytes: &mut [u8]) -> u64
     ensures { line_result result bytes.new ≡ hex_result_of line.now bytes.old }
 {
     let answer = hexlines::read_line(line, bytes);
@@ -40,8 +37,7 @@ pub extern "C" fn kernelstill_hex_line(line: &[u8], bytes: &mut [u8]) -> u64
 }
 
 // The bytes of a record's line, and the refusal number.
-#[unsafe(no_mangle)]
-pub extern "C" fn kernelstill_record_line(line: &mut [u8], head: u64, value: u64) -> u64
+pub fn kernelstill_record_line(line: &mut [u8], head: u64, value: u64) -> u64
     ensures { line_result result line.new ≡ record_result_of head value line.old }
 {
     let end = layout::record_line(line, 0, head, value);

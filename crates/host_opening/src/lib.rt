@@ -1,5 +1,5 @@
 // The library for hosts that are not written in Rattle: opening, with the state as an image in words, and whether words are such an image.
-// include/kernelstill.h declares `kernelstill_open`. It asks nothing of its caller.
+// `kernelstill_c` exports `kernelstill_open`, which include/kernelstill.h declares. It asks nothing of its caller.
 #![tactic(auto)]
 
 ghost use Rattle.std.specs.Prelude.{◌≡◌, length};
@@ -15,8 +15,7 @@ use decoder::Decoder;
 pub const UNSOUND: u64 = 3;
 
 // Opening: the image then holds the start state; the answer is the refusal number.
-#[unsafe(no_mangle)]
-pub extern "C" fn kernelstill_open(
+pub fn kernelstill_open(
     mask: u64,
     csr: u64,
     feen: u64,

@@ -1,5 +1,5 @@
 // The library for hosts that are not written in Rattle: streams checked and composed, replies read, and what is answered of them in one word.
-// include/kernelstill.h declares these functions. None asks anything of its caller.
+// `kernelstill_c` exports these functions, which include/kernelstill.h declares. None asks anything of its caller.
 #![tactic(auto)]
 
 ghost use Rattle.std.specs.Prelude.{◌≡◌};
@@ -14,8 +14,7 @@ use orders::Composed;
 const COMPOSE_LIMIT: u64 = 0x100_0000_0000_0000;
 
 // Whether a range of the input is an accepted stream: the refusal number, and 256 times the place of the pattern at fault.
-#[unsafe(no_mangle)]
-pub extern "C" fn kernelstill_accept(input: &[u8], first: usize, count: usize) -> u64
+pub fn kernelstill_accept(input: &[u8], first: usize, count: usize) -> u64
     ensures { result ≡ accept_word (accept_of input.now first count) }
 {
     let verdict = acceptance::accept(input, first, count);
@@ -33,8 +32,7 @@ fn compose_word(answer: Composed) -> u64
 }
 
 // The stream of a list of orders, six words each, in the output's first bytes. A refusal changes nothing.
-#[unsafe(no_mangle)]
-pub extern "C" fn kernelstill_compose(
+pub fn kernelstill_compose(
     mask: u64,
     csr: u64,
     feen: u64,
@@ -53,8 +51,7 @@ pub extern "C" fn kernelstill_compose(
 
 // The reply in a range of the input, of so many data bits, which go into the buffer: the refusal number, 256 times the verdict and 65,536 times the
 // count of complete bits. A refusal changes nothing.
-#[unsafe(no_mangle)]
-pub extern "C" fn kernelstill_reply(
+pub fn kernelstill_reply(
     input: &[u8],
     first: usize,
     count: usize,

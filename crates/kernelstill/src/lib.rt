@@ -1,5 +1,5 @@
 // The library for hosts that are not written in Rattle: taking, with the state as an image in words.
-// include/kernelstill.h declares this function. It asks nothing of its caller.
+// `kernelstill_c` exports this function, which include/kernelstill.h declares. It asks nothing of its caller.
 #![tactic(auto)]
 
 ghost use Rattle.std.specs.Prelude.{◌≡◌};
@@ -13,8 +13,7 @@ const WRONG_BUFFERS: u64 = 4;
 
 // Taking bits: the image, the store and the tray move on, records go into the list, and the result into three words. The
 // image then holds the next state.
-#[unsafe(no_mangle)]
-pub extern "C" fn kernelstill_take(
+pub fn kernelstill_take(
     image: &mut [u64],
     input: &[u8],
     first: usize,

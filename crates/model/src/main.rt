@@ -1,6 +1,8 @@
 // The program `model`: hexadecimal lines in; one line per record out, and at the end the controller as the commands left it.
 #![tactic(auto)]
 
-fn main() {
-    commands::kernelstill_run_model();
+use std::process::ExitCode;
+
+fn main(rt: HostRuntime) -> ExitCode {
+    ExitCode::from(commands::kernelstill_run_model(rt))
 }

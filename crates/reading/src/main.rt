@@ -1,6 +1,8 @@
 // The program `reading`: hexadecimal lines in; one line per record out.
 #![tactic(auto)]
 
-fn main() {
-    commands::kernelstill_run_reading();
+use std::process::ExitCode;
+
+fn main(rt: HostRuntime) -> ExitCode {
+    ExitCode::from(commands::kernelstill_run_reading(rt))
 }

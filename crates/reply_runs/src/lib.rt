@@ -8,33 +8,46 @@ ghost use Rattle.replies.specs.Replies.{expected_fits};
 ghost use Rattle.replying.specs.Replying.{report_of};
 ghost use Rattle.reply_runs.specs.Runs.{ReplyFinished, RepliedRun};
 
-use libc::STDOUT_FILENO;
+use posix::{Input, Stream, System};
 use replying::Replying;
 
 // The bytes that hold the most data bits.
 const BUFFER_BYTES: usize = 1024;
 
 // The end of a run: the lines of a reply or of a refusal, the message, the status.
-fn finish(name: &[u8], source: &[u8], state: Replying, buffer: &[u8], output: &mut [u8]) -> u8
+fn finish(
+    system: &mut System,
+    name: &[u8],
+    source: &[u8],
+    state: Replying,
+    buffer: &[u8],
+    output: &mut [u8],
+) -> u8
     requires { (length buffer.now ≤ 1024) × (length output.old ≡ block_length) }
     ensures { ReplyFinished (report_of state) result }
 {
     let report = state.report();
     let text = report.put_text(buffer, output);
-    let written = posix::write_whole(STDOUT_FILENO, &output[..text]);
-    if !posix::end_output(name, written) {
+    let written = posix::write_whole(system, Stream::Output, &output[..text]);
+    if !posix::end_output(system, name, written) {
         return statuses::FAILED;
     }
     if report.is_whole() {
         return statuses::WHOLE;
     }
     let message = report.put_message(output);
-    posix::tell(name, source, &output[..message]);
+    posix::tell(system, name, source, &output[..message]);
     statuses::REFUSED
 }
 
 // A run over an input that is open, up to its end, to a whole reply or to a refusal.
-fn read_reply(name: &[u8], source: &[u8], fd: i32, expected: u32) -> u8
+fn read_reply(
+    system: &mut System,
+    name: &[u8],
+    source: &[u8],
+    from: &mut Input,
+    expected: u32,
+) -> u8
     requires { expected_fits expected ≡ true }
     ensures { RepliedRun expected result }
 {
@@ -45,9 +58,9 @@ fn read_reply(name: &[u8], source: &[u8], fd: i32, expected: u32) -> u8
     let mut turns = posix::TURNS;
     while (0 < turns) & goes_on {
         turns -= 1;
-        let got = posix::read_input(fd, &mut input);
+        let got = posix::read_input(system, from, &mut input);
         if got.failed {
-            posix::fail(name, source);
+            posix::fail(system, name, source);
             return statuses::FAILED;
         }
         let count = got.count;
@@ -58,12 +71,18 @@ fn read_reply(name: &[u8], source: &[u8], fd: i32, expected: u32) -> u8
         return statuses::FAILED;
     }
     state = state.end_input(&mut buffer);
-    finish(name, source, state, &buffer, &mut input)
+    finish(system, name, source, state, &buffer, &mut input)
 }
 
-pub fn reply_input(name: &[u8], source: &[u8], fd: i32, expected: u32) -> u8
+pub fn reply_input(
+    system: &mut System,
+    name: &[u8],
+    source: &[u8],
+    from: &mut Input,
+    expected: u32,
+) -> u8
     requires { expected_fits expected ≡ true }
     ensures { IsStatus result }
 {
-    read_reply(name, source, fd, expected)
+    read_reply(system, name, source, from, expected)
 }

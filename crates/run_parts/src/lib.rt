@@ -7,7 +7,7 @@ ghost use Rattle.limits.specs.Limits.{store_length};
 ghost use Rattle.statuses.specs.Status.{Finished};
 ghost use Rattle.run_parts.specs.Refills.{AfterRefill};
 
-use libc::STDOUT_FILENO;
+use posix::{Input, Stream, System};
 use program::{PrintOptions, RunState};
 
 // A run after a read, or as it was if the read failed.
@@ -18,7 +18,7 @@ pub struct Refilled {
 }
 
 // The next read, where it is due. After the input's end there is none.
-pub fn refill(state: RunState, fd: i32, input: &mut [u8]) -> Refilled
+pub fn refill(system: &mut System, state: RunState, from: &mut Input, input: &mut [u8]) -> Refilled
     requires { 0 < length input.old }
     ensures { AfterRefill state input.old result.state input.new result.failed }
 {
@@ -35,7 +35,7 @@ pub fn refill(state: RunState, fd: i32, input: &mut [u8]) -> Refilled
             failed: false,
         };
     }
-    let got = posix::read_input(fd, input);
+    let got = posix::read_input(system, from, input);
     if got.failed {
         return Refilled {
             state: state,
@@ -51,6 +51,7 @@ pub fn refill(state: RunState, fd: i32, input: &mut [u8]) -> Refilled
 
 // The end of a run: the lines of the state, the message of a refusal, the status.
 pub fn finish(
+    system: &mut System,
     name: &[u8],
     source: &[u8],
     state: RunState,
@@ -62,18 +63,18 @@ pub fn finish(
     ensures { Finished state.number result }
 {
     let lines = state.put_state_lines(prints, store, output);
-    if !posix::write_whole(STDOUT_FILENO, &output[..lines]) {
-        posix::fail_output(name);
+    if !posix::write_whole(system, Stream::Output, &output[..lines]) {
+        posix::fail_output(system, name);
         return statuses::FAILED;
     }
-    if !posix::close_output() {
-        posix::fail_output(name);
+    if !posix::close_output(system) {
+        posix::fail_output(system, name);
         return statuses::FAILED;
     }
     if state.number == 0 {
         return statuses::WHOLE;
     }
     let message = state.put_message(output);
-    posix::tell(name, source, &output[..message]);
+    posix::tell(system, name, source, &output[..message]);
     statuses::REFUSED
 }

@@ -7,14 +7,15 @@ ghost use Rattle.statuses.specs.Status.{IsStatus};
 ghost use Rattle.runs.specs.Runs.{Ran};
 
 use decoder::Decoder;
-use libc::STDOUT_FILENO;
+use posix::{Input, Stream, System};
 use program::{PrintOptions, RunState};
 
 // A run over an input that is open: what a read brought is listed and written before the next read.
 fn list(
+    system: &mut System,
     name: &[u8],
     source: &[u8],
-    fd: i32,
+    from: &mut Input,
     prints: PrintOptions,
     store: &mut [u32],
     tray: &mut [u8],
@@ -28,9 +29,9 @@ fn list(
     let mut turns = posix::TURNS;
     while (0 < turns) & !state.over {
         turns -= 1;
-        let refilled = run_parts::refill(state, fd, &mut input);
+        let refilled = run_parts::refill(system, state, from, &mut input);
         if refilled.failed {
-            posix::fail(name, source);
+            posix::fail(system, name, source);
             return statuses::FAILED;
         }
         state = refilled.state;
@@ -44,8 +45,8 @@ fn list(
             prints.frames,
         );
         let filled = state.filled;
-        if !posix::write_whole(STDOUT_FILENO, &output[..filled]) {
-            posix::fail_output(name);
+        if !posix::write_whole(system, Stream::Output, &output[..filled]) {
+            posix::fail_output(system, name);
             return statuses::FAILED;
         }
         state.filled = 0;
@@ -53,14 +54,20 @@ fn list(
     if !state.over {
         return statuses::FAILED;
     }
-    run_parts::finish(name, source, state, prints, store, &mut output)
+    run_parts::finish(system, name, source, state, prints, store, &mut output)
 }
 
 // "Its 2,048 FIFO words start at zero".
-pub fn list_input(name: &[u8], source: &[u8], fd: i32, prints: PrintOptions) -> u8
+pub fn list_input(
+    system: &mut System,
+    name: &[u8],
+    source: &[u8],
+    from: &mut Input,
+    prints: PrintOptions,
+) -> u8
     ensures { IsStatus result }
 {
     let mut store = [0u32; Decoder::STORE_LENGTH];
     let mut tray = [0u8; Decoder::TRAY_LENGTH];
-    list(name, source, fd, prints, &mut store, &mut tray)
+    list(system, name, source, from, prints, &mut store, &mut tray)
 }

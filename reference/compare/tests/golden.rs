@@ -170,7 +170,8 @@ fn stored_runs() {
     let folder = folder("stored");
     stored::write_all(&folder).unwrap();
     let checks = stored::check(&folder);
-    assert!(checks.len() == 14 && faults(checks).is_empty());
+    // The runs of `station` and `accept` end with a refusal, and have a status.
+    assert!(checks.len() == 16 && faults(checks).is_empty());
     let read = |name: &str| fs::read_to_string(folder.join(name)).unwrap();
     let (input, output) = (read("station/stdin"), read("station/stdout"));
     assert!((65_537..75_000).contains(&input.len()) && output.len() < 20_000);
@@ -179,6 +180,7 @@ fn stored_runs() {
     assert!(output.contains("\n>C3A5F1\n"));
     let last = output.lines().last().unwrap();
     assert!(last.starts_with("!07 ") && output.matches("\n>").count() >= 7);
+    assert_eq!([read("station/status"), read("accept/status")], ["1\n"; 2]);
 
     assert_eq!(read("reading/args"), "capture.hex\n");
     let (file, listing) = (read("reading/data/capture.hex"), read("reading/stdout"));
@@ -245,7 +247,12 @@ fn every_change_of_a_stored_run_shows() {
         fs::write(folder.join(name), contents).unwrap();
     }
     // What another run has left behind.
-    for name in ["reading/stdin", "reading/data/other", "model/args"] {
+    for name in [
+        "reading/stdin",
+        "reading/data/other",
+        "model/args",
+        "model/status",
+    ] {
         fs::write(folder.join(name), "").unwrap();
         let faults = faults(stored::check(&folder));
         assert!(matches!(&faults[..], [(_, Fault::Stray)]), "{name}");

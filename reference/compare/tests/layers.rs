@@ -8,8 +8,13 @@ use std::path::Path;
 fn lines(text: &str) -> Vec<(&str, Vec<&str>)> {
     let rows = text.lines().filter(|l| !l.starts_with('#'));
     rows.filter_map(|l| l.split_once(':'))
-        .map(|(name, uses)| (name.trim(), uses.split_whitespace().collect()))
+        .map(|(name, uses)| (first_word(name), uses.split_whitespace().collect()))
         .collect()
+}
+
+/// A line may say behind the name how the crate is built.
+fn first_word(text: &str) -> &str {
+    text.split_whitespace().next().unwrap_or_default()
 }
 
 /// The pairs in which a crate names itself or one below. A name that has no

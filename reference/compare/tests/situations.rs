@@ -328,6 +328,44 @@ fn what_reply_does_where_the_system_fails() {
     assert!(of_reply.count() > 1_500);
 }
 
+/// The programs in Rattle are not told of a failed closing, meet a closed pipe
+/// as an error, and open no file whose name is no text. All else is the same.
+#[test]
+fn what_the_library_does_not_show() {
+    let [mut closings, mut pipes, mut names] = [0; 3];
+    for situation in situations(Means::ALL) {
+        for program in situation.programs.iter() {
+            let expected = situation.expected(*program);
+            let by_library = situation.expected_by_library(*program);
+            if expected == by_library {
+                continue;
+            }
+            let name = &situation.name;
+            match (expected.end, by_library.end) {
+                (End::Signal(13), End::Status(3)) => {
+                    assert_eq!(by_library.said, b"", "{name}");
+                    pipes += 1;
+                }
+                (_, End::Status(3)) => {
+                    assert!(situation.names_no_text(), "{name}");
+                    let reason = b": Invalid or incomplete multibyte or wide character\n";
+                    assert!(by_library.said.ends_with(reason), "{name}");
+                    names += 1;
+                }
+                (end, _) => {
+                    assert!(situation.faults.close_error.is_some(), "{name}");
+                    assert_eq!(end, End::Status(3), "{name}");
+                    closings += 1;
+                }
+            }
+        }
+    }
+    assert!(
+        closings > 20 && pipes > 20 && names > 10,
+        "{closings} {pipes} {names}"
+    );
+}
+
 /// Without gcc no call can be made to fail, and not everybody may mount.
 #[test]
 fn those_that_need_no_means() {

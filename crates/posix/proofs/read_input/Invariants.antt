@@ -1,9 +1,4 @@
--- `posix::read_input` meets its contract: an interrupted read is made again, and the turns that are left fall.
--- Assumes nothing.
-use mathlib.Core.Path.{◌≡◌}
-use native.Mathlib.Omega.{arith}
-use lib.ListN.{length}
-use borrow.Author.Rules.{rules}
+use Rattle.std.proofs.Common.{length, ◌≡◌}
 use Rattle.posix.proofs.read_input.Given as goal
 
 abbrev pub invariant-loop-turns : goal.invariant-loop-turns

@@ -1,9 +1,11 @@
 //! The run that is stored beside each program, in its crate's folder: an
 //! input, which is `stdin` or a file in `data` that the last word of `args`
-//! names, and what is printed, `stdout`. The toolchain runs them.
+//! names, what is printed, `stdout`, and the exit status, `status`, if it is not
+//! 0. The toolchain runs them.
 
 use super::check::check_all;
 use super::{write, Contents};
+use crate::programs::ended::End;
 use crate::programs::expected::Expected;
 use crate::tally::Check;
 use crate::words::{lines, words};
@@ -19,6 +21,9 @@ use std::path::{Path, PathBuf};
 const STDIN: &str = "stdin";
 const ARGS: &str = "args";
 const DATA: &str = "data";
+
+/// The file with the status.
+const STATUS: &str = "status";
 
 /// The case whose input a program is run on, and the name of the file that
 /// holds it, if it is not standard input.
@@ -57,8 +62,11 @@ pub fn files() -> Vec<Contents> {
         if !words.is_empty() {
             files.push((folder.join(ARGS), lines(&words)));
         }
-        let printed = Expected::on(program, case).printed;
-        files.push((folder.join("stdout"), printed));
+        let expected = Expected::on(program, case);
+        files.push((folder.join("stdout"), expected.printed));
+        if let End::Status(status @ 1..) = expected.end {
+            files.push((folder.join(STATUS), format!("{status}\n").into_bytes()));
+        }
         files
     };
     Program::ALL.into_iter().flat_map(of_program).collect()
@@ -83,7 +91,7 @@ fn strays(folder: &Path) -> io::Result<Vec<PathBuf>> {
     let mut strays = Vec::new();
     for program in Program::ALL {
         let below = PathBuf::from(program.name());
-        let mut given = vec![below.join(STDIN), below.join(ARGS)];
+        let mut given = vec![below.join(STDIN), below.join(ARGS), below.join(STATUS)];
         let data = below.join(DATA);
         if folder.join(&data).is_dir() {
             for entry in fs::read_dir(folder.join(&data))? {

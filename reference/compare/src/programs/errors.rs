@@ -11,3 +11,4 @@ pub const ENOSPC: i32 = 28;
 pub const EPIPE: i32 = 32;
 pub const ENAMETOOLONG: i32 = 36;
 pub const ELOOP: i32 = 40;
+pub const EILSEQ: i32 = 84;

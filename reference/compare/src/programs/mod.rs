@@ -43,7 +43,8 @@ const REPLIED: u64 = 240;
 /// what the separate reader prints now, and the programs in a folder with it on every case. They have an exit
 /// status, or are to end with 0 in every case.
 pub fn compare(programs: &Path, has_status: bool, repository: &Path) -> io::Result<Tally> {
-    let under_test = UnderTest::new(&programs.canonicalize()?, has_status);
+    let mut under_test = UnderTest::new(&programs.canonicalize()?, has_status);
+    under_test.by_library = true;
     let scratch = Scratch::new()?;
     let cases = [
         fixed(),

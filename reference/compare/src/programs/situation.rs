@@ -2,7 +2,7 @@
 //! error, and the calls that fail. What is expected is imagined from the same
 //! description.
 
-use super::errors::{EBADF, EFBIG, EIO, EISDIR, ENOSPC, EPIPE};
+use super::errors::{EBADF, EFBIG, EILSEQ, EIO, EISDIR, ENOSPC, EPIPE};
 use super::expected::{Expected, Imagined};
 use super::faults::Faults;
 use reader::Program;
@@ -150,8 +150,25 @@ impl Situation {
 
     /// What the separate reader does.
     pub fn expected(&self, program: Program) -> Expected {
+        self.expected_in(program, self.imagined())
+    }
+
+    /// What it does in the system as the library of the programs in Rattle
+    /// shows it: files are opened by text alone, standard output is closed
+    /// nowhere, and the signal of a closed pipe is ignored from the start on.
+    pub fn expected_by_library(&self, program: Program) -> Expected {
+        let mut system = self.imagined();
+        if self.names_no_text() {
+            system.open_error = Some(EILSEQ);
+        }
+        system.close_error = None;
+        system.signals = false;
+        self.expected_in(program, system)
+    }
+
+    fn expected_in(&self, program: Program, system: Imagined) -> Expected {
         let words = self.words_of(program);
-        let mut expected = Expected::of(program, &words, self.imagined());
+        let mut expected = Expected::of(program, &words, system);
         if self.error != ErrorOutput::Kept {
             expected.said.clear();
         }
@@ -191,6 +208,12 @@ impl Situation {
             (_, None) if self.names_a_folder() => (&[], Some(EISDIR)),
             (_, None) => (&self.contents, None),
         }
+    }
+
+    /// Whether a word behind the first ones is no UTF-8.
+    pub fn names_no_text(&self) -> bool {
+        let no_text = |word: &Vec<u8>| std::str::from_utf8(word).is_err();
+        self.words.iter().any(no_text)
     }
 
     fn names_a_folder(&self) -> bool {

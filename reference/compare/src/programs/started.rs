@@ -46,7 +46,7 @@ fn run(
     situation: &Situation,
     scratch: &Scratch,
 ) -> io::Result<Option<Fault>> {
-    let expected = under_test.expected(situation.expected(program));
+    let expected = under_test.expected_there(situation, program);
     let deadline = Instant::now() + under_test.run_limit;
     let mut command = shell(path, program, situation, scratch);
     command.stdin(input(situation, scratch)?);

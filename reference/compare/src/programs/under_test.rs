@@ -2,6 +2,7 @@
 
 use super::expected::Expected;
 use super::fault::Fault;
+use super::situation::Situation;
 use reader::Program;
 use std::io;
 use std::path::{Path, PathBuf};
@@ -17,6 +18,9 @@ pub struct UnderTest {
     /// Whether they have an exit status; if not, it is 0 in every case.
     has_status: bool,
     hangs: [AtomicUsize; Program::ALL.len()],
+    /// Whether they meet the system by the library of Rattle; if not, as a
+    /// program in C does.
+    pub by_library: bool,
     /// How long a run may take.
     pub run_limit: Duration,
     /// How long a line's records may take on a live pipe.
@@ -29,6 +33,7 @@ impl UnderTest {
             folder: folder.to_path_buf(),
             has_status,
             hangs: Default::default(),
+            by_library: false,
             run_limit: Duration::from_secs(10),
             line_limit: Duration::from_secs(5),
         }
@@ -40,6 +45,14 @@ impl UnderTest {
             true => reader,
             false => reader.without_status(),
         }
+    }
+
+    /// The same in a situation.
+    pub fn expected_there(&self, situation: &Situation, program: Program) -> Expected {
+        self.expected(match self.by_library {
+            true => situation.expected_by_library(program),
+            false => situation.expected(program),
+        })
     }
 
     /// One run of a program, unless it hung too often. The run answers its
