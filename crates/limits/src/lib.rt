@@ -1,3 +1,2 @@
 // The limits of document 01; definitions only, in specs/.
 #![tactic(auto)]
-

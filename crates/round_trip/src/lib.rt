@@ -1,3 +1,2 @@
 // A composed stream reads back as its orders. Theorems only.
 #![tactic(auto)]
-

@@ -6,8 +6,6 @@ use mathlib.Core.Path.{◌≡◌, ◌∙◌, sym, ap, subst}
 use Prim.Native.Nat.{ℕ}
 use native.Mathlib.Omega.{arith}
 use lib.ListN.{length}
-use borrow.Author.Rules.{rules}
-use borrow.Author.Tests.{not-true, not-false}
 use Rattle.bits.specs.Bits.{bits_of}
 use Rattle.bits.specs.Range.{range_fits}
 use Rattle.patterns.specs.declared.Verdict.TheVariants.{WrongRange}

@@ -1,12 +1,9 @@
 -- `byte_lines::put_byte_digits` meets its contract: the bytes that are left, put at the present place, give what all of them give.
 -- Assumes nothing.
-use Prim.Native.Nat.{◌+◌, ◌-◌, ◌≤◌}
-use native.Mathlib.Omega.{arith}
-use lib.ListN.{length, drop, drop_of_length-le}
-use borrow.Author.Rules.{rules}
-use Rattle.output.proofs.Pieces.{PartlyPut, none_put, all_put}
+use Prim.Native.Nat.{◌-◌, ◌≤◌}
+use lib.ListN.{length, drop}
+use Rattle.output.proofs.Pieces.{PartlyPut}
 use Rattle.byte_lines.specs.ByteLines.{byte_digits}
-use Rattle.byte_lines.proofs.BytePieces.{byte_fits, byte_put}
 use Rattle.byte_lines.proofs.put_byte_digits.Given as goal
 
 abbrev pub invariant-loop-i : goal.invariant-loop-i

@@ -20,7 +20,7 @@ use Rattle.stretches.proofs.SingleCycles.{Passes}
 use Rattle.stretches.proofs.Walks.{walk_stretch, walk_behind}
 use Rattle.timing.proofs.Flagged.{below_later}
 use Rattle.decoder.specs.declared.Decoder.{Decoder}
-use Rattle.calls.specs.Take.{Call, call}
+use Rattle.calls.specs.Take.{Call}
 use Rattle.performing.specs.declared.Performed.{Performed}
 use Rattle.calls.proofs.LoopInvariant.{Invariant, left, initially, stretch_walks, done, full, quiet, performed, moved, stretched_fits}
 use Rattle.call_loop.proofs.run.Goals as goal
@@ -135,8 +135,8 @@ returns-then-done c =
     let room = c.if-list-done-lt-LIST_UNIT.false in
     let e = c.advance-walk.ensures in
     rw c.ended-then-done.ensures (
-      (performed g more room _ (walks g s more room e) _ c.keep.ensures c.keep.auto.tray _ c.perform-done.ensures c.perform-done.auto.store).stopped
-      c.if-done.true
+    (performed g more room _ (walks g s more room e) _ c.keep.ensures c.keep.auto.tray _ c.perform-done.ensures c.perform-done.auto.store).stopped
+    c.if-done.true
     )
 
 pub loop-taken-smaller : goal.loop-taken-smaller
@@ -152,7 +152,7 @@ loop-taken-preserved c =
     let room = c.if-list-done-lt-LIST_UNIT.false in
     let e = c.advance-walk.ensures in (
       (performed g more room _ (walks g s more room e) _ c.keep.ensures c.keep.auto.tray _ c.perform-done.ensures c.perform-done.auto.store).onwards
-      c.if-done.false,
+          c.if-done.false,
       goes_on g s more room e,
     )
 

@@ -1,6 +1,5 @@
 -- `fits` is the test of its four parts.
 -- Assumes nothing.
-use borrow.Author.Rules.{rules}
 use Rattle.orders.specs.Fields.{order_fits}
 use Rattle.contexts.proofs.fits.Goals as goal
 

@@ -1,7 +1,6 @@
 -- `act` does what `act_of` says: by the request, what the function for it ensures. A Fast that fits has a kind within a byte.
 -- Assumes nothing.
 use borrow.Author.Tests.{ltb-true}
-use borrow.Author.Rules.{rules}
 use Rattle.controller.specs.Commands.{act_of}
 use Rattle.controller.proofs.act.Goals as goal
 

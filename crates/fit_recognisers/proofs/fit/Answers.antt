@@ -2,7 +2,6 @@
 -- Assumes nothing.
 use mathlib.Core.Path.{sym, ◌∙◌}
 use Rattle.fit_recognisers.proofs.StepsFit.{fit_at}
-use borrow.Author.Rules.{rules}
 use Rattle.fit_recognisers.proofs.fit.Goals as goal
 
 pub returns-in-Hunt : goal.returns-in-Hunt

@@ -1,7 +1,6 @@
 -- `frames::keep` meets its contract, by the cases of the frame bit.
 -- Assumes nothing.
 use Rattle.frames.specs.Tray.{tray_of}
-use borrow.Author.Rules.{rules}
 use Rattle.frames.proofs.keep.Goals as goal
 
 pub returns-in-None : goal.returns-in-None

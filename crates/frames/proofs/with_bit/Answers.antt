@@ -4,7 +4,6 @@ use Prim.Native.Nat.{◌-◌, ◌^◌}
 use native.Mathlib.Nat.{add-zero}
 use native.Mathlib.Omega.{arith}
 use lib.Dec.{lit<}
-use borrow.Author.Rules.{rules}
 use borrow.Author.Tests.{eq-eqb, ne_eqb}
 use Rattle.frames.proofs.Weights.{Put, put}
 use Rattle.frames.proofs.with_bit.Goals as goal

@@ -21,7 +21,6 @@ decided n first four =
 pub overflow_cast-result : goal.overflow_cast-result
 overflow_cast-result c = tt
 
-
 pub returns-then-ones-eq4 : goal.returns-then-ones-eq4
 returns-then-ones-eq4 c = let low : c.args.group < 2 ^ 8 = search rules in rw (← ones_are _ low, c.if-ones-eq4.true) (omega arith)
 

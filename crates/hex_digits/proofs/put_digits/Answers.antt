@@ -1,7 +1,6 @@
 -- `hex_digits::put_digits` meets its contract: the digits that are left of the number that is left give what all of them give.
 -- Assumes nothing.
-use borrow.Author.Rules.{rules}
-use Rattle.hex_digits.proofs.Digits.{LowDigitsPut, no_digit_put, next_digit_put, all_digits_put}
+use Rattle.hex_digits.proofs.Digits.{no_digit_put, next_digit_put, all_digits_put}
 use Rattle.hex_digits.proofs.put_digits.Goals as goal
 
 pub loop-remaining-init : goal.loop-remaining-init

@@ -3,8 +3,7 @@
 use mathlib.Core.Path.{refl}
 use Prim.Native.Nat.{◌-◌}
 use borrow.Author.Rules.{rules}
-use Rattle.image_fields.specs.Image.{word_place}
-use Rattle.image_words.proofs.WriteLoop.{Invariant, initially, again_first, over}
+use Rattle.image_words.proofs.WriteLoop.{initially, again_first, over}
 use Rattle.image_words.proofs.put_scalars.Goals as goal
 
 pub loop-n-init : goal.loop-n-init

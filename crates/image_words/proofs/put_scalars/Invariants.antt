@@ -1,10 +1,8 @@
 -- `put_scalars` puts its numbers one after the other.
 -- Assumes nothing.
-use mathlib.Core.Path.{refl}
 use Prim.Native.Nat.{◌-◌}
-use borrow.Author.Rules.{rules}
 use Rattle.image_fields.specs.Image.{word_place}
-use Rattle.image_words.proofs.WriteLoop.{Invariant, initially, again_first, over}
+use Rattle.image_words.proofs.WriteLoop.{Invariant}
 use Rattle.image_words.proofs.put_scalars.Given as goal
 
 abbrev pub invariant-loop-n : goal.invariant-loop-n

@@ -1,8 +1,7 @@
 -- `put_u16` puts its numbers one after the other.
 -- Assumes nothing.
 use Prim.Native.Nat.{◌-◌}
-use borrow.Author.Rules.{rules}
-use Rattle.image_words.proofs.WriteLoop.{Invariant, initially, again, over}
+use Rattle.image_words.proofs.WriteLoop.{Invariant}
 use Rattle.image_words.proofs.put_u16.Given as goal
 
 abbrev pub invariant-loop-n : goal.invariant-loop-n

@@ -2,7 +2,7 @@
 -- Assumes nothing.
 use Prim.Native.Nat.{◌-◌}
 use borrow.Author.Rules.{rules}
-use Rattle.image_words.proofs.WriteLoop.{Invariant, initially, again, over}
+use Rattle.image_words.proofs.WriteLoop.{initially, again, over}
 use Rattle.image_words.proofs.put_u8.Goals as goal
 
 pub loop-n-init : goal.loop-n-init

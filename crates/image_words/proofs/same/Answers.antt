@@ -1,9 +1,7 @@
 -- `same` compares word by word: what is left of the two lists decides as the whole does.
 -- Assumes nothing.
 use Prim.Native.Nat.{◌-◌}
-use lib.ListN.{length}
-use borrow.Author.Rules.{rules}
-use Rattle.image_words.proofs.CompareLoop.{Invariant, initially, differ, again, over}
+use Rattle.image_words.proofs.CompareLoop.{initially, differ, again, over}
 use Rattle.image_words.proofs.same.Goals as goal
 
 pub loop-k-init : goal.loop-k-init

@@ -2,8 +2,7 @@
 -- Assumes nothing.
 use Prim.Native.Nat.{◌-◌}
 use lib.ListN.{length}
-use borrow.Author.Rules.{rules}
-use Rattle.image_words.proofs.CompareLoop.{Invariant, initially, differ, again, over}
+use Rattle.image_words.proofs.CompareLoop.{Invariant}
 use Rattle.image_words.proofs.same.Given as goal
 
 abbrev pub invariant-loop-k : goal.invariant-loop-k

@@ -1,9 +1,7 @@
 -- `u8_at` puts the words' low parts one after the other into an array that they fill.
 -- Assumes nothing.
 use Prim.Native.Nat.{◌-◌}
-use borrow.Author.Rules.{rules}
-use Rattle.image_fields.specs.Fields.{bits}
-use Rattle.image_words.proofs.ReadLoop.{Invariant, initially, again, over}
+use Rattle.image_words.proofs.ReadLoop.{initially, again, over}
 use Rattle.image_words.proofs.u8_at.Goals as goal
 
 pub loop-n-init : goal.loop-n-init

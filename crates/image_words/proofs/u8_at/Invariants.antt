@@ -1,9 +1,8 @@
 -- `u8_at` puts the words' low parts one after the other into an array that they fill.
 -- Assumes nothing.
 use Prim.Native.Nat.{◌-◌}
-use borrow.Author.Rules.{rules}
 use Rattle.image_fields.specs.Fields.{bits}
-use Rattle.image_words.proofs.ReadLoop.{Invariant, initially, again, over}
+use Rattle.image_words.proofs.ReadLoop.{Invariant}
 use Rattle.image_words.proofs.u8_at.Given as goal
 
 abbrev pub invariant-loop-n : goal.invariant-loop-n

@@ -1,6 +1,5 @@
 -- `read_order` reads six words, or finds fewer.
 -- Assumes nothing.
-use borrow.Author.Rules.{rules}
 use borrow.Author.Tests.{lt-ltb, le-ltb}
 use Rattle.orders.specs.Fields.{order_in}
 use Rattle.lent_orders.proofs.read_order.Goals as goal

@@ -1,12 +1,8 @@
 -- `with_characters` meets its contract, by the three cases of a character: a wrong character, one digit too many, one digit more.
 -- Assumes nothing.
-use Rattle.std.proofs.Common.{◌≡◌, ℕ, ◌+◌, ◌-◌, true, false, length, get_or, sym, ap, ◌∙◌, rules}
-use borrow.Author.Tests.{not-true, not-false}
-use Rattle.line_meanings.specs.declared.LineSoFar.{LineSoFar}
-use Rattle.line_meanings.specs.Digits.{is_digit}
-use Rattle.line_meanings.specs.Lines.{with_character}
-use Rattle.line_meanings.proofs.Notes.{noted, wrong_character, too_many, one_more}
-use Rattle.line_meanings.proofs.PartlyRead.{PartlyRead, none_read, next_read, all_read}
+use Rattle.std.proofs.Common.{◌-◌, length}
+use Rattle.line_meanings.proofs.Notes.{noted}
+use Rattle.line_meanings.proofs.PartlyRead.{PartlyRead}
 use Rattle.line_characters.proofs.with_characters.Given as goal
 
 abbrev pub invariant-loop-i : goal.invariant-loop-i

@@ -1,6 +1,5 @@
 -- `line_end` meets its contract: from each place passed, the characters ahead of the line feed end at the same place.
 -- Assumes nothing.
-use mathlib.Core.Path.{refl}
 use native.Mathlib.Omega.{arith}
 use Rattle.line_meanings.proofs.Blocks.{ahead_none, ahead_more, ahead_end}
 use Rattle.line_scans.proofs.line_end.Goals as goal

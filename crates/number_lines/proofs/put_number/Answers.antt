@@ -1,6 +1,5 @@
 -- `number_lines::put_number` meets its contract: the digits, and the separator after them.
 -- Assumes nothing.
-use borrow.Author.Rules.{rules}
 use Rattle.number_lines.proofs.NumberPieces.{digits_then_separator}
 use Rattle.number_lines.proofs.put_number.Goals as goal
 

@@ -1,12 +1,9 @@
 -- `number_lines::put_numbers` meets its contract: the numbers that are left, put at the present place, give what all of them give.
 -- Assumes nothing.
 use Prim.Native.Nat.{◌-◌, ◌≤◌}
-use native.Mathlib.Omega.{arith}
-use lib.ListN.{length, drop, drop_of_length-le}
-use borrow.Author.Rules.{rules}
-use Rattle.output.proofs.Pieces.{PartlyPut, none_put, all_put}
+use lib.ListN.{length, drop}
+use Rattle.output.proofs.Pieces.{PartlyPut}
 use Rattle.number_lines.specs.NumberLines.{numbers_line}
-use Rattle.number_lines.proofs.NumberPieces.{number_fits, number_put}
 use Rattle.number_lines.proofs.put_numbers.Given as goal
 
 abbrev pub invariant-loop-i : goal.invariant-loop-i

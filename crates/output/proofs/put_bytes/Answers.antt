@@ -2,12 +2,12 @@
 -- Assumes nothing.
 use mathlib.Core.List.{[], ◌∷◌}
 use mathlib.Core.Path.{refl}
-use Prim.Native.Nat.{◌-◌, ◌≤◌}
+use Prim.Native.Nat.{◌-◌}
 use native.Mathlib.Numerals.{add-one}
 use native.Mathlib.Omega.{arith}
-use lib.ListN.{length, get_or, drop, drop_of_length-le, length-drop}
+use lib.ListN.{get_or, drop_of_length-le, length-drop}
 use lib.Seq.{drop-cons}
-use Rattle.output.proofs.Pieces.{PartlyPut, none_put, next_put, all_put}
+use Rattle.output.proofs.Pieces.{none_put, next_put, all_put}
 use Rattle.output.proofs.put_bytes.Goals as goal
 
 pub loop-i-init : goal.loop-i-init

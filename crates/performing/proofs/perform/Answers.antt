@@ -1,10 +1,8 @@
 -- `perform` is a request performed.
 -- Assumes nothing.
 use mathlib.Core.Path.{◌≡◌}
-use Prim.Native.Nat.{◌<◌}
 use native.Mathlib.Omega.{arith}
 use lib.ListN.{length-take, length-drop}
-use Rattle.limits.specs.Limits.{clock_limit}
 use Rattle.registers.specs.Registers.{cnt_of}
 use Rattle.performing.proofs.PerformCases.{with_stamp, present_cnt, silently, recorded}
 use Rattle.performing.proofs.ListParts.{two_put}

@@ -2,9 +2,8 @@
 -- Assumes nothing.
 use Prim.Native.Nat.{◌-◌}
 use borrow.Author.Tests.{lt-ltb, le-ltb}
-use borrow.Author.Rules.{rules}
 use Rattle.registers.specs.Sound.{fits_at, pointers_fit}
-use Rattle.registers.proofs.TestLoop.{Invariant, initially, failed, passed, over}
+use Rattle.registers.proofs.TestLoop.{initially, failed, passed, over}
 use Rattle.registers.proofs.pointers_fit.Goals as goal
 
 pub loop-i-init : goal.loop-i-init

@@ -1,7 +1,6 @@
 -- `advance` is a stretch, by the phase, and the place behind it.
 -- Assumes nothing.
 use mathlib.Core.Path.{◌∙◌, ap, sym}
-use borrow.Author.Rules.{rules}
 use Rattle.stretches.specs.Walk.{walk_of}
 use Rattle.stretches.proofs.StretchLoops.{step_walks}
 use Rattle.stretches.proofs.SingleCycles.{stretch_at, stretch_once}
@@ -12,7 +11,6 @@ returns-in-Hunt c = c.hunt_on.ensures ∙ ap (walk_of _) (sym (stretch_at _ _ _ 
 
 pub returns-in-Body : goal.returns-in-Body
 returns-in-Body c = c.body_on.ensures ∙ ap (walk_of _) (sym (stretch_at _ _ _ c.in-Body.is))
-
 
 pub returns-in_default : goal.returns-in_default
 returns-in_default c =

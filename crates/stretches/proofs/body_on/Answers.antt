@@ -1,13 +1,9 @@
 -- `body_on` is a body, bit by bit, up to its fourth or to the end.
 -- Assumes nothing.
 use native.Mathlib.Omega.{arith}
-use borrow.Author.Rules.{rules}
-use Rattle.bits.specs.Bits.{bits_of}
-use Rattle.bits.specs.Place.{place_under}
 use Rattle.bits.proofs.BitRanges.{bits_over}
 use Rattle.recogniser.specs.Parts.{standing}
-use Rattle.stretches.specs.Stretch.{body_on}
-use Rattle.stretches.proofs.StretchLoops.{Invariant, initially, again, over, last_cycle, body_left, body_last}
+use Rattle.stretches.proofs.StretchLoops.{initially, again, over, last_cycle, body_left, body_last}
 use Rattle.stretches.proofs.body_on.Goals as goal
 
 pub loop-left-init : goal.loop-left-init

@@ -1,12 +1,9 @@
 -- `hunt_on` is hunting, bit by bit, up to the first window that means something or to the end.
 -- Assumes nothing.
-use mathlib.Core.Path.{◌∙◌, sym}
-use borrow.Author.Rules.{rules}
 use Rattle.bits.specs.Bits.{bits_of}
 use Rattle.bits.specs.Place.{place_under}
-use Rattle.bits.proofs.BitRanges.{bits_over}
 use Rattle.stretches.specs.Stretch.{hunt_on}
-use Rattle.stretches.proofs.StretchLoops.{Invariant, initially, again, over, last_cycle, hunt_left, hunt_last}
+use Rattle.stretches.proofs.StretchLoops.{Invariant}
 use Rattle.stretches.proofs.hunt_on.Given as goal
 
 abbrev pub invariant-loop-left : goal.invariant-loop-left

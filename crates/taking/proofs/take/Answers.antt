@@ -2,7 +2,6 @@
 -- Assumes nothing.
 use mathlib.Core.Bool.{true}
 use mathlib.Core.Path.{◌≡◌, ◌∙◌, sym}
-use native.Mathlib.Omega.{arith}
 use lib.ListN.{length}
 use Rattle.decoder.specs.Sound.{sound_of}
 use Rattle.calls.proofs.Refusals.{unsound, wrong_buffers, wrong_range, clock_over, taken}

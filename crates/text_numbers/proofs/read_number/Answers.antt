@@ -2,9 +2,7 @@
 -- Assumes nothing.
 use Prim.Native.Nat.{◌-◌}
 use native.Mathlib.Omega.{arith}
-use lib.ListN.{length}
-use Rattle.text_numbers.proofs.Numbers.{NumberLeft, number_first, number_none, number_wrong, number_next, number_done}
-use borrow.Author.Rules.{rules}
+use Rattle.text_numbers.proofs.Numbers.{number_first, number_none, number_wrong, number_next, number_done}
 use Rattle.text_numbers.proofs.read_number.Goals as goal
 
 pub returns-then-word-eq0 : goal.returns-then-word-eq0

@@ -1,10 +1,8 @@
 -- `read_number` meets its contract: what is left of the word stands for the number of all of it.
 -- Assumes nothing.
 use Prim.Native.Nat.{◌-◌}
-use native.Mathlib.Omega.{arith}
 use lib.ListN.{length}
-use Rattle.text_numbers.proofs.Numbers.{NumberLeft, number_first, number_none, number_wrong, number_next, number_done}
-use borrow.Author.Rules.{rules}
+use Rattle.text_numbers.proofs.Numbers.{NumberLeft}
 use Rattle.text_numbers.proofs.read_number.Given as goal
 
 abbrev pub invariant-loop-i : goal.invariant-loop-i

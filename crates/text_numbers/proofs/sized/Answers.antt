@@ -5,7 +5,6 @@ use mathlib.Core.Bool.{◌&&◌}
 use Prim.Native.Nat.{ℕ}
 use lib.Dec.{ltb}
 use Rattle.text_numbers.proofs.Numbers.{two_to_width, sized_kept, sized_wrong}
-use borrow.Author.Rules.{rules}
 use Rattle.text_numbers.proofs.sized.Goals as goal
 
 pub returns-then-number-width : goal.returns-then-number-width

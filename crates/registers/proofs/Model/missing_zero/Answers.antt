@@ -5,9 +5,8 @@ use mathlib.Core.Path.{◌≡◌, ◌∙◌}
 use Prim.Native.Nat.{◌-◌}
 use lib.Dec.{eqb}
 use borrow.Author.Tests.{not-true, not-false}
-use borrow.Author.Rules.{rules}
 use Rattle.registers.specs.Sound.{zero_at, missing_zero}
-use Rattle.registers.proofs.TestLoop.{Invariant, initially, failed, passed, over}
+use Rattle.registers.proofs.TestLoop.{initially, failed, passed, over}
 use Rattle.registers.proofs.Model.missing_zero.Goals as goal
 use Rattle.registers.proofs.Model.missing_zero.Goals.{After-register-held}
 

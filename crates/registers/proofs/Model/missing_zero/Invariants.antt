@@ -1,13 +1,8 @@
 -- `Model::missing_zero` answers `missing_zero`: what is left of the 16 addresses decides as the whole.
 -- Assumes nothing.
-use mathlib.Core.Bool.{◌||◌}
-use mathlib.Core.Path.{◌≡◌, ◌∙◌}
 use Prim.Native.Nat.{◌-◌}
-use lib.Dec.{eqb}
-use borrow.Author.Tests.{not-true, not-false}
-use borrow.Author.Rules.{rules}
-use Rattle.registers.specs.Sound.{zero_at, missing_zero}
-use Rattle.registers.proofs.TestLoop.{Invariant, initially, failed, passed, over}
+use Rattle.registers.specs.Sound.{zero_at}
+use Rattle.registers.proofs.TestLoop.{Invariant}
 use Rattle.registers.proofs.Model.missing_zero.Given as goal
 
 abbrev pub invariant-loop-i : goal.invariant-loop-i
