@@ -6,4 +6,4 @@ use Rattle.host_lines.specs.Lines.{line_result}
 use Rattle.host_lines.proofs.kernelstill_hex_line.Goals as goal
 
 pub returns : goal.returns
-returns c = rw c.number-result.ensures (ap (λ (read : Read). line_result read.number read.buffer) c.read_line-answer.ensures)
+returns c = rw c.number.ensures (ap (λ (read : Read). line_result read.number read.buffer) c.read_line-answer.ensures)
