@@ -75,7 +75,7 @@ fn file_is_there(word: &str) -> bool {
 }
 
 /// The names that follow a file's in a line: those in it, "`calls/specs/Take`:
-/// `takeOf`, `refused`", or other files of its folder, "`taking/proofs/take`,
+/// `take_of`, `refused`", or other files of its folder, "`taking/proofs/take`,
 /// `run`".
 struct Named<'a> {
     file: &'a str,
@@ -142,7 +142,10 @@ fn definitions() -> Vec<String> {
 /// A name such as `Opens.number`: a record and a part of it.
 fn part(word: &str) -> Option<(&str, &str)> {
     let (record, part) = word.split_once('.')?;
-    let plain = |w: &str| w.chars().all(|c| c.is_ascii_alphanumeric() || c == '-');
+    let plain = |w: &str| {
+        w.chars()
+            .all(|c| c.is_ascii_alphanumeric() || "-_".contains(c))
+    };
     let starts = |w: &str, how: fn(&char) -> bool| w.chars().next().filter(how).is_some();
     (plain(record)
         && plain(part)
@@ -251,15 +254,15 @@ fn a_file_that_is_not_there_is_found() {
 
 #[test]
 fn a_name_in_another_file_is_found() {
-    let line = "| a | `calls/specs/Take`: `takeOf`, `runOf`, and `Call`, with `b`; `taking/proofs/take`, `run`, over `c` |";
+    let line = "| a | `calls/specs/Take`: `take_of`, `run_of`, and `Call`, with `b`; `taking/proofs/take`, `run`, over `c` |";
     let of_files = named(line);
     assert_eq!(of_files.len(), 2);
-    assert_eq!(of_files[0].inside, ["takeOf", "runOf", "Call"]);
+    assert_eq!(of_files[0].inside, ["take_of", "run_of", "Call"]);
     assert_eq!(of_files[1].beside, ["run"]);
     assert!(of_files[0].beside.is_empty() && of_files[1].inside.is_empty());
-    assert!(is_declared("calls/specs/Take", "takeOf") && is_declared("calls/specs/Take", "Call"));
+    assert!(is_declared("calls/specs/Take", "take_of") && is_declared("calls/specs/Take", "Call"));
     // It is declared in another file, and used here.
-    assert!(is_declared("calls/specs/Run", "runOf") && !is_declared("calls/specs/Take", "runOf"));
+    assert!(is_declared("calls/specs/Run", "run_of") && !is_declared("calls/specs/Take", "run_of"));
 }
 
 #[test]

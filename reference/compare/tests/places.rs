@@ -18,7 +18,7 @@ const CALL: &str = "taking";
 const WRITER: &str = "stream_writer";
 
 /// Reads a reply by the cursor. It divides its count of cycles, and no place.
-const RECEPTIONS: &str = "receptions";
+const REPLIES: &str = "replies";
 
 /// What these may hand the input to.
 const LENT_TO: [&str; 8] = [
@@ -59,8 +59,21 @@ fn after_braces(text: &str) -> &str {
     panic!("braces that do not close");
 }
 
+/// Where a clause begins: `requires {`, or `requires NAME {`.
+fn clause(text: &str, word: &str) -> Option<usize> {
+    let found = text.match_indices(word).find(|(at, word)| {
+        let (ahead, behind) = (&text[..*at], &text[at + word.len()..]);
+        let opens = behind.split_once('{').map(|b| b.0.trim());
+        !ahead.ends_with(in_name)
+            && behind.starts_with(' ')
+            && opens.is_some_and(|name| name.chars().all(in_name))
+    });
+    found.map(|f| f.0)
+}
+
 /// A source without its comments, and without what is stated of it and does
-/// not run: `requires { .. }`, `ensures { .. }` and `ghost ..;`.
+/// not run: `requires { .. }`, `ensures { .. }`, each with a name or without,
+/// and `ghost ..;`.
 fn code(source: &str) -> String {
     assert!(
         !source.contains('"'),
@@ -74,7 +87,11 @@ fn code(source: &str) -> String {
     let mut rest = text.as_str();
     let mut kept = String::new();
     loop {
-        let stated = ["requires {", "ensures {", "ghost "].map(|w| (rest.find(w), w));
+        let stated = [
+            (clause(rest, "requires"), "requires"),
+            (clause(rest, "ensures"), "ensures"),
+            (rest.find("ghost "), "ghost "),
+        ];
         let Some((at, word)) = stated
             .into_iter()
             .filter_map(|(at, w)| Some((at?, w)))
@@ -138,9 +155,9 @@ fn a_call_finds_its_first_place_once() {
     let texts = CRATES.map(|name| code(&source(name)));
     let calls = |text: &String| text.matches("Cursor::at(").count();
     assert_eq!(texts.each_ref().map(calls), [1, 0, 1, 0]);
-    let receptions = code(&source(RECEPTIONS));
-    assert_eq!(calls(&receptions), 1);
-    for text in [&texts[0], &texts[2], &receptions] {
+    let replies = code(&source(REPLIES));
+    assert_eq!(calls(&replies), 1);
+    for text in [&texts[0], &texts[2], &replies] {
         let (ahead, _) = text.split_once("while ").expect("the call's loop");
         assert!(ahead.contains("Cursor::at(first)"));
     }
@@ -156,7 +173,7 @@ fn the_input_is_read_under_the_cursor_alone() {
             .into_string()
             .expect("its name");
         all += 1;
-        if ![WRITER, RECEPTIONS].contains(&name.as_str()) && source(&name).contains("Cursor") {
+        if ![WRITER, REPLIES].contains(&name.as_str()) && source(&name).contains("Cursor") {
             cursors.push(name);
         }
     }
@@ -164,7 +181,7 @@ fn the_input_is_read_under_the_cursor_alone() {
     assert!(all > 20);
     assert_eq!(cursors, CRATES);
     assert_eq!(code(&source("bits")).matches("input[").count(), 1);
-    for name in ["acceptance", "call_loop", "stretches", CALL, RECEPTIONS] {
+    for name in ["acceptance", "call_loop", "stretches", CALL, REPLIES] {
         let code = code(&source(name));
         let lent = lent_to(&code);
         assert!(!lent.is_empty(), "{name}");
@@ -176,11 +193,12 @@ fn the_input_is_read_under_the_cursor_alone() {
 fn a_division_is_found_in_code_and_not_in_comments_or_statements() {
     let source = "\
 // a / b
-ghost use Prim.Native.Nat.{_/_, _%_};
+ghost use Rattle.std.specs.Prelude.{◌/◌, ◌%◌};
 fn f(place: usize) -> usize // % 8
-    requires { ⌜ place / 8 < 4 ⌝ × P { n = place % 2 } }
-    ensures { λ r. ⌜ r
-        ≡ place % 8 ⌝ } {
+    requires { (place / 8 < 4) × P { n = place % 2 } }
+    ensures low { result < 8 }
+    ensures at_place { result
+        ≡ place % 8 } {
     place & 7
 }
 ";

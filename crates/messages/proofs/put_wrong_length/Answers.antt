@@ -26,13 +26,13 @@ room : (out : List ℕ) (at : ℕ) {sentence : List ℕ} (text : List ℕ) → a
 room out at text h e = rw e at h
 
 pub put_labelled-requires : goal.put_labelled-requires
-put_labelled-requires c = room _ _ _ c.requires (above c.args.notes c.if-length-gt64.true)
+put_labelled-requires c = room _ _ _ c.requires (above c.args.notes c.if-notes-gt64.true)
 
-pub returns-then-length-gt64 : goal.returns-then-length-gt64
-returns-then-length-gt64 c = rw (above c.args.notes c.if-length-gt64.true) c.put_labelled.ensures
+pub returns-then-notes-gt64 : goal.returns-then-notes-gt64
+returns-then-notes-gt64 c = rw (above c.args.notes c.if-notes-gt64.true) c.put_labelled.ensures
 
 pub put_labelled-requires-2 : goal.put_labelled-requires-2
-put_labelled-requires-2 c = room _ _ _ c.requires (odd c.args.notes c.if-length-gt64.false)
+put_labelled-requires-2 c = room _ _ _ c.requires (odd c.args.notes c.if-notes-gt64.false)
 
 pub returns : goal.returns
-returns c = rw (odd c.args.notes c.if-length-gt64.false) c.put_labelled-2.ensures
+returns c = rw (odd c.args.notes c.if-notes-gt64.false) c.put_labelled-2.ensures

@@ -1,10 +1,14 @@
 -- `put_fifo_words` meets its contract: the words that are left, put at the present place, give what all of them give.
 -- Assumes nothing.
+use mathlib.Core.List.{List}
+use mathlib.Core.Path.{◌≡◌, refl}
+use Prim.Native.Nat.{ℕ, ◌-◌, ◌≤◌}
 use native.Mathlib.Omega.{arith}
 use lib.ListN.{length}
+use borrow.Author.Rules.{rules}
 use borrow.Author.Tests.{eq-eqb, ne_eqb}
-use Rattle.output.proofs.Pieces.{all_put}
-use Rattle.state_listing.specs.State.{fifo_word_text}
+use Rattle.output.proofs.Pieces.{PartlyPut, all_put}
+use Rattle.state_listing.specs.State.{texts_from, fifo_word_text, all_fifo_words_text}
 use Rattle.state_listing.proofs.State.{texts_none_put, text_put, text_empty, texts_all_put}
 use Rattle.state_listing.proofs.put_fifo_words.Goals as goal
 
@@ -28,4 +32,5 @@ loop-i-preserved c =
 pub returns : goal.returns
 returns c =
     let words = c.args.store.now in
+    let h = c.loop-i-test.false in
     all_put c.loop-i.invariant.1 (texts_all_put (fifo_word_text words) (length words) c.loop-i.i (omega arith))

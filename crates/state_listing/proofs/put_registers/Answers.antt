@@ -1,9 +1,13 @@
 -- `put_registers` meets its contract: the registers that are left, put at the present place, give what all 16 give.
 -- Assumes nothing.
-use mathlib.Core.Path.{sym}
+use mathlib.Core.List.{List}
+use mathlib.Core.Path.{sym, ◌∙◌}
+use Prim.Native.Nat.{ℕ, ◌-◌, ◌≤◌}
 use native.Mathlib.Omega.{arith}
-use Rattle.output.proofs.Pieces.{none_put, all_put}
-use Rattle.state_listing.specs.State.{address_count, register_text}
+use borrow.Author.Rules.{rules}
+use borrow.Author.Tests.{not-true, not-false}
+use Rattle.output.proofs.Pieces.{PartlyPut, none_put, all_put}
+use Rattle.state_listing.specs.State.{address_count, texts_from, register_text, all_registers_text}
 use Rattle.state_listing.proofs.State.{text_put, text_empty, texts_all_put}
 use Rattle.state_listing.proofs.put_registers.Goals as goal
 
@@ -27,4 +31,5 @@ loop-i-preserved c =
 
 pub returns : goal.returns
 returns c =
-    all_put c.loop-i.invariant.1 (texts_all_put (register_text c.args.plan c.args.model) address_count c.loop-i.i c.loop-i-test.false)
+    let a = c.args in
+    all_put c.loop-i.invariant.1 (texts_all_put (register_text a.plan a.model) address_count c.loop-i.i c.loop-i-test.false)

@@ -14,8 +14,8 @@ returns-then-digits-word c =
     let a = c.args in
     c.read_number.ensures ∙ ap decimal (part_rest a.word.now (a.digits + 1)) ∙ sym (said_behind a.word.now a.digits c.requires.0 c.if-digits-word.true)
 
-pub overflow_mul-value : goal.overflow_mul-value
-overflow_mul-value c = omega (arith, c.requires.0, up_to_within (code ":") c.args.word.now, c.requires.1)
+pub overflow_mul-result : goal.overflow_mul-result
+overflow_mul-result c = omega (arith, c.requires.0, up_to_within (code ":") c.args.word.now, c.requires.1)
 
 pub returns : goal.returns
 returns c = sym (said_by_digits c.args.word.now c.args.digits c.requires.0 c.if-digits-word.false)

@@ -27,11 +27,19 @@ module _ (word : List ℕ) (n : ℕ) (e : n ≡ length (up_to_colon word)) where
   tested r t = sym (ap are_digits ahead) ∙ sym t
 
 pub slice_bounds-digits-end : goal.slice_bounds-digits-end
-slice_bounds-digits-end c = within _ _ c.place_of-count.ensures
+slice_bounds-digits-end c = sym (length-take-le _ _ (within c.args.word.now _ c.place_of-count.ensures))
 
 pub returns-then-not-are_digits : goal.returns-then-not-are_digits
 returns-then-not-are_digits c =
     frame_wrong _ (no_digits _ (tested _ _ c.place_of-count.ensures _ c.if-not-are_digits.ensures))
+
+pub overflow_mul-count : goal.overflow_mul-count
+overflow_mul-count c = omega (arith, within c.args.word.now _ c.place_of-count.ensures, c.requires.0)
+
+pub returns-then-bits-count : goal.returns-then-bits-count
+returns-then-bits-count c =
+    let e = c.place_of-count.ensures in
+    frame_wrong _ (wrong_bits _ (tested _ _ e _ c.if-not-are_digits.ensures) _ _ c.bits_said-bits.ensures e c.if-bits-count.true)
 
 pub returns : goal.returns
 returns c =
@@ -40,4 +48,4 @@ returns c =
     let e = c.place_of-count.ensures in
     frame_put a.bytes.now (up_to_colon word) _ _ _ (c.put_digits-size.ensures ∙ ap (λ (l : List ℕ). put_all a.bytes.now 0 (bytes_of l)) (ahead _ _ e))
     (omega (arith, bytes_few (up_to_colon word), up_to_within (code ":") word, c.requires))
-    (right_bits word (tested _ _ e _ c.if-not-are_digits.ensures) _ _ c.bits_said-bits.ensures e c.if-not.false)
+    (right_bits word (tested _ _ e _ c.if-not-are_digits.ensures) _ _ c.bits_said-bits.ensures e c.if-bits-count.false)
