@@ -118,6 +118,7 @@ impl RunState {
     }
 
     // Whether a step is to be made: there is something to do, and room for what it may put.
+    #[tactic(auto, unfolding(crate::specs::RunState::can_step))]
     pub fn can_step(self, input: usize, output: usize) -> bool
         requires { self.filled ≤ output }
         ensures { result ≡ can_step input output self }
@@ -128,6 +129,7 @@ impl RunState {
     }
 
     // Whether all that the last read brought is listed, and the next is due.
+    #[tactic(auto, unfolding(crate::specs::RunState::wants_input))]
     pub fn wants_input(self) -> bool
         ensures { result ≡ wants_input self }
     {
@@ -136,6 +138,7 @@ impl RunState {
 
     // What a read brought: `got` characters at the start of the block of input. None is the input's end, which ends a line that has begun, as a line
     // feed does, and then the run.
+    #[tactic(auto, unfolding(crate::specs::RunState::received_of))]
     pub fn receive(self, input: &mut [u8], got: usize) -> RunState
         requires { 0 < length input.old }
         ensures value { result ≡ received_of self got }
@@ -157,6 +160,7 @@ impl RunState {
     }
 
     // The lines of the state at the end of a run, if the program prints them; the answer is how many bytes they take.
+    #[tactic(auto, unfolding(crate::specs::Listing::state_lines))]
     pub fn put_state_lines(self, prints: PrintOptions, store: &[u32], out: &mut [u8]) -> usize
         requires { (length store.now ≡ store_length) × (length out.old ≡ block_length) }
         ensures { block out.new result ≡ put_all out.old 0 (state_lines prints self.decoder store.now) }

@@ -1,10 +1,25 @@
-use Rattle.std.proofs.Common.{rules, ◌≡◌, ◌<◌, length, ℕ, ◌+◌, ◌-◌, ◌*◌, ◌≤◌, ◌/◌, ◌%◌, Bool, true, false, nat_eq, nat_lt, List, [], ◌∷◌, ◌++◌, slice_index_or, slice_set, bit_and, bit_or, Fits, w8, w32, w64, Bor, MutBor}
-use Rattle.output.specs.Block.{block_length}
-use Rattle.limits.specs.Limits.{store_length}
-use Rattle.statuses.specs.Status.{Finished}
-use Rattle.run_parts.specs.Refills.{AfterRefill}
+-- `run_parts::refill` meets its contract, where a read brought characters or the input's end.
+-- Assumes nothing.
+use Rattle.std.proofs.Common.{◌≡◌, true, refl, sym, arith}
+use Rattle.bits.proofs.Truth.{clash}
+use Rattle.program.specs.RunState.{wants_input}
 use Rattle.run_parts.proofs.refill.Goals as goal
 
--- src/lib.rt:21:1
 pub returns : goal.returns
-returns c = ?
+returns c =
+    let due : wants_input c.args.state ≡ true = sym c.if-not-wants_input.ensures in
+    let r = c.receive-received in
+    record {
+      came = λ _. record {
+        got = c.read_input-got.result.count;
+        brought = c.read_input-got.new.input;
+        refill = record {
+          few = c.read_input-got.ensures;
+          long = omega arith;
+          ended = λ t. clash t c.if-state.false;
+          state = rw due r.ensures.value;
+          block = rw due r.ensures.input_after;
+        };
+      };
+      kept = λ e. clash e refl;
+    }
