@@ -1,26 +1,19 @@
 -- `blocks::step` meets its contract: with no bits left the block is scanned, else a taking call is made.
 -- Assumes nothing.
-use Rattle.std.proofs.Common.{length, arith}
-use Rattle.program.specs.RunState.{StepReady, snapshot}
-use Rattle.program.proofs.Steps.{step_ready, more_input, by_taking}
+use Rattle.std.proofs.Common.{arith}
+use lib.ListN.{length}
+use Rattle.program.proofs.Steps.{step_ready, more_input}
 use Rattle.blocks.proofs.step.Goals as goal
-use Rattle.blocks.proofs.step.Goals.{Start}
 
-ready : (c : Start) → let a = c.args in StepReady (snapshot a.from a.store.now a.tray.now a.out.now)
-ready c = step_ready (length c.args.input.now) _ c.requires.0 c.requires.1.0
+pub returns-then-from-eq0-clause-after_steps : goal.returns-then-from-eq0-clause-after_steps
+returns-then-from-eq0-clause-after_steps c =
+    (c.scan_line.ensures c.args.frames c.args.store.now c.args.tray.now (step_ready (length c.args.input.now) _ c.requires.0 c.requires.1) c.if-from-eq0.true
+    (more_input _ _ c.args.from c.requires.1 c.if-from-eq0.true)).0
 
-pub returns-then-from-eq0 : goal.returns-then-from-eq0
-returns-then-from-eq0 c =
-    let a = c.args in
-    let none = c.if-from-eq0.true in
-    let h = c.scan_line.ensures a.frames a.store.now a.tray.now (ready (goal.at.returns-then-from-eq0 c).Start) none
-        (more_input _ _ a.from c.requires.1.0 none) in
-    record { after_steps = h.0; result_bound = h.1 }
+pub returns-then-from-eq0-clause-result_bound : goal.returns-then-from-eq0-clause-result_bound
+returns-then-from-eq0-clause-result_bound c =
+    (c.scan_line.ensures c.args.frames c.args.store.now c.args.tray.now (step_ready (length c.args.input.now) _ c.requires.0 c.requires.1) c.if-from-eq0.true
+    (more_input _ _ c.args.from c.requires.1 c.if-from-eq0.true)).1
 
 pub take_bits-requires : goal.take_bits-requires
-take_bits-requires c = (ready (goal.at.take_bits-requires c).Start, omega (arith, c.if-from-eq0.false))
-
-pub returns : goal.returns
-returns c =
-    let after = c.take_bits.ensures in
-    record { after_steps = by_taking c.args.input.now after c.requires.1.1; result_bound = after.less_work _ }
+take_bits-requires c = (step_ready (length c.args.input.now) _ c.requires.0 c.requires.1, omega (arith, c.if-from-eq0.false))

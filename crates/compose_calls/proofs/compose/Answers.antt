@@ -1,9 +1,8 @@
 -- `compose` refuses, or writes the stream.
 -- Assumes nothing.
-use mathlib.Core.Path.{◌≡◌, ◌∙◌, sym, ap}
+use mathlib.Core.Path.{◌∙◌, sym, ap}
 use native.Mathlib.Omega.{arith}
 use lib.ListN.{length}
-use Rattle.plans.specs.Plan.{plan_fits}
 use Rattle.orders.specs.declared.Composed.{Composed}
 use Rattle.orders.specs.Fields.{orders_in}
 use Rattle.orders.specs.Composing.{room_fits, compose_result}

@@ -1,17 +1,8 @@
 -- `put_orders` writes one order after another.
 -- Assumes nothing.
-use mathlib.Core.Path.{◌≡◌, ◌∙◌, sym, ap, subst}
-use Prim.Native.Nat.{◌+◌, ◌-◌, ◌≤◌}
-use native.Mathlib.Omega.{arith}
-use lib.ListN.{length, drop, length-drop}
-use lib.Seq.{take_all}
-use borrow.Author.Rules.{rules}
-use Rattle.orders.specs.Fields.{order_in, orders_in}
-use Rattle.orders.specs.Streams.{stream_of}
-use Rattle.stream_writer.specs.declared.Writer.{Writer}
-use Rattle.stream_writer.specs.Writer.{start, Fits, Wrote}
-use Rattle.composing.specs.Checked.{Room}
-use Rattle.compose_calls.proofs.PutLoop.{Putting, initially, this_fit, this_room, six_more, again, over}
+use Prim.Native.Nat.{◌-◌}
+use lib.ListN.{length}
+use Rattle.compose_calls.proofs.PutLoop.{Putting}
 use Rattle.compose_calls.proofs.put_orders.Given as goal
 
 abbrev pub invariant-loop-at : goal.invariant-loop-at

@@ -4,7 +4,7 @@ use Rattle.std.proofs.Common.{sym, arith}
 use lib.Seq.{length-take-le}
 use Rattle.output.proofs.Pieces.{put_end_within}
 use Rattle.order_messages.proofs.Lengths.{order_short}
-use Rattle.order_refusals.specs.Refused.{message_of}
+use Rattle.order_refusals.specs.Refusals.{message_of}
 use Rattle.compose_ends.proofs.finish.Goals as goal
 
 pub slice_bounds-tell-end : goal.slice_bounds-tell-end

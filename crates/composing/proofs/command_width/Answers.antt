@@ -5,7 +5,6 @@ use mathlib.Core.Path.{◌≡◌, ◌∙◌, sym, ap}
 use Prim.Native.Nat.{ℕ, ◌+◌}
 use native.Mathlib.Omega.{arith}
 use lib.ListN.{length}
-use borrow.Author.Rules.{rules}
 use Rattle.orders.specs.declared.Order.{Order}
 use Rattle.orders.specs.Fields.{is_frame_kind}
 use Rattle.orders.proofs.FitOrders.{fitting, kind_low}

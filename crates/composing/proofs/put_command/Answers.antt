@@ -2,7 +2,6 @@
 -- Assumes nothing.
 use mathlib.Core.List.{◌++◌}
 use native.Mathlib.Omega.{arith}
-use borrow.Author.Rules.{rules}
 use Rattle.orders.specs.Streams.{header_bits, slow_body, slow_fields}
 use Rattle.orders.proofs.FitOrders.{fitting, fast_above}
 use Rattle.stream_writer.proofs.Writing.{in_other_words, both_parts}

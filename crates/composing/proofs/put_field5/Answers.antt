@@ -4,7 +4,6 @@ use mathlib.Core.Path.{◌∙◌, sym, ap}
 use Prim.Native.Nat.{ℕ, ◌-◌, ◌≤◌}
 use native.Mathlib.Omega.{arith}
 use lib.ListN.{length-replicate}
-use borrow.Author.Rules.{rules}
 use Rattle.slow_fields.specs.Slow.{length_of}
 use Rattle.orders.specs.Fields.{value_width}
 use Rattle.orders.specs.Streams.{number_bits, zeros}

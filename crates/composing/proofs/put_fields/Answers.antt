@@ -1,7 +1,6 @@
 -- `put_fields` writes Fields 3, 4 and 5, one after the other.
 -- Assumes nothing.
 use mathlib.Core.Path.{ap}
-use borrow.Author.Rules.{rules}
 use Rattle.orders.specs.Streams.{number_bits}
 use Rattle.stream_writer.proofs.Writing.{in_other_words, both_parts}
 use Rattle.composing.proofs.put_fields.Goals as goal

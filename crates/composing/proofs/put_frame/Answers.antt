@@ -2,7 +2,6 @@
 -- Assumes nothing.
 use Prim.Native.Nat.{◌*◌, ◌/◌}
 use native.Mathlib.Omega.{arith}
-use borrow.Author.Rules.{rules}
 use Rattle.bits.proofs.BitRanges.{length_bits}
 use Rattle.stream_writer.proofs.Writing.{in_other_words}
 use Rattle.stream_writer.proofs.Rests.{repeated_length}

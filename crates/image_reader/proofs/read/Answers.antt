@@ -1,9 +1,7 @@
 -- `read` makes the state of its parts, each as its own function reads it.
 -- Assumes nothing.
-use borrow.Author.Rules.{rules}
 use Rattle.image_fields.specs.Image.{state_of}
 use Rattle.image_reader.proofs.read.Goals as goal
-use Rattle.image_reader.proofs.read.Goals.{After-u8_at-2, Start}
 
 pub returns : goal.returns
 unfolding state_of

@@ -7,7 +7,6 @@ use lib.ListN.{length}
 use borrow.Author.Tests.{not-true, not-false}
 use Rattle.orders.specs.Fields.{is_frame_kind}
 use Rattle.text_words.proofs.Words.{word_short}
-use borrow.Author.Rules.{rules}
 use Rattle.order_fields.proofs.frame_field.Goals as goal
 
 pub returns-then-not-is_frame_kind : goal.returns-then-not-is_frame_kind

@@ -1,16 +1,14 @@
 -- `read_reply` is the reply in a range, from its first bit to its last.
 -- Assumes nothing.
 use mathlib.Core.Bool.{true, false}
-use mathlib.Core.Path.{◌≡◌, ◌∙◌, sym, ap, subst}
-use Prim.Native.Nat.{◌≤◌}
+use mathlib.Core.Path.{◌∙◌, sym, ap, subst}
 use native.Mathlib.Omega.{arith}
-use lib.ListN.{length}
 use Rattle.bits.specs.Bits.{bits_of}
 use Rattle.bits.specs.Range.{range_fits}
 use Rattle.bits.proofs.BitRanges.{bits_all}
 use Rattle.replies.specs.declared.Reply.{Reply}
 use Rattle.replies.specs.declared.Reception.{Reception}
-use Rattle.replies.specs.Replies.{most_bits, reply_result}
+use Rattle.replies.specs.Replies.{reply_result}
 use Rattle.replies.specs.Reception.{received, after_of, Fits}
 use Rattle.replies.proofs.Kept.{start_fits}
 use Rattle.replies.proofs.Groups.{result_of}

@@ -1,7 +1,6 @@
 -- `data_bits` reads the word COUNT.
 -- Assumes nothing.
 use native.Mathlib.Omega.{arith}
-use borrow.Author.Rules.{rules}
 use Rattle.reply_words.proofs.Words.{too_long, no_count, small, counted}
 use Rattle.reply_words.proofs.data_bits.Goals as goal
 

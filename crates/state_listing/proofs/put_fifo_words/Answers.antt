@@ -1,14 +1,11 @@
 -- `put_fifo_words` meets its contract: the words that are left, put at the present place, give what all of them give.
 -- Assumes nothing.
-use mathlib.Core.List.{List}
-use mathlib.Core.Path.{◌≡◌, refl}
-use Prim.Native.Nat.{ℕ, ◌-◌, ◌≤◌}
+use Prim.Native.Nat.{◌-◌}
 use native.Mathlib.Omega.{arith}
 use lib.ListN.{length}
-use borrow.Author.Rules.{rules}
 use borrow.Author.Tests.{eq-eqb, ne_eqb}
-use Rattle.output.proofs.Pieces.{PartlyPut, all_put}
-use Rattle.state_listing.specs.State.{texts_from, fifo_word_text, all_fifo_words_text}
+use Rattle.output.proofs.Pieces.{all_put}
+use Rattle.state_listing.specs.State.{fifo_word_text}
 use Rattle.state_listing.proofs.State.{texts_none_put, text_put, text_empty, texts_all_put}
 use Rattle.state_listing.proofs.put_fifo_words.Goals as goal
 

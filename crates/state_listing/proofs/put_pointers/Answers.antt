@@ -1,13 +1,11 @@
 -- `put_pointers` meets its contract: the pointers that are left, put at the present place, give what all 16 give.
 -- Assumes nothing.
-use mathlib.Core.List.{List}
 use mathlib.Core.Path.{refl}
-use Prim.Native.Nat.{ℕ, ◌-◌, ◌≤◌}
+use Prim.Native.Nat.{◌-◌}
 use native.Mathlib.Omega.{arith}
-use borrow.Author.Rules.{rules}
 use Rattle.registers.specs.Parts.{pointers}
-use Rattle.output.proofs.Pieces.{PartlyPut, none_put, all_put}
-use Rattle.state_listing.specs.State.{fifo_count, texts_from, pointers_text, all_pointers_text}
+use Rattle.output.proofs.Pieces.{none_put, all_put}
+use Rattle.state_listing.specs.State.{fifo_count, pointers_text}
 use Rattle.state_listing.proofs.State.{text_put, texts_all_put}
 use Rattle.state_listing.proofs.put_pointers.Goals as goal
 

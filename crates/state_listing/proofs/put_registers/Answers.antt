@@ -1,13 +1,10 @@
 -- `put_registers` meets its contract: the registers that are left, put at the present place, give what all 16 give.
 -- Assumes nothing.
-use mathlib.Core.List.{List}
-use mathlib.Core.Path.{sym, ◌∙◌}
-use Prim.Native.Nat.{ℕ, ◌-◌, ◌≤◌}
+use mathlib.Core.Path.{sym}
+use Prim.Native.Nat.{◌-◌}
 use native.Mathlib.Omega.{arith}
-use borrow.Author.Rules.{rules}
-use borrow.Author.Tests.{not-true, not-false}
-use Rattle.output.proofs.Pieces.{PartlyPut, none_put, all_put}
-use Rattle.state_listing.specs.State.{address_count, texts_from, register_text, all_registers_text}
+use Rattle.output.proofs.Pieces.{none_put, all_put}
+use Rattle.state_listing.specs.State.{address_count, register_text}
 use Rattle.state_listing.proofs.State.{text_put, text_empty, texts_all_put}
 use Rattle.state_listing.proofs.put_registers.Goals as goal
 

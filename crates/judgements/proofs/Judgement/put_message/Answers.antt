@@ -2,7 +2,6 @@
 -- Assumes nothing.
 use mathlib.Core.Path.{◌∙◌, sym, ap}
 use native.Mathlib.Omega.{arith}
-use borrow.Author.Rules.{rules}
 use Rattle.output.specs.Block.{put_all}
 use Rattle.messages.proofs.Lengths.{sentence_short}
 use Rattle.fault_messages.proofs.Lengths.{fault_short}

@@ -1,6 +1,6 @@
 -- `program::RunState::end_line` meets its contract: a refused line's line, or the line's bits to take.
 -- Assumes nothing.
-use Rattle.std.proofs.Common.{◌≡◌, ℕ, List, length, sym, ap, ◌∙◌, arith, rules}
+use Rattle.std.proofs.Common.{◌≡◌, length, sym, ap, ◌∙◌, arith, rules}
 use Rattle.line_meanings.specs.Line.{line_bytes, hex_number}
 use Rattle.line_meanings.proofs.FitLines.{line_fits}
 use Rattle.program.proofs.LineEnd.{line_refused, line_accepted}

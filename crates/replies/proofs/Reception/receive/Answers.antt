@@ -1,6 +1,6 @@
 -- `Reception::receive` goes through a range bit by bit, up to its end or to a whole reply: a turn, and the end.
 -- Assumes nothing.
-use mathlib.Core.Path.{◌≡◌, ◌∙◌, sym}
+use mathlib.Core.Path.{◌∙◌, sym}
 use mathlib.Core.Bool.{false}
 use native.Mathlib.Omega.{arith}
 use Rattle.replies.proofs.ReceiveLoop.{goes_on, again, stops}

@@ -1,16 +1,8 @@
 -- `Writer::put_bytes` writes a byte at each turn.
 -- Assumes nothing.
-use mathlib.Core.Path.{◌≡◌, ap}
 use Prim.Native.Nat.{◌*◌, ◌-◌, ◌≤◌}
-use native.Mathlib.Omega.{arith}
-use lib.ListN.{get_or}
-use borrow.Author.Rules.{rules}
 use Rattle.bits.specs.Bits.{bits_of}
-use Rattle.bits.proofs.BitRanges.{length_bits}
-use Rattle.orders.specs.Streams.{number_bits}
 use Rattle.stream_writer.specs.Writer.{Written}
-use Rattle.stream_writer.proofs.Writing.{nothing_yet, left_as, onward}
-use Rattle.stream_writer.proofs.Rests.{room_left, byte_first}
 use Rattle.stream_writer.proofs.Writer.put_bytes.Given as goal
 
 abbrev pub invariant-loop-i : goal.invariant-loop-i

@@ -2,15 +2,13 @@
 -- Assumes nothing.
 use mathlib.Core.List.{List, ◌++◌}
 use mathlib.Core.Path.{◌≡◌, ◌∙◌, sym, ap}
-use Prim.Native.Nat.{ℕ, ◌+◌, ◌*◌, ◌-◌, ◌<◌, ◌≤◌}
+use Prim.Native.Nat.{ℕ, ◌+◌, ◌*◌, ◌-◌, ◌<◌}
 use native.Mathlib.Omega.{arith}
-use borrow.Author.Rules.{rules}
 use Rattle.bits.specs.Bits.{bit_of, bits_of}
 use Rattle.bits.specs.declared.Cursor.{Cursor}
 use Rattle.bits.specs.Place.{cursor_at, place_under}
-use Rattle.bits.proofs.Places.{Stands, stands, bits_left}
+use Rattle.bits.proofs.Places.{stands, bits_left}
 use Rattle.orders.specs.Streams.{number_bits, repeated}
-use Rattle.stream_writer.specs.Writer.{Written}
 use Rattle.stream_writer.proofs.Writing.{nothing_yet, in_other_words, left_as, onward}
 use Rattle.stream_writer.proofs.Rests.{room_left, eight_equal, repeated_length}
 use Rattle.stream_writer.proofs.Writer.put_eightfold.Goals as goal

@@ -2,11 +2,9 @@
 -- Assumes nothing.
 use mathlib.Core.List.{[], ◌∷◌}
 use mathlib.Core.Path.{◌≡◌, ap}
-use Prim.Native.Nat.{◌-◌, ◌/◌, ◌%◌, ◌^◌, ◌≤◌}
+use Prim.Native.Nat.{◌-◌, ◌/◌, ◌%◌, ◌^◌}
 use native.Mathlib.Omega.{arith}
-use borrow.Author.Rules.{rules}
 use Rattle.orders.specs.Streams.{number_bits}
-use Rattle.stream_writer.specs.Writer.{Written}
 use Rattle.stream_writer.proofs.Writing.{nothing_yet, left_as, onward}
 use Rattle.stream_writer.proofs.Rests.{room_left, number_bit, number_length}
 use Rattle.stream_writer.proofs.Writer.put_number.Goals as goal

@@ -1,14 +1,8 @@
 -- `Writer::put_number` writes a bit at each turn, the highest first.
 -- Assumes nothing.
-use mathlib.Core.List.{[], ◌∷◌}
-use mathlib.Core.Path.{◌≡◌, ap}
-use Prim.Native.Nat.{◌-◌, ◌/◌, ◌%◌, ◌^◌, ◌≤◌}
-use native.Mathlib.Omega.{arith}
-use borrow.Author.Rules.{rules}
+use Prim.Native.Nat.{◌-◌, ◌≤◌}
 use Rattle.orders.specs.Streams.{number_bits}
 use Rattle.stream_writer.specs.Writer.{Written}
-use Rattle.stream_writer.proofs.Writing.{nothing_yet, left_as, onward}
-use Rattle.stream_writer.proofs.Rests.{room_left, number_bit, number_length}
 use Rattle.stream_writer.proofs.Writer.put_number.Given as goal
 
 abbrev pub invariant-loop-left : goal.invariant-loop-left

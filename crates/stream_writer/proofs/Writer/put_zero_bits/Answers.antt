@@ -5,9 +5,7 @@ use mathlib.Core.Path.{◌≡◌, ap}
 use Prim.Native.Nat.{ℕ}
 use native.Mathlib.Omega.{arith}
 use lib.ListN.{length-replicate}
-use borrow.Author.Rules.{rules}
 use Rattle.orders.specs.Streams.{zeros}
-use Rattle.stream_writer.specs.Writer.{Written}
 use Rattle.stream_writer.proofs.Writing.{nothing_yet, left_as, onward}
 use Rattle.stream_writer.proofs.Rests.{room_left, zeros_bit}
 use Rattle.stream_writer.proofs.Writer.put_zero_bits.Goals as goal

@@ -1,15 +1,7 @@
 -- `Writer::put_zero_bits` writes one at each turn.
 -- Assumes nothing.
-use mathlib.Core.List.{[], ◌∷◌}
-use mathlib.Core.Path.{◌≡◌, ap}
-use Prim.Native.Nat.{ℕ}
-use native.Mathlib.Omega.{arith}
-use lib.ListN.{length-replicate}
-use borrow.Author.Rules.{rules}
 use Rattle.orders.specs.Streams.{zeros}
 use Rattle.stream_writer.specs.Writer.{Written}
-use Rattle.stream_writer.proofs.Writing.{nothing_yet, left_as, onward}
-use Rattle.stream_writer.proofs.Rests.{room_left, zeros_bit}
 use Rattle.stream_writer.proofs.Writer.put_zero_bits.Given as goal
 
 abbrev pub invariant-loop-left : goal.invariant-loop-left

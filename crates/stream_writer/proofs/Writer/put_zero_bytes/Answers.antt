@@ -4,9 +4,7 @@ use mathlib.Core.Path.{◌≡◌, ap}
 use Prim.Native.Nat.{ℕ, ◌*◌}
 use native.Mathlib.Omega.{arith}
 use lib.ListN.{length-replicate}
-use borrow.Author.Rules.{rules}
 use Rattle.orders.specs.Streams.{number_bits, zeros}
-use Rattle.stream_writer.specs.Writer.{Written}
 use Rattle.stream_writer.proofs.Writing.{nothing_yet, left_as, onward}
 use Rattle.stream_writer.proofs.Rests.{room_left, zeros_byte}
 use Rattle.stream_writer.proofs.Writer.put_zero_bytes.Goals as goal

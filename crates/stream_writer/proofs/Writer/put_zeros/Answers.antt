@@ -5,7 +5,6 @@ use mathlib.Core.Path.{◌≡◌, ◌∙◌, sym, ap}
 use Prim.Native.Nat.{ℕ, ◌+◌, ◌*◌, ◌/◌, ◌%◌}
 use native.Mathlib.Omega.{arith}
 use lib.ListN.{length-replicate}
-use borrow.Author.Rules.{rules}
 use Rattle.orders.specs.Streams.{zeros}
 use Rattle.stream_writer.proofs.Writing.{in_other_words, both_parts}
 use Rattle.stream_writer.proofs.Rests.{zeros_split}
