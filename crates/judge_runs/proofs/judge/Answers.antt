@@ -9,4 +9,4 @@ loop-turns-init c = started _ (omega arith) _ c.start-state.ensures
 
 pub loop-turns-preserved : goal.loop-turns-preserved
 loop-turns-preserved c =
-    after_block c.loop-turns.invariant (omega (arith, c.loop-turns.invariant.block)) c.judge_block-state.ensures
+    after_block c.loop-turns.invariant (omega (arith, c.read_input-got.auto.input, c.loop-turns.invariant.block)) c.judge_block-state.ensures

@@ -10,4 +10,4 @@ loop-turns-init c = started c.args.expected _ (omega arith) c.requires _ c.start
 pub loop-turns-preserved : goal.loop-turns-preserved
 loop-turns-preserved c =
     let i = c.loop-turns.invariant in
-    after_block _ i (omega (arith, i.block)) (omega (arith, i.long)) c.receive_block-state.ensures
+    after_block _ i (omega (arith, c.read_input-got.auto.input, i.block)) (omega (arith, c.receive_block-state.auto.buffer, i.long)) c.receive_block-state.ensures

@@ -1,6 +1,7 @@
 -- `Replying::receive_block` goes through a block line by line.
 -- Assumes nothing.
-use Rattle.std.proofs.Common.{◌-◌, length}
+use Prim.Native.Nat.{◌-◌}
+use lib.ListN.{length}
 use Rattle.replying.specs.Replying.{reply_run}
 use Rattle.replying.proofs.Parts.{Invariant}
 use Rattle.replying.proofs.Replying.receive_block.Given as goal
