@@ -1,6 +1,6 @@
 -- `judge_runs::judge`: from read to read the run stands for the characters that were read.
 -- Assumes nothing.
-use Rattle.std.proofs.Common.{sym, arith}
+use Rattle.std.proofs.Common.{arith}
 use Rattle.judge_runs.proofs.Statuses.{started, after_block}
 use Rattle.judge_runs.proofs.judge.Goals as goal
 

@@ -2,7 +2,6 @@
 -- Assumes nothing.
 use mathlib.Core.Path.{◌∙◌, sym, ap}
 use native.Mathlib.Nat.{add-zero}
-use borrow.Author.Rules.{rules}
 use Rattle.output.specs.Block.{block, put_all, put_if_fits}
 use Rattle.output.proofs.Pieces.{put_when_fits}
 use Rattle.byte_lines.specs.ByteLines.{frame_line}

@@ -2,7 +2,6 @@
 -- Assumes nothing.
 use mathlib.Core.Path.{◌∙◌, sym, ap}
 use native.Mathlib.Omega.{arith}
-use borrow.Author.Rules.{rules}
 use Rattle.output.specs.Ascii.{ascii}
 use Rattle.output.specs.Block.{put_all}
 use Rattle.reply_reports.proofs.Texts.{whole_line, no_header_line, cut_short_line, counted_put}

@@ -1,6 +1,6 @@
 -- `reply_runs::read_reply`: from read to read the run stands for the characters that were read.
 -- Assumes nothing.
-use Rattle.std.proofs.Common.{sym, arith}
+use Rattle.std.proofs.Common.{arith}
 use Rattle.reply_runs.proofs.Statuses.{started, after_block}
 use Rattle.reply_runs.proofs.read_reply.Goals as goal
 
