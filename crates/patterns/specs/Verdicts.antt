@@ -28,17 +28,17 @@ verdict_place (TooClose place) = place
 -- A pattern at a place, by the kind of the command before it, 0 for none, which asks nothing, and the zeros since: "15 when too few zeros lie ahead". After
 -- a whole command in time the rest is judged.
 abbrev pub judged : ℕ → ℕ → ℕ → Pattern → (Command → Verdict) → Verdict
-judged last zeros place unknown rest = Unknown place
-judged last zeros place cut rest = Cut place
-judged last zeros place (whole c) rest = cond (leb (zeros_asked last (command_kind c)) zeros) (rest c) (TooClose place)
+judged last since place unknown rest = Unknown place
+judged last since place cut rest = Cut place
+judged last since place (whole c) rest = cond (leb (zeros_asked last (command_kind c)) since) (rest c) (TooClose place)
 
 -- "a pattern begins at the first 1 after the one before". The first bits, so many as `inside` says, belong to the pattern before.
 unfoldable pub verdict_from : ℕ → ℕ → ℕ → ℕ → List ℕ → Verdict
-verdict_from last zeros place inside [] = Accepted
-verdict_from last zeros place (suc inside) (bit ∷ bits) = verdict_from last zeros (suc place) inside bits
-verdict_from last zeros place zero (zero ∷ bits) = verdict_from last (suc zeros) (suc place) zero bits
-verdict_from last zeros place zero (suc n ∷ bits) =
-    judged last zeros place (pattern_of (suc n ∷ bits)) (λ c. verdict_from (command_kind c) 0 (suc place) (width_of c - 1) bits)
+verdict_from last since place inside [] = Accepted
+verdict_from last since place (suc inside) (bit ∷ bits) = verdict_from last since (suc place) inside bits
+verdict_from last since place zero (zero ∷ bits) = verdict_from last (suc since) (suc place) zero bits
+verdict_from last since place zero (suc n ∷ bits) =
+    judged last since place (pattern_of (suc n ∷ bits)) (λ c. verdict_from (command_kind c) 0 (suc place) (width_of c - 1) bits)
 
 -- A stream from its first bit on.
 abbrev pub verdict_of : List ℕ → Verdict
