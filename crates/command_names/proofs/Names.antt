@@ -1,57 +1,58 @@
--- The table of names, place by place.
+-- The table of names: a name's entry among its entries has the kind that the name has among the commands.
 -- Assumes nothing.
-use mathlib.Core.Bool.{true, false}
+use mathlib.Core.Bool.{Bool, true, false, cond, not, ◌&&◌}
 use mathlib.Core.List.{List, [], ◌∷◌, map}
 use mathlib.Core.Path.{◌≡◌, ◌∙◌, refl, sym, ap}
-use Prim.Native.Nat.{ℕ, suc, ◌+◌, ◌≤◌, ◌<◌}
-use native.Mathlib.Numerals.{add-one}
-use native.Mathlib.Omega.{arith}
-use lib.ListN.{length, get_or, drop, drop_of_length-le, get_or-map}
-use lib.Seq.{drop-cons}
-use Rattle.output.specs.Ascii.{ascii}
-use Rattle.text_words.specs.Words.{words_from, words_in, same_word}
-use Rattle.command_names.specs.Names.{Named, commands, kind_among, kind_named, no_command, name_at, kind_at}
+use Prim.Native.Nat.{ℕ}
+use lib.Dec.{eqb}
+use denote.Ref.{Bor}
+use Rattle.std.proofs.Common.{Option, Some, None, MatchOption}
+use Rattle.std.specs.List.{find}
+use Rattle.std.specs.Option.{option_map, IsSomeAnd}
+use Rattle.bits.proofs.Truth.{both}
+use Rattle.text_words.specs.Words.{same_word}
+use Rattle.command_names.specs.Names.{Named, named, commands, kind_among, kind_named, known_kind}
 
--- The names as one text.
-abbrev pub names_text : List ℕ
-names_text =
-    ascii "lv1 bcr ecr cal sync wr-register rd-register wr-fifo rd-fifo wr-front-end rd-front-end wr-receiver en-data-take global-reset-mcc global-reset-fe"
+abbrev pub Entry : Type 0
+Entry = Bor (List ℕ) × ℕ
 
-names_text_lem : map (λ (c : Named). c.name) commands ≡ words_in names_text
-unfolding words_from
-names_text_lem = refl
+abbrev pub as_named : Entry → Named
+as_named e = named e.0.now e.1
 
-pub name_told : (place : ℕ) → get_or (words_in names_text) place [] ≡ name_at place
-name_told place = ap (λ (l : List (List ℕ)). get_or l place []) (sym names_text_lem) ∙ get_or-map (λ (c : Named). c.name) commands place no_command
+unset : (b : Bool) → not b ≡ true → b ≡ false
+unset true e = sym e
+unset false e = refl
 
--- The kinds as one list.
-abbrev pub kinds : List ℕ
-kinds = map (λ (c : Named). c.kind) commands
+abbrev pub kinds_known : List Entry → Bool
+kinds_known [] = true
+kinds_known (e ∷ es) = not (eqb e.1 0) && kinds_known es
 
-pub kind_told : (place : ℕ) → get_or kinds place 0 ≡ kind_at place
-kind_told place = get_or-map (λ (c : Named). c.kind) commands place no_command
+module _ (name : List ℕ) where
+  abbrev pub has_name : Entry → Bool
+  has_name e = same_word name e.0.now
 
--- A name among the commands from a place on.
-pub record NameLeft (name : List ℕ) (place : ℕ) : Type 0 where
-  pub within : place ≤ length commands
-  pub same : kind_among (drop place commands) name ≡ kind_named name
-
-pub name_first : (name : List ℕ) → NameLeft name 0
-name_first name = record { within = omega arith; same = refl }
-
-module _ {name : List ℕ} {place : ℕ} (n : NameLeft name place) where
-  module _ (h : place < length commands) where
-    here : kind_among (get_or commands place no_command ∷ drop (suc place) commands) name ≡ kind_named name
-    here = rw (drop-cons commands place no_command h) at n.same
-
-    pub name_found : same_word name (name_at place) ≡ true → kind_at place ≡ kind_named name
-    unfolding kind_among
-    name_found e = rw e at here
-
-    pub name_next : same_word name (name_at place) ≡ false → NameLeft name (place + 1)
-    unfolding kind_among
-    name_next e = record { within = omega arith; same = rw add-one (rw e at here) }
-
-  pub name_none : length commands ≤ place → 0 ≡ kind_named name
+  found : (es : List Entry) → kinds_known es ≡ true
+      → option_map (λ (e : Entry). e.1) (find has_name es) ≡ known_kind (kind_among (map as_named es) name)
   unfolding kind_among
-  name_none h = rw (drop_of_length-le commands {i = place} h) at n.same
+  found [] k = refl
+  found (e ∷ es) k = let p = both (not (eqb e.1 0)) (kinds_known es) k in by (has_name e) (unset (eqb e.1 0) p.0) (found es p.1)
+    where
+      by : (b : Bool) → eqb e.1 0 ≡ false
+          → option_map (λ (f : Entry). f.1) (find has_name es) ≡ known_kind (kind_among (map as_named es) name)
+          → option_map (λ (f : Entry). f.1) (cond b (Some e) (find has_name es)) ≡ known_kind (cond b e.1 (kind_among (map as_named es) name))
+      by true z f = rw z
+      by false z f = f
+
+  -- by the entry that a search finds, and the kind that is read off it
+  pub kind_told : (table : List Entry) → map as_named table ≡ commands → kinds_known table ≡ true
+      → (o : Option (Bor Entry)) (r : Option ℕ) (Gives : Bor Entry → ℕ → Type 0)
+      → option_map (λ (e : Bor Entry). e.now) o ≡ find has_name table → ((e : Bor Entry) (k : ℕ) → Gives e k → k ≡ e.now.1)
+      → MatchOption o (r ≡ None) (λ e. IsSomeAnd r (Gives e)) → r ≡ known_kind (kind_named name)
+  kind_told table t k o r Gives e g m =
+      read o r m ∙ ap (option_map (λ (f : Entry). f.1)) e ∙ found table k ∙ ap (λ (cs : List Named). known_kind (kind_among cs name)) t
+    where
+      read : (o : Option (Bor Entry)) (r : Option ℕ) → MatchOption o (r ≡ None) (λ e. IsSomeAnd r (Gives e))
+          → r ≡ option_map (λ (f : Entry). f.1) (option_map (λ (e : Bor Entry). e.now) o)
+      read None r m = m
+      read (Some e) (Some k) m = ap Some (g e k m)
+      read (Some e) None m = absurd m

@@ -1,6 +1,6 @@
 -- The names of the commands, and how many fields each has (document 01, "Hunting" and "Slow commands"; the forms are ours).
 -- Assumes nothing.
-use Rattle.std.specs.Prelude.{Bool, cond, List, [], ◌∷◌, ℕ, ◌+◌, get_or}
+use Rattle.std.specs.Prelude.{Bool, cond, List, [], ◌∷◌, ℕ, ◌+◌, Option, Some, None, eqb}
 use Rattle.records.specs.Records.{kind_lv1, kind_fast, kind_slow}
 use Rattle.orders.specs.Fields.{uses_address, uses_value, is_frame_kind}
 use Rattle.output.specs.Ascii.{ascii}
@@ -41,19 +41,13 @@ kind_among (c ∷ cs) name = cond (same_word name c.name) c.kind (kind_among cs 
 abbrev pub kind_named : List ℕ → ℕ
 kind_named name = kind_among commands name
 
+-- A kind, if it is one.
+abbrev pub known_kind : ℕ → Option ℕ
+known_kind kind = cond (eqb kind 0) None (Some kind)
+
 -- Its fields: the address, the value, the frame, those that it uses, in this order.
 abbrev pub one_if : Bool → ℕ
 one_if b = cond b 1 0
 
 abbrev pub field_count : ℕ → ℕ
 field_count kind = one_if (uses_address kind) + (one_if (uses_value kind) + one_if (is_frame_kind kind))
-
--- A command by its place in the table.
-abbrev pub no_command : Named
-no_command = named [] 0
-
-abbrev pub name_at : ℕ → List ℕ
-name_at place = (get_or commands place no_command).name
-
-abbrev pub kind_at : ℕ → ℕ
-kind_at place = (get_or commands place no_command).kind

@@ -1,3 +1,3 @@
 pub mod Rooms
 mod Orders
-mod Outcomes
+pub mod Outcomes

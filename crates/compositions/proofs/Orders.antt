@@ -6,6 +6,7 @@ use mathlib.Core.Path.{◌≡◌, ◌∙◌, refl, sym}
 use Prim.Native.Nat.{ℕ, ◌+◌}
 use native.Mathlib.Omega.{arith}
 use lib.ListN.{length, length-append, length-replicate}
+use Rattle.std.proofs.Common.{Option}
 use borrow.Author.Tests.{eq-eqb, ne_eqb}
 use Rattle.bits.proofs.Truth.{clash}
 use Rattle.plans.specs.Plan.{default_plan}
@@ -20,26 +21,27 @@ use Rattle.composing.specs.Checked.{WidthOf, Room, capped}
 use Rattle.gathered_lines.specs.declared.Gathered.{Gathered}
 use Rattle.gathered_lines.specs.Gathering.{LineText, empty_line}
 use Rattle.order_refusals.specs.declared.Refusal.{Refusal}
-use Rattle.order_refusals.specs.Refusals.{refusal, ordered, order_refusal, refusal_in, orders_in}
+use Rattle.order_refusals.specs.Refusals.{refused_if, ordered, order_refusal, refusal_in, orders_in}
 use Rattle.compositions.specs.declared.Composition.{Composition}
 use Rattle.compositions.specs.Compositions.{output_limit, passed_with, end_of, end_with, unless_refused, with_lines, still_lines, order_and, WellFormed}
 use Rattle.compositions.specs.Compositions.{AddsOrder}
 use Rattle.compositions.proofs.Rooms.{has_room, gives_room, no_room, beyond, capped_least, capped_whole}
 
 module _ (s : Composition) (out : List ℕ) (w : WellFormed s out) (n : ℕ) (o : Order) (lent : List ℕ)
-    (told : Refusal) (e : told ≡ order_refusal s.context n o (length lent)) where
-  passed_refused : (told.number ≡ 0 → ⊥) → AddsOrder s out n o lent (passed_with s n told) out
+    (told : Option Refusal) (e : refused_if told ≡ order_refusal s.context n o (length lent)) where
+  passed_refused : ((refused_if told).number ≡ 0 → ⊥) → AddsOrder s out n o lent (passed_with s n told) out
   unfolding still_lines order_and
   passed_refused z = record {
     well_formed = record { fits = w.fits; placed = w.placed; short = omega arith; whole = w.whole };
     fresh = refl;
-    same = λ texts. rw (← e) (simp (ne_eqb told.number 0 z));
+    same = λ texts. rw (← e) (simp (ne_eqb (refused_if told).number 0 z));
   }
 
-  pub order_refused : (told.number ≡ 0 → ⊥) → (t : Composition) → t ≡ passed_with s n told → AddsOrder s out n o lent t out
+  pub order_refused : ((refused_if told).number ≡ 0 → ⊥) → (t : Composition) → t ≡ passed_with s n told → AddsOrder s out n o lent t out
   order_refused z t p = rw p (passed_refused z)
 
-  module _ (z : told.number ≡ 0) (width ahead bits : ℕ) (f : WidthOf o width) (a : ahead ≡ capped (s.bits + o.zeros)) (b : bits ≡ capped (ahead + width))
+  module _ (z : (refused_if told).number ≡ 0) (width ahead bits : ℕ) (f : WidthOf o width)
+      (a : ahead ≡ capped (s.bits + o.zeros)) (b : bits ≡ capped (ahead + width))
       (next : Context) (c : next ≡ context_after default_plan s.context o) (line : Gathered) (empty : line ≡ empty_line) where
     abbrev x : Ordered
     x = ordered o lent
@@ -55,7 +57,7 @@ module _ (s : Composition) (out : List ℕ) (w : WellFormed s out) (n : ℕ) (o 
     goes_on : (v : Writer) (now : List ℕ) (texts : List LineText) → let more = stream_of (orders_in texts) in
         end_with (later v) now more ≡ end_with s out (order_bits x ++ more) → still_lines (later v) now texts ≡ order_and s out n o lent texts
     unfolding still_lines with_lines order_and
-    goes_on v now texts same = rw (← e) (simp (eq-eqb told.number 0 z) (λ i. unless_refused (refusal_in (c i) n texts) (same i)))
+    goes_on v now texts same = rw (← e) (simp (eq-eqb (refused_if told).number 0 z) (λ i. unless_refused (refusal_in (c i) n texts) (same i)))
 
     -- there is room
     module _ (r : room_fits bits output_limit ≡ true) where

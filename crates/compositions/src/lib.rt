@@ -2,6 +2,7 @@
 #![tactic(auto)]
 
 ghost use Rattle.std.specs.Prelude.{◌≡◌, not, eqb};
+ghost use Rattle.order_refusals.specs.Refusals.{refused_if};
 ghost use Rattle.compositions.specs.Compositions.{start, passed_with, WellFormed, AddsOrder, Finishes};
 
 use gathered_lines::Gathered;
@@ -24,15 +25,8 @@ pub struct Composition {
     // The present line so far, and how many lines have ended.
     pub line: Gathered,
     pub lines: u64,
-    // What has ended the run.
-    pub refusal: Refusal,
-}
-
-// The outcome: a refusal, or so many bytes of the stream, from the output's first on.
-#[derive(Clone, Copy)]
-pub struct Outcome {
-    pub refusal: Refusal,
-    pub bytes: usize,
+    // What has ended the run, if anything has.
+    pub refusal: Option<Refusal>,
 }
 
 impl Composition {
@@ -45,31 +39,26 @@ impl Composition {
             bits: 0,
             line: Gathered::empty(),
             lines: 0,
-            refusal: Refusal::none(),
+            refusal: None,
         }
     }
 
     // Whether a refusal has ended the run.
     pub fn is_over(self) -> bool
-        ensures { result ≡ not (eqb self.refusal.number 0) }
+        ensures { result ≡ not (eqb (refused_if self.refusal).number 0) }
     {
-        let refusal = self.refusal;
-        refusal.number != 0
+        self.refusal.is_some()
     }
 
     // A line has ended, with a refusal or none, and leaves nothing to the stream.
-    pub fn passed(self, lines: u64, refusal: Refusal) -> Composition
+    pub fn passed(self, lines: u64, refusal: Option<Refusal>) -> Composition
         ensures { result ≡ passed_with self lines refusal }
     {
-        let context = self.context;
-        let writer = self.writer;
         Composition {
-            context: context,
-            writer: writer,
-            bits: self.bits,
             line: Gathered::empty(),
-            lines: lines,
-            refusal: refusal,
+            lines,
+            refusal,
+            ..self
         }
     }
 
@@ -85,9 +74,8 @@ impl Composition {
         ensures { AddsOrder self out.old lines order lent.now result out.new }
     {
         let context = self.context;
-        let refusal = Refusal::of_order(context, lines, order, lent.len());
-        if refusal.number != 0 {
-            return self.passed(lines, refusal);
+        if let Some(refusal) = Refusal::of_order(context, lines, order, lent.len()) {
+            return self.passed(lines, Some(refusal));
         }
         let width = composing::command_width(order, lent.len());
         let ahead = composing::add_bits(self.bits, order.zeros);
@@ -96,11 +84,11 @@ impl Composition {
         let writer = self.writer;
         let mut later = Composition {
             context: next,
-            writer: writer,
-            bits: bits,
+            writer,
+            bits,
             line: Gathered::empty(),
-            lines: lines,
-            refusal: refusal,
+            lines,
+            refusal: None,
         };
         if composing::room_fits(bits, OUTPUT_LIMIT) {
             let written = composing::put_order(writer, out, order, lent);
@@ -109,35 +97,19 @@ impl Composition {
         later
     }
 
-    // The outcome, if the run ends here: the last byte is filled up.
-    pub fn outcome(self, out: &mut [u8; OUTPUT_LIMIT]) -> Outcome
+    // The outcome, if the run ends here: a refusal, or so many bytes of the stream, from the output's first on, the last one filled up.
+    pub fn outcome(self, out: &mut [u8; OUTPUT_LIMIT]) -> Result<usize, Refusal>
         requires { WellFormed self out.old }
         ensures { Finishes self out.old result out.new }
     {
-        let refusal = self.refusal;
-        if refusal.number != 0 {
-            return Outcome {
-                refusal: refusal,
-                bytes: 0,
-            };
+        if let Some(refusal) = self.refusal {
+            return Err(refusal);
         }
         if !composing::room_fits(self.bits, OUTPUT_LIMIT) {
-            return Outcome {
-                refusal: Refusal {
-                    number: order_refusals::STREAM_TOO_LONG,
-                    line: 0,
-                    reason: order_refusals::LONG_STREAM,
-                    asked: 0,
-                    given: 0,
-                },
-                bytes: 0,
-            };
+            return Err(Refusal::LongStream);
         }
         let writer = self.writer;
         writer.finish(out);
-        Outcome {
-            refusal: Refusal::none(),
-            bytes: ((self.bits + 7) / 8) as usize,
-        }
+        Ok(((self.bits + 7) / 8) as usize)
     }
 }

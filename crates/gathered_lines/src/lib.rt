@@ -8,7 +8,8 @@ ghost use Rattle.gathered_lines.specs.Gathering.{empty_line, Gathers};
 
 use text_words::LINE_LIMIT;
 
-// The present line so far, in a buffer that is lent: its characters up to the limit, and whether it has more.
+// The present line so far, in a buffer that is lent: its characters up to the limit, and whether it has more. The memory of a run is fixed and its caller's,
+// so that the length stands beside the buffer.
 #[derive(Clone, Copy)]
 pub struct Gathered {
     pub length: usize,

@@ -5,6 +5,7 @@ ghost use Rattle.compositions.specs.Compositions.{WellFormed};
 ghost use Rattle.line_ends.specs.LineEnds.{Lent, EndsLine};
 
 use compositions::{Composition, OUTPUT_LIMIT};
+use order_messages::Reason;
 use order_refusals::Refusal;
 
 // The present line has ended.
@@ -17,20 +18,18 @@ pub fn end_line(
     requires { WellFormed state out.old × Lent line.now frame.old }
     ensures { EndsLine state line.now out.old result out.new }
 {
-    let lines = std::num::wrapping_add_u64(state.lines, 1);
-    let gathered = state.line;
-    if gathered.long {
-        return state.passed(lines, Refusal::wrong_line(lines, order_refusals::LONG_LINE));
+    let lines = state.lines.wrapping_add(1);
+    if state.line.long {
+        let refusal = Refusal::Line {
+            line: lines,
+            reason: Reason::LongLine,
+        };
+        return state.passed(lines, Some(refusal));
     }
-    let length = gathered.length;
-    let read = order_lines::read_line(&line[..length], frame);
-    if read.reason != 0 {
-        return state.passed(lines, Refusal::wrong_line(lines, read.reason));
+    let length = state.line.length;
+    match order_lines::read_line(&line[..length], frame) {
+        Err(fault) => state.passed(lines, Some(Refusal::of_fault(lines, fault))),
+        Ok(None) => state.passed(lines, None),
+        Ok(Some(read)) => state.with_order(lines, read.order, &frame[..read.bytes], out),
     }
-    if read.blank {
-        return state.passed(lines, Refusal::none());
-    }
-    let order = read.order;
-    let bytes = read.bytes;
-    state.with_order(lines, order, &frame[..bytes], out)
 }

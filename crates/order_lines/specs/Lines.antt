@@ -1,14 +1,16 @@
 -- What a line of a text of orders means: nothing, an order, or why it is none (document 02, F-2; the text is ours).
 -- Assumes nothing.
-use Rattle.std.specs.Prelude.{Bool, true, false, cond, ◌&&◌, ◌||◌, List, [], ◌≡◌, ℕ, ◌+◌, ◌≤◌, eqb, length, get_or, take}
+use Rattle.std.specs.Prelude.{Bool, true, false, cond, ◌||◌, List, [], ◌≡◌, ℕ, ◌+◌, ◌≤◌}
+use Rattle.std.specs.Prelude.{Option, Some, None, Result, Ok, Err, IfSome, IfOk, eqb, length, get_or, take}
 use Rattle.orders.specs.declared.Order.{Order}
 use Rattle.orders.specs.Fields.{order}
 use Rattle.text_words.specs.Words.{line_limit, words_in, words_of}
-use Rattle.text_numbers.specs.declared.Number.{Number}
 use Rattle.text_frames.specs.Frames.{frame_limit, Frame}
 use Rattle.command_names.specs.Names.{kind_named, field_count}
 use Rattle.order_fields.specs.Fields.{address_field, value_field, frame_field, zeros_field}
-use Rattle.order_lines.specs.declared.OrderLine.{OrderLine}
+use Rattle.order_lines.specs.declared.LineOrder.{LineOrder}
+use Rattle.order_lines.specs.declared.LineFault.{LineFault}
+use Rattle.order_lines.specs.declared.LineFault.TheVariants.{UnknownName, OtherCount, WrongField}
 
 -- A line without words; the reason why one is no order, 0 for none; its order, whose frame is the bytes lent here.
 pub record LineMeaning : Type 0 where
@@ -37,11 +39,12 @@ abbrev pub wrong_field : ℕ
 wrong_field = 3
 
 -- An order of its fields; one of them wrong is the third reason.
-abbrev pub order_line : ℕ → Number → Number → Number → Frame → LineMeaning
-order_line kind zeros address value frame =
-    cond (zeros.right && (address.right && (value.right && frame.right)))
-    (record { blank = false; reason = 0; order = order kind zeros.value address.value value.value 0 frame.bits; lent = frame.bytes })
-    (wrong_line wrong_field)
+abbrev pub order_line : ℕ → Option ℕ → Option ℕ → Option ℕ → Frame → LineMeaning
+order_line kind (Some ahead) (Some address) (Some value) frame =
+    cond frame.right (record { blank = false; reason = 0; order = order kind ahead address value 0 frame.bits; lent = frame.bytes }) (wrong_line wrong_field)
+order_line kind (Some ahead) (Some address) None frame = wrong_line wrong_field
+order_line kind (Some ahead) None value frame = wrong_line wrong_field
+order_line kind None address value frame = wrong_line wrong_field
 
 unfoldable pub fields_meaning : ℕ → List (List ℕ) → LineMeaning
 fields_meaning kind words =
@@ -62,12 +65,24 @@ abbrev pub line_meaning : List ℕ → LineMeaning
 line_meaning line = words_meaning (words_of line)
 
 -- What a call that reads a line answers, with the bytes that it then lends.
-abbrev pub meant : OrderLine → List ℕ → LineMeaning
-meant r buffer = record { blank = r.blank; reason = r.reason; order = r.order; lent = take r.bytes buffer }
+abbrev pub reason_of : LineFault → ℕ
+reason_of UnknownName = unknown_name
+reason_of OtherCount = other_count
+reason_of WrongField = wrong_field
 
-pub record ReadAs (meaning : LineMeaning) (buffer : List ℕ) (r : OrderLine) : Type 0 where
+abbrev pub meant : Result (Option LineOrder) LineFault → List ℕ → LineMeaning
+meant (Ok None) buffer = blank_line
+meant (Ok (Some r)) buffer = record { blank = false; reason = 0; order = r.order; lent = take r.bytes buffer }
+meant (Err fault) buffer = wrong_line (reason_of fault)
+
+-- Of a line's fields, where one is wrong if nothing is read.
+abbrev pub fields_read : Option LineOrder → Result (Option LineOrder) LineFault
+fields_read None = Err WrongField
+fields_read (Some r) = Ok (Some r)
+
+pub record ReadAs (meaning : LineMeaning) (buffer : List ℕ) (r : Result (Option LineOrder) LineFault) : Type 0 where
   pub same : meant r buffer ≡ meaning
-  pub within : r.bytes ≤ frame_limit
+  pub within : IfOk r (λ o. IfSome o (λ x. x.bytes ≤ frame_limit))
   pub long : length buffer ≡ frame_limit
 
 -- What reading the fields asks: a kind with its count of fields, and the count of words.

@@ -3,6 +3,8 @@
 use Rattle.std.specs.Prelude.{Bool, cond, List, [], ◌++◌, ℕ, eqb}
 use Rattle.output.specs.Ascii.{ascii}
 use Rattle.decimal_digits.specs.Decimal.{labelled}
+use Rattle.order_messages.specs.declared.Reason.{Reason}
+use Rattle.order_messages.specs.declared.Reason.TheVariants.{UnknownName, OtherCount, WrongField, OtherBits, LongLine, FewZeros}
 
 -- An order that is refused (document 02, F-2), by a reason, and the two numbers that some have: the frame bits or zeros that are asked, and those that the
 -- line gives. Reason 7 is the whole stream's, and has no line.
@@ -24,3 +26,28 @@ order_reason reason asked given =
 unfoldable pub order_sentence : ℕ → ℕ → ℕ → ℕ → List ℕ
 order_sentence reason line asked given =
     cond (eqb reason 7) (ascii "the stream is longer than 1048576 bytes\n") (labelled (ascii "line ") line (ascii ": ") ++ order_reason reason asked given)
+
+-- A reason in numbers: its own, and the two that some have.
+abbrev pub reason_number : Reason → ℕ
+reason_number UnknownName = 1
+reason_number OtherCount = 2
+reason_number WrongField = 3
+reason_number (OtherBits asked given) = 4
+reason_number LongLine = 5
+reason_number (FewZeros asked given) = 6
+
+abbrev pub asked_of : Reason → ℕ
+asked_of (OtherBits asked given) = asked
+asked_of (FewZeros asked given) = asked
+asked_of _ = 0
+
+abbrev pub given_of : Reason → ℕ
+given_of (OtherBits asked given) = given
+given_of (FewZeros asked given) = given
+given_of _ = 0
+
+abbrev pub reason_text : Reason → List ℕ
+reason_text reason = order_reason (reason_number reason) (asked_of reason) (given_of reason)
+
+abbrev pub sentence_of : Reason → ℕ → List ℕ
+sentence_of reason line = order_sentence (reason_number reason) line (asked_of reason) (given_of reason)

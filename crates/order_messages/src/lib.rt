@@ -3,7 +3,18 @@
 
 ghost use Rattle.std.specs.Prelude.{◌≡◌, ◌+◌, ◌≤◌, length};
 ghost use Rattle.output.specs.Block.{block, put_all};
-ghost use Rattle.order_messages.specs.OrderSentences.{asked_and_given, order_numbers, order_reason, order_sentence};
+ghost use Rattle.order_messages.specs.OrderSentences.{asked_and_given, reason_text, sentence_of};
+
+// Why an order on a line is refused: its line is none, its frame has another count of bits than CNT's, its line is too long, or too few zeros are ahead.
+#[derive(Clone, Copy, PartialEq, Eq, Debug)]
+pub enum Reason {
+    UnknownName,
+    OtherCount,
+    WrongField,
+    OtherBits { asked: u64, given: u64 },
+    LongLine,
+    FewZeros { asked: u64, given: u64 },
+}
 
 // Two numbers: what is asked, and what a line gives.
 fn put_numbers(
@@ -21,59 +32,45 @@ fn put_numbers(
     decimal_digits::put_labelled(out, place, b"", given, b"\n")
 }
 
-// Why an order is refused, where two numbers tell it.
-fn put_order_numbers(out: &mut [u8], at: usize, frame: bool, asked: u64, given: u64) -> usize
-    requires { at + length (order_numbers frame asked given) ≤ length out.old }
-    ensures { block out.new result ≡ put_all out.old at (order_numbers frame asked given) }
+// Why an order is refused.
+#[tactic(auto, unfolding(crate::specs::OrderSentences::order_reason, crate::specs::OrderSentences::order_numbers))]
+fn put_order_reason(out: &mut [u8], at: usize, reason: Reason) -> usize
+    requires { at + length (reason_text reason) ≤ length out.old }
+    ensures { block out.new result ≡ put_all out.old at (reason_text reason) }
 {
-    if frame {
-        return put_numbers(
+    match reason {
+        Reason::UnknownName => output::put_bytes(out, at, b"no command has this name\n"),
+        Reason::OtherCount => {
+            output::put_bytes(out, at, b"the command has another count of fields\n")
+        }
+        Reason::WrongField => output::put_bytes(out, at, b"a field is no number of its size\n"),
+        Reason::OtherBits { asked, given } => put_numbers(
             out,
             at,
             b"CNT asks for ",
             asked,
             b" frame bits, and the line gives ",
             given,
-        );
+        ),
+        Reason::LongLine => {
+            output::put_bytes(out, at, b"the line is longer than 32768 characters\n")
+        }
+        Reason::FewZeros { asked, given } => put_numbers(
+            out,
+            at,
+            b"the timing table asks for ",
+            asked,
+            b" zeros ahead of this command, and the line gives ",
+            given,
+        ),
     }
-    put_numbers(
-        out,
-        at,
-        b"the timing table asks for ",
-        asked,
-        b" zeros ahead of this command, and the line gives ",
-        given,
-    )
 }
 
-// Why an order is refused.
-fn put_order_reason(out: &mut [u8], at: usize, reason: u8, asked: u64, given: u64) -> usize
-    requires { at + length (order_reason reason asked given) ≤ length out.old }
-    ensures { block out.new result ≡ put_all out.old at (order_reason reason asked given) }
+// The whole sentence for an order that is refused: its line's number, and why.
+pub fn put_order(out: &mut [u8], at: usize, reason: Reason, line: u64) -> usize
+    requires { at + length (sentence_of reason line) ≤ length out.old }
+    ensures { block out.new result ≡ put_all out.old at (sentence_of reason line) }
 {
-    if reason == 1 {
-        return output::put_bytes(out, at, b"no command has this name\n");
-    }
-    if reason == 2 {
-        return output::put_bytes(out, at, b"the command has another count of fields\n");
-    }
-    if reason == 3 {
-        return output::put_bytes(out, at, b"a field is no number of its size\n");
-    }
-    if reason == 5 {
-        return output::put_bytes(out, at, b"the line is longer than 32768 characters\n");
-    }
-    put_order_numbers(out, at, reason == 4, asked, given)
-}
-
-// The whole sentence for an order that is refused: its line's number, and why; or that the stream is too long.
-pub fn put_order(out: &mut [u8], at: usize, reason: u8, line: u64, asked: u64, given: u64) -> usize
-    requires { at + length (order_sentence reason line asked given) ≤ length out.old }
-    ensures { block out.new result ≡ put_all out.old at (order_sentence reason line asked given) }
-{
-    if reason == 7 {
-        return output::put_bytes(out, at, b"the stream is longer than 1048576 bytes\n");
-    }
     let next = decimal_digits::put_labelled(out, at, b"line ", line, b": ");
-    put_order_reason(out, next, reason, asked, given)
+    put_order_reason(out, next, reason)
 }

@@ -4,100 +4,105 @@
 ghost use Rattle.std.specs.Prelude.{◌≡◌, length};
 ghost use Rattle.output.specs.Block.{block_length, block, put_all};
 ghost use Rattle.layout.specs.ListingLines.{refused_line};
-ghost use Rattle.order_refusals.specs.Refusals.{refusal, no_refusal, order_refusal, message_of};
+ghost use Rattle.order_lines.specs.Lines.{reason_of};
+ghost use Rattle.order_refusals.specs.Refusals.{refusal, order_refusal, refused, refused_if, message_of};
 
+use contexts::OrderFault;
+use order_lines::LineFault;
+use order_messages::Reason;
 use orders::{Context, Order};
 
-// A refusal: its number, 0 for none; the line's number from 1, 0 for the whole stream; the reason for the message, and the two numbers that some reasons
-// have.
-#[derive(Clone, Copy)]
-pub struct Refusal {
-    pub number: u8,
-    pub line: u64,
-    pub reason: u8,
-    pub asked: u64,
-    pub given: u64,
+// A refusal: a line by its number from 1, and why; or that the whole stream is too long.
+#[derive(Clone, Copy, PartialEq, Eq, Debug)]
+pub enum Refusal {
+    Line { line: u64, reason: Reason },
+    LongStream,
 }
 
 // The refusal numbers.
 const WRONG_ORDER: u8 = 9;
 
-pub const STREAM_TOO_LONG: u8 = 11;
+const TOO_FEW_ZEROS: u8 = 10;
 
-// The reasons beside those of `order_lines`.
-const OTHER_BITS: u8 = 4;
-
-pub const LONG_LINE: u8 = 5;
-
-const FEW_ZEROS: u8 = 6;
-
-pub const LONG_STREAM: u8 = 7;
+const STREAM_TOO_LONG: u8 = 11;
 
 impl Refusal {
-    pub fn none() -> Refusal
-        ensures { result ≡ no_refusal }
+    // A line that is no order.
+    pub fn of_fault(line: u64, fault: LineFault) -> Refusal
+        ensures { refused result ≡ refusal 9 line (reason_of fault) 0 0 }
     {
-        Refusal {
-            number: 0,
-            line: 0,
-            reason: 0,
-            asked: 0,
-            given: 0,
+        let reason = match fault {
+            LineFault::UnknownName => Reason::UnknownName,
+            LineFault::OtherCount => Reason::OtherCount,
+            LineFault::WrongField => Reason::WrongField,
+        };
+        Refusal::Line { line, reason }
+    }
+
+    // The refusal of an order that is read, if it is refused, by the bytes lent for its frame.
+    pub fn of_order(context: Context, line: u64, order: Order, bytes: usize) -> Option<Refusal>
+        ensures { refused_if result ≡ order_refusal context line order bytes }
+    {
+        match contexts::check(context, order, bytes) {
+            Ok(()) => None,
+            Err(OrderFault::WrongOrder) => {
+                let reason = Reason::OtherBits {
+                    asked: order_kinds::frame_count(order.kind, context.cnt),
+                    given: order.bits,
+                };
+                Some(Refusal::Line { line, reason })
+            }
+            Err(OrderFault::TooFewZeros) => {
+                let reason = Reason::FewZeros {
+                    asked: timing::zeros_asked(context.last, order.kind as u8) as u64,
+                    given: order.zeros,
+                };
+                Some(Refusal::Line { line, reason })
+            }
         }
     }
 
-    // A line that is refused, by its reason alone.
-    pub fn wrong_line(line: u64, reason: u8) -> Refusal
-        ensures { result ≡ refusal 9 line reason 0 0 }
+    pub fn number(self) -> u8
+        ensures { result ≡ (refused self).number }
     {
-        Refusal {
-            number: WRONG_ORDER,
-            line: line,
-            reason: reason,
-            asked: 0,
-            given: 0,
+        match self {
+            Refusal::Line {
+                reason: Reason::FewZeros { .. },
+                ..
+            } => TOO_FEW_ZEROS,
+            Refusal::Line { .. } => WRONG_ORDER,
+            Refusal::LongStream => STREAM_TOO_LONG,
         }
     }
 
-    // The refusal of an order that is read, by the bytes lent for its frame.
-    pub fn of_order(context: Context, line: u64, order: Order, bytes: usize) -> Refusal
-        ensures { result ≡ order_refusal context line order bytes }
+    // The line's number from 1; 0 for the whole stream.
+    pub fn line(self) -> u64
+        ensures { result ≡ (refused self).line }
     {
-        let number = contexts::number(context, order, bytes);
-        if number == 0 {
-            return Refusal::none();
-        }
-        if number == WRONG_ORDER {
-            return Refusal {
-                number: WRONG_ORDER,
-                line: line,
-                reason: OTHER_BITS,
-                asked: order_kinds::frame_count(order.kind, context.cnt),
-                given: order.bits,
-            };
-        }
-        Refusal {
-            number: number,
-            line: line,
-            reason: FEW_ZEROS,
-            asked: timing::zeros_asked(context.last, order.kind as u8) as u64,
-            given: order.zeros,
+        match self {
+            Refusal::Line { line, .. } => line,
+            Refusal::LongStream => 0,
         }
     }
 
     // The line that a refusal prints; the answer is how many bytes it takes.
     pub fn put_line(self, out: &mut [u8]) -> usize
         requires { length out.old ≡ block_length }
-        ensures { block out.new result ≡ put_all out.old 0 (refused_line self.number self.line) }
+        ensures { block out.new result ≡ put_all out.old 0 (refused_line (refused self).number (refused self).line) }
     {
-        layout::refused_line(out, 0, self.number, self.line)
+        layout::refused_line(out, 0, self.number(), self.line())
     }
 
     // The sentence of a refusal; the answer is how many bytes it takes.
     pub fn put_message(self, out: &mut [u8]) -> usize
         requires { length out.old ≡ block_length }
-        ensures { block out.new result ≡ put_all out.old 0 (message_of self) }
+        ensures { block out.new result ≡ put_all out.old 0 (message_of (refused self)) }
     {
-        order_messages::put_order(out, 0, self.reason, self.line, self.asked, self.given)
+        match self {
+            Refusal::Line { line, reason } => order_messages::put_order(out, 0, reason, line),
+            Refusal::LongStream => {
+                output::put_bytes(out, 0, b"the stream is longer than 1048576 bytes\n")
+            }
+        }
     }
 }

@@ -1,20 +1,19 @@
 -- What the loop over a block keeps, and the input's end.
 -- Assumes nothing.
-use mathlib.Core.Bool.{Bool, true, false, not, ◌&&◌}
+use mathlib.Core.Bool.{Bool, true, false, not}
 use mathlib.Core.List.{List, [], ◌∷◌, ◌++◌}
-use mathlib.Core.Logic.{⊎_elim}
 use mathlib.Core.Path.{◌≡◌, ◌∙◌, refl, sym, ap}
 use Prim.Native.Nat.{ℕ, ◌+◌, ◌≤◌, ◌<◌}
 use native.Mathlib.Numerals.{add-one}
 use native.Mathlib.Omega.{arith}
-use lib.Dec.{ltb, eqb}
+use lib.Dec.{eqb}
 use lib.ListN.{length, get_or, drop, drop_of_length-le}
 use lib.Seq.{drop-cons}
-use borrow.Author.Tests.{eq-eqb, ltb-true, ltb-false, not-true, not-false}
-use Rattle.bits.proofs.Truth.{cases, both, not_other, true_holds}
+use borrow.Author.Tests.{eq-eqb, not-true, not-false}
 use Rattle.output.specs.Ascii.{line_feed}
 use Rattle.gathered_lines.specs.declared.Gathered.{Gathered}
 use Rattle.gathered_lines.specs.Gathering.{LineText, text_so_far, texts_from, Gathers}
+use Rattle.order_refusals.specs.Refusals.{refused_if}
 use Rattle.compositions.specs.declared.Composition.{Composition}
 use Rattle.compositions.specs.Compositions.{refused_with, with_lines, still_lines, WellFormed}
 use Rattle.line_ends.specs.LineEnds.{Lent, EndsLine}
@@ -22,15 +21,15 @@ use Rattle.order_texts.specs.Running.{still_composed, ComposesBlock}
 
 -- Whether the run is over, as the code tests it.
 abbrev pub over : Composition → Bool
-over s = not (eqb s.refusal.number 0)
+over s = not (eqb (refused_if s.refusal).number 0)
 
-over_still : (s : Composition) (out : List ℕ) (texts : List LineText) → over s ≡ true → still_lines s out texts ≡ refused_with s.refusal
+over_still : (s : Composition) (out : List ℕ) (texts : List LineText) → over s ≡ true → still_lines s out texts ≡ refused_with (refused_if s.refusal)
 unfolding still_lines
-over_still s out texts e = rw (not-true (eqb s.refusal.number 0) e)
+over_still s out texts e = rw (not-true (eqb (refused_if s.refusal).number 0) e)
 
 going_still : (s : Composition) (out : List ℕ) (texts : List LineText) → over s ≡ false → still_lines s out texts ≡ with_lines s out texts
 unfolding still_lines
-going_still s out texts e = rw (not-false (eqb s.refusal.number 0) e)
+going_still s out texts e = rw (not-false (eqb (refused_if s.refusal).number 0) e)
 
 -- The run with another line so far.
 abbrev pub with_line : Composition → Gathered → Composition
@@ -39,10 +38,6 @@ with_line s line = record { context = s.context; writer = s.writer; bits = s.bit
 same_lines : (s : Composition) (line : Gathered) (out : List ℕ) (texts : List LineText) → still_lines (with_line s line) out texts ≡ still_lines s out texts
 unfolding still_lines with_lines
 same_lines s line out texts = refl
-
--- The loop's test.
-pub goes_on : (next size : ℕ) (stop : Bool) → (ltb next size && not stop) ≡ true → (next < size) × (stop ≡ false)
-goes_on next size stop e = let s = both (ltb next size) (not stop) e in (ltb-true next size s.0, not-true stop s.1)
 
 pub record Invariant (from : Composition) (buffer₀ out₀ input : List ℕ) (next : ℕ) (s : Composition) (buffer frame out : List ℕ) : Type 0 where
   pub well_formed : WellFormed s out
@@ -98,19 +93,14 @@ module _ {from : Composition} {buffer₀ out₀ input : List ℕ} where
       }
 
     -- the block is read, or the run is over
-    at_end : length input ≤ next → ComposesBlock from buffer₀ out₀ input s buffer out
+    pub at_end : length input ≤ next → ComposesBlock from buffer₀ out₀ input s buffer out
     at_end h = record {
       well_formed = i.well_formed;
       same = λ more. ap (λ (l : List ℕ). still_composed s buffer out (l ++ more)) (sym (drop_of_length-le input {i = next} h)) ∙ i.same more;
     }
 
-    at_refusal : over s ≡ true → ComposesBlock from buffer₀ out₀ input s buffer out
+    pub at_refusal : over s ≡ true → ComposesBlock from buffer₀ out₀ input s buffer out
     at_refusal e = record {
       well_formed = i.well_formed;
       same = λ more. over_still s out _ e ∙ sym (over_still s out _ e) ∙ i.same more;
     }
-
-    pub stops : (ltb next (length input) && not (over s)) ≡ false → ComposesBlock from buffer₀ out₀ input s buffer out
-    stops e =
-        ⊎_elim (λ (l : ltb next (length input) ≡ true). at_refusal (not-false (over s) (not_other (ltb next (length input)) _ e (true_holds _ l))))
-        (λ (l : ltb next (length input) ≡ false). at_end (ltb-false next (length input) l)) (cases (ltb next (length input)))

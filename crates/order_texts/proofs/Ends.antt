@@ -1,22 +1,21 @@
 -- The input's end.
 -- Assumes nothing.
-use mathlib.Core.Bool.{Bool, true, false, cond, ◌||◌}
+use mathlib.Core.Bool.{Bool, true, false, cond}
 use mathlib.Core.List.{List, [], ◌∷◌}
 use mathlib.Core.Path.{◌≡◌, ◌∙◌, refl, sym, ap}
 use Prim.Native.Nat.{ℕ, zero, suc, ◌≤◌}
 use native.Mathlib.Omega.{arith}
 use lib.Dec.{eqb}
 use lib.ListN.{length, take}
-use borrow.Author.Tests.{eqb-true, eqb-false, not-true, not-false}
-use Rattle.bits.proofs.Truth.{clash}
+use borrow.Author.Tests.{not-true, not-false}
 use Rattle.orders.specs.Streams.{stream_of}
 use Rattle.line_meanings.specs.Lines.{is_empty}
 use Rattle.gathered_lines.specs.Gathering.{text_so_far, texts_from}
-use Rattle.order_refusals.specs.Refusals.{refusal, refusal_in, orders_in}
+use Rattle.order_refusals.specs.Refusals.{refused_if, refusal_in, orders_in}
 use Rattle.compositions.specs.declared.Composition.{Composition}
 use Rattle.compositions.specs.Compositions.{with_lines, still_lines, composition_of, WellFormed}
 use Rattle.line_ends.specs.LineEnds.{Lent, EndsLine}
-use Rattle.order_texts.specs.Running.{still_composed, EndsInput}
+use Rattle.order_texts.specs.Running.{EndsInput}
 use Rattle.order_texts.proofs.BlockLoop.{over}
 
 -- No lines more.
@@ -34,27 +33,21 @@ has_some (suc n) [] h m = absurd (omega arith)
 has_some (suc n) (c ∷ cs) h m = refl
 
 module _ {s : Composition} {buffer out frame : List ℕ} (w : WellFormed s out) (l : Lent buffer frame) where
-  here : (a b : Bool) → over s ≡ a → eqb s.line.length 0 ≡ b → (a || b) ≡ true → composition_of s out ≡ still_composed s buffer out []
+  pub ends_over : over s ≡ true → EndsInput s buffer out s out
   unfolding composition_of still_lines texts_from
-  here true b o z e = simp (not-true (eqb s.refusal.number 0) o)
-  here false b o z e =
-      let none = has_none s.line.length buffer (eqb-true s.line.length 0 (z ∙ e)) in
-      sym (no_more s out) ∙ ap (still_lines s out) (sym (ap (λ (t : Bool). cond t [] (text_so_far s.line buffer ∷ [])) none))
+  ends_over o = record { well_formed = w; same = simp (not-true (eqb (refused_if s.refusal).number 0) o) }
 
-  pub ends_here : (over s || eqb s.line.length 0) ≡ true → EndsInput s buffer out s out
-  ends_here e = record { well_formed = w; same = here (over s) (eqb s.line.length 0) refl refl e }
+  pub ends_empty : s.line.length ≡ 0 → EndsInput s buffer out s out
+  unfolding texts_from
+  ends_empty z =
+      let none = has_none s.line.length buffer z in
+      record { well_formed = w; same = sym (no_more s out) ∙ ap (still_lines s out) (sym (ap (λ (t : Bool). cond t [] (text_so_far s.line buffer ∷ [])) none)) }
 
-  neither : (a b : Bool) → (a || b) ≡ false → (a ≡ false) × (b ≡ false)
-  neither true b e = clash refl e
-  neither false b e = (refl, e)
-
-  pub ends_line : (over s || eqb s.line.length 0) ≡ false → (r : Composition) (now : List ℕ) → EndsLine s buffer out r now → EndsInput s buffer out r now
+  pub ends_line : over s ≡ false → (s.line.length ≡ 0 → ⊥) → (r : Composition) (now : List ℕ) → EndsLine s buffer out r now → EndsInput s buffer out r now
   unfolding texts_from still_lines
-  ends_line e r now ended =
-      let n = neither (over s) (eqb s.line.length 0) e in
-      let some : is_empty (take s.line.length buffer) ≡ false =
-      has_some s.line.length buffer (omega (arith, w.short, l.line_long)) (eqb-false s.line.length 0 n.1) in
+  ends_line o n r now ended =
+      let some : is_empty (take s.line.length buffer) ≡ false = has_some s.line.length buffer (omega (arith, w.short, l.line_long)) n in
       record {
         well_formed = ended.well_formed;
-        same = sym (no_more r now) ∙ ended.same [] ∙ sym (simp (not-false (eqb s.refusal.number 0) n.0, some));
+        same = sym (no_more r now) ∙ ended.same [] ∙ sym (simp (not-false (eqb (refused_if s.refusal).number 0) o, some));
       }

@@ -19,16 +19,14 @@ pub fn compose_block(
     ensures { ComposesBlock from line.old out.old input.now result line.new out.new }
 {
     let mut state = from;
-    let mut next: usize = 0;
-    while (next < input.len()) & !state.is_over() {
-        let character = input[next];
-        next += 1;
-        if character == output::LINE_FEED {
+    for character in input {
+        if state.is_over() {
+            return state;
+        }
+        if *character == output::LINE_FEED {
             state = line_ends::end_line(state, line, frame, out);
         } else {
-            let gathered = state.line;
-            let longer = gathered.with_character(line, character);
-            state.line = longer;
+            state.line = state.line.with_character(line, *character);
         }
     }
     state
@@ -44,8 +42,7 @@ pub fn end_input(
     requires { WellFormed state out.old × Lent line.now frame.old }
     ensures { EndsInput state line.now out.old result out.new }
 {
-    let gathered = state.line;
-    if state.is_over() | (gathered.length == 0) {
+    if state.is_over() || state.line.length == 0 {
         return state;
     }
     line_ends::end_line(state, line, frame, out)

@@ -1,6 +1,6 @@
 -- A frame's word: its digits and their bytes, and the bits that it says.
 -- Assumes nothing.
-use mathlib.Core.Bool.{Bool, true, false, cond, not, ◌&&◌, ◌||◌}
+use mathlib.Core.Bool.{Bool, true, false, cond, ◌&&◌}
 use mathlib.Core.List.{List, [], ◌∷◌}
 use mathlib.Core.Path.{◌≡◌, ◌∙◌, refl, ap}
 use Prim.Native.Char.{code}
@@ -10,33 +10,28 @@ use native.Mathlib.Numerals.{add-one}
 use native.Mathlib.Omega.{arith}
 use lib.Dec.{ltb, leb, eqb, leb-suc-suc}
 use lib.ListN.{length, get_or, drop, drop_of_length-le, length-drop}
-use lib.Seq.{drop-cons, get_or-drop, drop-drop}
-use borrow.Author.Tests.{lt-ltb, le-ltb, le-leb, lt-leb, ltb-true, ltb-false}
-use Rattle.bits.proofs.Truth.{clash, choice_under}
+use lib.Seq.{get_or-drop, drop-drop}
+use borrow.Author.Tests.{lt-ltb, le-ltb}
+use Rattle.std.proofs.Common.{Option, Some, None}
+use Rattle.std.specs.List.{list_all}
+use Rattle.bits.proofs.Truth.{choice_under}
 use Rattle.output.specs.Block.{block, put_all}
 use Rattle.output.proofs.Pieces.{put_prefix, put_end_within}
 use Rattle.text_words.specs.Words.{up_to}
-use Rattle.text_numbers.specs.declared.Number.{Number}
-use Rattle.text_numbers.specs.Numbers.{digit_of, number, decimal}
-use Rattle.text_frames.specs.Frames.{Frame, frame, no_frame, up_to_colon, bits_said, are_digits, half, bytes_of, frame_of, FrameAs}
+use Rattle.text_numbers.specs.Numbers.{digit_of, decimal, passing}
+use Rattle.text_frames.specs.Frames.{Frame, frame, no_frame, up_to_colon, bits_said, are_digits, half, bytes_of, framed, frame_of, FrameAs}
+use Rattle.text_frames.specs.declared.FrameRead.{FrameRead}
 
 -- ---- the digits
 
--- by the character at a place
-module _ (word : List ℕ) (at : ℕ) (h : at < length word) where
-  pub not_digits : 16 ≤ digit_of (get_or word at 0) → are_digits (drop at word) ≡ false
-  not_digits d = simp (drop-cons word at 0 h, le-ltb (digit_of (get_or word at 0)) 16 d)
-
-  pub digits_on : digit_of (get_or word at 0) < 16 → are_digits (drop at word) ≡ are_digits (drop (at + 1) word)
-  digits_on d = simp (add-one, drop-cons word at 0 h, lt-ltb (digit_of (get_or word at 0)) 16 d)
-
-pub digits_ended : (word : List ℕ) (at : ℕ) → length word ≤ at → are_digits (drop at word) ≡ true
-digits_ended word at h = simp (drop_of_length-le word h)
+pub digits_all : (word : List ℕ) → list_all (λ c. ltb (digit_of c) 16) word ≡ are_digits word
+digits_all [] = refl
+digits_all (c ∷ cs) = ap (λ (t : Bool). ltb (digit_of c) 16 && t) (digits_all cs)
 
 -- ---- the bits that it says: behind a colon, or by the digits
 
-abbrev said_by : ℕ → List ℕ → List ℕ → Number
-said_by before ahead word = cond (ltb (length ahead) (length word)) (decimal (drop (suc (length ahead)) word)) (number (4 * (before + length ahead)))
+abbrev said_by : ℕ → List ℕ → List ℕ → Option ℕ
+said_by before ahead word = cond (ltb (length ahead) (length word)) (decimal (drop (suc (length ahead)) word)) (Some (4 * (before + length ahead)))
 
 said_by_lem : (before : ℕ) (word : List ℕ) → bits_said before word ≡ said_by before (up_to_colon word) word
 unfolding bits_said up_to
@@ -50,7 +45,7 @@ module _ (word : List ℕ) (n : ℕ) (e : n ≡ length (up_to_colon word)) where
   pub said_behind : n < length word → bits_said 0 word ≡ decimal (drop (n + 1) word)
   said_behind h = said_by_lem 0 word ∙ rw (← e, add-one) (simp (lt-ltb n (length word) h))
 
-  pub said_by_digits : length word ≤ n → bits_said 0 word ≡ number (4 * n)
+  pub said_by_digits : length word ≤ n → bits_said 0 word ≡ Some (4 * n)
   said_by_digits h = said_by_lem 0 word ∙ rw (← e) (simp (le-ltb n (length word) h, zero-add))
 
 -- ---- the bytes
@@ -78,35 +73,22 @@ bytes_done digits n h = rw (drop_of_length-le digits {i = 2 * n} h)
 
 -- ---- the whole word
 
--- A count is none, or above the bits given; or it is neither.
-count_wrong : (right : Bool) (count given : ℕ) → (not right || ltb given count) ≡ true → (right && leb count given) ≡ false
-count_wrong true count given e = lt-leb count given (ltb-true given count e)
-count_wrong false count given e = refl
-
-count_right : (right : Bool) (count given : ℕ) → (not right || ltb given count) ≡ false → (right && leb count given) ≡ true
-count_right true count given e = le-leb count given (ltb-false given count e)
-count_right false count given e = clash refl e
-
 module _ (word : List ℕ) where
   pub no_digits : are_digits (up_to_colon word) ≡ false → no_frame ≡ frame_of word
   unfolding frame_of
   no_digits e = simp e
 
-  module _ (d : are_digits (up_to_colon word) ≡ true) (bits : Number) (n : ℕ) (s : bits ≡ bits_said 0 word) (m : n ≡ length (up_to_colon word)) where
-    pub wrong_bits : (not bits.right || ltb (4 * n) bits.value) ≡ true → no_frame ≡ frame_of word
-    unfolding frame_of
-    wrong_bits e = rw (d, ← s, ← m) (simp (count_wrong bits.right bits.value (4 * n) e))
-
-    pub right_bits : (not bits.right || ltb (4 * n) bits.value) ≡ false → frame true bits.value (bytes_of (up_to_colon word)) ≡ frame_of word
-    unfolding frame_of
-    right_bits e = rw (d, ← s, ← m) (simp (count_right bits.right bits.value (4 * n) e))
+  pub framed_told : are_digits (up_to_colon word) ≡ true → (bits kept : Option ℕ) (n : ℕ) → bits ≡ bits_said 0 word → n ≡ length (up_to_colon word)
+      → kept ≡ passing (λ m. leb m (4 * n)) bits → framed (bytes_of (up_to_colon word)) kept ≡ frame_of word
+  unfolding frame_of
+  framed_told d bits kept n s m k = rw (d, ← s, ← m, k)
 
 -- as a call reads it
-pub frame_wrong : (buffer : List ℕ) {f : Frame} → no_frame ≡ f → FrameAs (record { right = false; bits = 0; bytes = 0 }) buffer f
-frame_wrong buffer e = record { same = e; within = omega arith }
+pub frame_wrong : (r : Option FrameRead) (buffer : List ℕ) {f : Frame} → r ≡ None → no_frame ≡ f → FrameAs r buffer f
+frame_wrong r buffer n e = rw n record { same = e; within = tt }
 
 pub frame_put : (buffer digits out : List ℕ) (bits next : ℕ) {f : Frame} → block out next ≡ put_all buffer 0 (bytes_of digits)
-    → length (bytes_of digits) ≤ length buffer → frame true bits (bytes_of digits) ≡ f → FrameAs (record { right = true; bits = bits; bytes = next }) out f
+    → length (bytes_of digits) ≤ length buffer → frame true bits (bytes_of digits) ≡ f → FrameAs (Some record { bits = bits; bytes = next }) out f
 frame_put buffer digits out bits next e h same = record {
   same = ap (frame true bits) (put_prefix buffer (bytes_of digits) out 0 next e (omega arith)) ∙ same;
   within = put_end_within buffer (bytes_of digits) out 0 next e (omega arith);

@@ -1,10 +1,9 @@
 -- A frame's bits in a text: digits, and how many of their bits (ours, as the words are).
 -- Assumes nothing.
-use Rattle.std.specs.Prelude.{Bool, true, false, cond, ◌&&◌, List, [], ◌∷◌, ◌≡◌, ℕ, ◌+◌, ◌*◌, ◌%◌, ◌≤◌, ltb, leb, eqb, length, take}
+use Rattle.std.specs.Prelude.{Bool, true, false, cond, ◌&&◌, List, [], ◌∷◌, ◌≡◌, ℕ, ◌+◌, ◌*◌, ◌%◌, ◌≤◌, Option, Some, None, IfSome, ltb, leb, eqb, length, take}
 use Prim.Native.Char.{code}
 use Rattle.text_words.specs.Words.{up_to}
-use Rattle.text_numbers.specs.declared.Number.{Number}
-use Rattle.text_numbers.specs.Numbers.{digit_of, number, decimal}
+use Rattle.text_numbers.specs.Numbers.{digit_of, decimal, passing}
 use Rattle.text_frames.specs.declared.FrameRead.{FrameRead}
 
 -- The bytes that the digits of a line's frame fill, at most.
@@ -16,8 +15,8 @@ frame_limit = 16384
 abbrev pub up_to_colon : List ℕ → List ℕ
 up_to_colon word = up_to (code ":") word
 
-unfoldable pub bits_said : ℕ → List ℕ → Number
-bits_said digits [] = number (4 * digits)
+unfoldable pub bits_said : ℕ → List ℕ → Option ℕ
+bits_said digits [] = Some (4 * digits)
 bits_said digits (c ∷ cs) = cond (eqb c (code ":")) (decimal cs) (bits_said (digits + 1) cs)
 
 abbrev pub are_digits : List ℕ → Bool
@@ -45,14 +44,22 @@ frame right bits bytes = record { right = right; bits = bits; bytes = bytes }
 abbrev pub no_frame : Frame
 no_frame = frame false 0 []
 
+-- By the count of its bits, if it has one.
+abbrev pub framed : List ℕ → Option ℕ → Frame
+framed bytes None = no_frame
+framed bytes (Some bits) = frame true bits bytes
+
 -- Digits that give fewer bits than the count are no frame.
 unfoldable pub frame_of : List ℕ → Frame
 frame_of word =
     let digits = up_to_colon word in
-    let bits = bits_said 0 word in
-    cond (are_digits digits && (bits.right && leb bits.value (4 * length digits))) (frame true bits.value (bytes_of digits)) no_frame
+    cond (are_digits digits) (framed (bytes_of digits) (passing (λ bits. leb bits (4 * length digits)) (bits_said 0 word))) no_frame
 
 -- A frame as a call reads it, with the bytes that it then lends.
-pub record FrameAs (r : FrameRead) (buffer : List ℕ) (f : Frame) : Type 0 where
-  pub same : frame r.right r.bits (take r.bytes buffer) ≡ f
-  pub within : r.bytes ≤ length buffer
+abbrev pub lent_frame : Option FrameRead → List ℕ → Frame
+lent_frame None buffer = no_frame
+lent_frame (Some r) buffer = frame true r.bits (take r.bytes buffer)
+
+pub record FrameAs (r : Option FrameRead) (buffer : List ℕ) (f : Frame) : Type 0 where
+  pub same : lent_frame r buffer ≡ f
+  pub within : IfSome r (λ x. x.bytes ≤ length buffer)

@@ -1,37 +1,27 @@
--- What stands ahead of a character of a text, and the words of a text, character by character: a word that has begun stands between two places of the text.
+-- What stands ahead of a character of a text, and the words of a text: the parts between blanks that have a character.
 -- Assumes nothing.
-use mathlib.Core.Bool.{Bool, true, false}
+use mathlib.Core.Bool.{Bool, true, false, cond, not, ◌&&◌}
 use mathlib.Core.List.{List, [], ◌∷◌, ◌++◌}
 use mathlib.Core.Path.{◌≡◌, ◌∙◌, refl, sym, ap}
-use Prim.Native.Nat.{ℕ, zero, suc, ◌+◌, ◌-◌, ◌≤◌, ◌<◌}
-use native.Mathlib.Nat.{zero-add}
-use native.Mathlib.Numerals.{add-one}
+use Prim.Native.Nat.{ℕ, zero, suc, ◌+◌, ◌-◌, ◌≤◌}
 use native.Mathlib.Omega.{arith}
-use lib.Dec.{eqb}
-use lib.ListN.{length, get_or, take, drop, length-append, length-drop, drop_of_length-le}
-use lib.Seq.{drop-cons, take-suc, take_all, get_or-drop, length-take-le}
-use borrow.Author.Tests.{eq-eqb, ne_eqb, eqb-true}
-use Rattle.bits.proofs.Truth.{clash, choice, both}
-use Rattle.line_meanings.specs.Lines.{is_empty}
+use lib.Dec.{eqb, ltb}
+use lib.Pointwise.{pointwise}
+use lib.ListN.{length, get_or, take, drop, length-append, length-drop}
+use lib.Seq.{take_all}
+use borrow.Author.Tests.{ne_eqb, ltb-false}
+use Rattle.std.proofs.Common.{Option, Some, None, append_assoc, append-nil}
+use Rattle.std.proofs.lemmas.List.Recursion.{is_position_or_len}
+use Rattle.std.proofs.lemmas.Option.{unwrap_or-slice_get}
+use Rattle.std.specs.List.{filter, position_or_len, slice_get, slice_split, onto_first}
+use Rattle.std.specs.Option.{unwrap_or, option_map}
+use denote.Ref.{Bor}
+use Rattle.bits.proofs.Truth.{choice}
 use Rattle.text_words.specs.Words.{up_to, is_blank, ended_word, words_from, words_in, same_word}
 
 -- ---- up to a character
 
 module _ (character : ℕ) where
-  -- by the character at a place
-  module _ (text : List ℕ) (at : ℕ) (h : at < length text) where
-    pub found_here : get_or text at 0 ≡ character → length (up_to character (drop at text)) ≡ 0
-    unfolding up_to
-    found_here e = simp (drop-cons text at 0 h, eq-eqb (get_or text at 0) character e)
-
-    pub not_here : (get_or text at 0 ≡ character → ⊥) → length (up_to character (drop at text)) ≡ 1 + length (up_to character (drop (at + 1) text))
-    unfolding up_to
-    not_here n = simp (drop-cons text at 0 h, ne_eqb (get_or text at 0) character n, add-one) (omega arith)
-
-  pub text_ended : (text : List ℕ) (at : ℕ) → length text ≤ at → length (up_to character (drop at text)) ≡ 0
-  unfolding up_to
-  text_ended text at h = simp (drop_of_length-le text h)
-
   pub up_to_within : (text : List ℕ) → length (up_to character text) ≤ length text
   unfolding up_to
   up_to_within [] = omega arith
@@ -44,11 +34,75 @@ module _ (character : ℕ) where
   up_to_take (c ∷ cs) =
       choice (λ (l : List ℕ). take (length l) (c ∷ cs) ≡ l) (eqb c character) (λ _. refl) (λ _. ap (λ (l : List ℕ). c ∷ l) (up_to_take cs))
 
+  abbrev is_it : ℕ → Bool
+  is_it c = eqb c character
+
+  first_place : (text : List ℕ) → length (up_to character text) ≡ position_or_len is_it text
+  unfolding up_to
+  first_place = is_position_or_len (λ (l : List ℕ). length (up_to character l)) is_it refl step
+    where
+      step : (c : ℕ) (cs : List ℕ) → length (cond (is_it c) [] (c ∷ up_to character cs)) ≡ cond (is_it c) 0 (1 + length (up_to character cs))
+      step c cs = choice (λ (l : List ℕ). length l ≡ cond (is_it c) 0 (1 + length (up_to character cs))) (is_it c) (λ e. rw e) (λ e. rw e (omega arith))
+
+  -- by a search for its place
+  pub place_told : (text : List ℕ) (r : Option ℕ)
+      → r ≡ cond (ltb (position_or_len is_it text) (length text)) (Some (position_or_len is_it text)) None
+      → unwrap_or r (length text) ≡ length (up_to character text)
+  place_told text r e =
+      let f = first_place text in
+      rw e
+      (choice (λ (o : Option ℕ). unwrap_or o (length text) ≡ length (up_to character text)) (ltb (position_or_len is_it text) (length text))
+      (λ _. sym f) (λ l. let h = ltb-false (position_or_len is_it text) (length text) l in omega (arith, h, f, up_to_within text)))
+
 -- ---- the words
 
-some_empty : (xs : List ℕ) → 0 < length xs → is_empty xs ≡ false
-some_empty [] h = absurd (omega arith)
-some_empty (x ∷ xs) h = refl
+abbrev pub some : List ℕ → Bool
+some word = not (eqb (length word) 0)
+
+-- The parts of a text, the first behind the characters of a word that has begun.
+abbrev onto : List ℕ → List (List ℕ) → List (List ℕ)
+onto word [] = word ∷ []
+onto word (p ∷ ps) = (word ++ p) ∷ ps
+
+onto_none : (ps : List (List ℕ)) → filter some (onto [] ps) ≡ filter some ps
+onto_none [] = refl
+onto_none (p ∷ ps) = refl
+
+onto_more : (word : List ℕ) (c : ℕ) (ps : List (List ℕ)) → onto word (onto_first c ps) ≡ onto (word ++ (c ∷ [])) ps
+onto_more word c [] = refl
+onto_more word c (p ∷ ps) = rw append_assoc
+
+ended : (word : List ℕ) (ps : List (List ℕ)) → ended_word word (filter some ps) ≡ filter some (word ∷ ps)
+ended [] ps = refl
+ended (c ∷ cs) ps = rw (ne_eqb (length (c ∷ cs)) 0 (omega arith))
+
+parts_from : (word text : List ℕ) → words_from word text ≡ filter some (onto word (slice_split is_blank text))
+unfolding words_from
+parts_from word [] = ended word [] ∙ rw append-nil
+parts_from word (c ∷ cs) = by (is_blank c) (parts_from [] cs) (parts_from (word ++ (c ∷ [])) cs)
+  where
+    by : (b : Bool) → words_from [] cs ≡ filter some (onto [] (slice_split is_blank cs))
+        → words_from (word ++ (c ∷ [])) cs ≡ filter some (onto (word ++ (c ∷ [])) (slice_split is_blank cs))
+        → cond b (ended_word word (words_from [] cs)) (words_from (word ++ (c ∷ [])) cs)
+        ≡ filter some (onto word (cond b ([] ∷ slice_split is_blank cs) (onto_first c (slice_split is_blank cs))))
+    by true e f = rw (e, onto_none, append-nil) (ended word (slice_split is_blank cs))
+    by false e f = rw onto_more f
+
+pub words_split : (text : List ℕ) → words_in text ≡ filter some (slice_split is_blank text)
+words_split text = parts_from [] text ∙ onto_none (slice_split is_blank text)
+
+-- by a search for the part at its place
+pub word_told : (text : List ℕ) (n : ℕ) (r : Option (Bor (List ℕ))) (none : Bor (List ℕ))
+    → option_map (λ (w : Bor (List ℕ)). w.now) r ≡ slice_get (filter some (slice_split is_blank text)) n → none.now ≡ []
+    → (unwrap_or r none).now ≡ get_or (words_in text) n []
+word_told text n r none e d =
+    by r none d ∙ ap (λ (o : Option (List ℕ)). unwrap_or o []) e ∙ unwrap_or-slice_get (filter some (slice_split is_blank text)) n []
+    ∙ ap (λ (l : List (List ℕ)). get_or l n []) (sym (words_split text))
+  where
+    by : (r : Option (Bor (List ℕ))) (none : Bor (List ℕ)) → none.now ≡ []
+        → (unwrap_or r none).now ≡ unwrap_or (option_map (λ (w : Bor (List ℕ)). w.now) r) []
+    by (Some w) none d = refl
+    by None none d = d
 
 -- The characters between two places.
 abbrev pub part : List ℕ → ℕ → ℕ → List ℕ
@@ -56,156 +110,6 @@ part text start end = take (end - start) (drop start text)
 
 pub part_rest : (text : List ℕ) (start : ℕ) → part text start (length text) ≡ drop start text
 part_rest text start = take_all (length text - start) (drop start text) (omega (arith, length-drop start text))
-
-module _ (text : List ℕ) (start i : ℕ) (s : start ≤ i) where
-  part_length : i ≤ length text → length (part text start i) ≡ i - start
-  part_length h = length-take-le (i - start) (drop start text) (omega (arith, length-drop start text))
-
-  module _ (h : i < length text) where
-    part_more : part text start (i + 1) ≡ part text start i ++ (get_or text i 0 ∷ [])
-    part_more =
-        let e : i + 1 - start ≡ suc (i - start) = omega arith in
-        let f : start + (i - start) ≡ i = omega arith in
-        rw (e, take-suc (drop start text) (i - start) 0 (omega (arith, length-drop start text)), get_or-drop, f)
-
-    -- the next character goes on with the word, or ends it
-    pub word_goes_on : is_blank (get_or text i 0) ≡ false
-        → words_from (part text start i) (drop i text) ≡ words_from (part text start (i + 1)) (drop (i + 1) text)
-    unfolding words_from
-    word_goes_on b = rw (part_more, add-one i, drop-cons text i 0 h, b)
-
-    pub word_ends : is_blank (get_or text i 0) ≡ true
-        → words_from (part text start i) (drop i text) ≡ ended_word (part text start i) (words_from [] (drop (i + 1) text))
-    unfolding words_from
-    word_ends b = rw (add-one i, drop-cons text i 0 h, b)
-
-  pub part_some : start < i → i ≤ length text → is_empty (part text start i) ≡ false
-  part_some l h = some_empty (part text start i) (omega (arith, part_length h))
-
-  pub part_none : i ≤ start → part text start i ≡ []
-  part_none l = let e : i - start ≡ 0 = omega arith in rw e
-
--- The walk to a word: `ahead` words are left ahead of it.
-pub record WordLeft (text : List ℕ) (n start ahead i : ℕ) : Type 0 where
-  pub begun : start ≤ i
-  pub within : i ≤ length text
-  pub same : get_or (words_from (part text start i) (drop i text)) ahead [] ≡ get_or (words_in text) n []
-
-pub word_first : (text : List ℕ) (n : ℕ) → WordLeft text n 0 n 0
-word_first text n = record { begun = omega arith; within = omega arith; same = refl }
-
-module _ {text : List ℕ} {n start ahead i : ℕ} (w : WordLeft text n start ahead i) where
-  module _ (h : i < length text) where
-    pub walk_on : is_blank (get_or text i 0) ≡ false → WordLeft text n start ahead (i + 1)
-    walk_on b = record {
-      begun = omega (arith, w.begun);
-      within = omega arith;
-      same = ap (λ (l : List (List ℕ)). get_or l ahead []) (sym (word_goes_on text start i w.begun h b)) ∙ w.same;
-    }
-
-    module _ (b : is_blank (get_or text i 0) ≡ true) where
-      ends : get_or (ended_word (part text start i) (words_from [] (drop (i + 1) text))) ahead [] ≡ get_or (words_in text) n []
-      ends = ap (λ (l : List (List ℕ)). get_or l ahead []) (sym (word_ends text start i w.begun h b)) ∙ w.same
-
-      fresh : part text (i + 1) (i + 1) ≡ []
-      fresh = part_none text (i + 1) (i + 1) (omega arith) (omega arith)
-
-      pub walk_blank : i ≤ start → WordLeft text n (i + 1) ahead (i + 1)
-      walk_blank l = record {
-        begun = omega arith;
-        within = omega arith;
-        same = rw fresh (rw (part_none text start i w.begun l) at ends);
-      }
-
-      pub walk_found : start < i → ahead ≡ 0 → part text start i ≡ get_or (words_in text) n []
-      walk_found l e = rw (e, part_some text start i w.begun l w.within) at ends
-
-      pub walk_past : start < i → 0 < ahead → WordLeft text n (i + 1) (ahead - 1) (i + 1)
-      walk_past l a = record {
-        begun = omega arith;
-        within = omega arith;
-        same =
-            let e : ahead ≡ suc (ahead - 1) = omega arith in
-            rw fresh (rw (e, part_some text start i w.begun l w.within) at ends);
-      }
-
-  -- at the text's end
-  module _ (h : length text ≤ i) where
-    ended : get_or (ended_word (part text start i) []) ahead [] ≡ get_or (words_in text) n []
-    unfolding words_from
-    ended = (rw (drop_of_length-le text {i = i} h) at w.same)
-
-    last : (word : List ℕ) (k : ℕ) → get_or (ended_word word []) (suc k) [] ≡ []
-    last [] k = refl
-    last (c ∷ cs) k = refl
-
-    only : (word : List ℕ) → get_or (ended_word word []) 0 [] ≡ word
-    only [] = refl
-    only (c ∷ cs) = refl
-
-    pub walk_none : 0 < ahead → part text i (length text) ≡ get_or (words_in text) n []
-    walk_none a =
-        let e : ahead ≡ suc (ahead - 1) = omega arith in
-        part_rest text i ∙ drop_of_length-le text {i = i} h ∙ sym (last (part text start i) (ahead - 1)) ∙ (rw e at ended)
-
-    pub walk_last : ahead ≡ 0 → part text start (length text) ≡ get_or (words_in text) n []
-    walk_last a =
-        let all : part text start i ≡ drop start text = take_all (i - start) (drop start text) (omega (arith, length-drop start text, w.within)) in
-        part_rest text start ∙ sym all ∙ sym (only (part text start i)) ∙ (rw a at ended)
-
--- The count of words: `count` of them have ended.
-pub record WordsLeft (text : List ℕ) (count start i : ℕ) : Type 0 where
-  pub begun : start ≤ i
-  pub within : i ≤ length text
-  pub few : count ≤ i
-  pub same : count + length (words_from (part text start i) (drop i text)) ≡ length (words_in text)
-
-pub words_first : (text : List ℕ) → WordsLeft text 0 0 0
-words_first text = record { begun = omega arith; within = omega arith; few = omega arith; same = zero-add (length (words_in text)) }
-
-module _ {text : List ℕ} {count start i : ℕ} (w : WordsLeft text count start i) where
-  module _ (h : i < length text) where
-    pub count_on : is_blank (get_or text i 0) ≡ false → WordsLeft text count start (i + 1)
-    count_on b = record {
-      begun = omega (arith, w.begun);
-      within = omega arith;
-      few = omega (arith, w.few);
-      same = rw (← word_goes_on text start i w.begun h b) w.same;
-    }
-
-    module _ (b : is_blank (get_or text i 0) ≡ true) where
-      counted : count + length (ended_word (part text start i) (words_from [] (drop (i + 1) text))) ≡ length (words_in text)
-      counted = rw (word_ends text start i w.begun h b) at w.same
-
-      fresh_part : part text (i + 1) (i + 1) ≡ []
-      fresh_part = part_none text (i + 1) (i + 1) (omega arith) (omega arith)
-
-      pub count_blank : i ≤ start → WordsLeft text count (i + 1) (i + 1)
-      count_blank l = record {
-        begun = omega arith;
-        within = omega arith;
-        few = omega (arith, w.few);
-        same = rw fresh_part (rw (part_none text start i w.begun l) at counted);
-      }
-
-      pub count_word : start < i → WordsLeft text (count + 1) (i + 1) (i + 1)
-      count_word l = record {
-        begun = omega arith;
-        within = omega arith;
-        few = omega (arith, w.few);
-        same = rw fresh_part (let e = rw (part_some text start i w.begun l w.within) at counted in omega (arith, e));
-      }
-
-  module _ (h : length text ≤ i) where
-    all_counted : count + length (ended_word (part text start i) []) ≡ length (words_in text)
-    unfolding words_from
-    all_counted = rw (drop_of_length-le text {i = i} h) at w.same
-
-    pub count_last : start < i → count + 1 ≡ length (words_in text)
-    count_last l = rw (part_some text start i w.begun l w.within) at all_counted
-
-    pub count_none : i ≤ start → count ≡ length (words_in text)
-    count_none l = let e = rw (part_none text start i w.begun l) at all_counted in omega (arith, e)
 
 -- No word is longer than its text.
 ended_short : (word : List ℕ) (words : List (List ℕ)) (n most : ℕ) → length word ≤ most → ((k : ℕ) → length (get_or words k []) ≤ most)
@@ -227,23 +131,9 @@ word_short text n = omega (arith, word_from_short [] text n)
 
 -- ---- equal words
 
-pub same_equal : (a b : List ℕ) → same_word a b ≡ true → a ≡ b
+pub equal_words : (a b : List ℕ) → pointwise eqb a b ≡ same_word a b
 unfolding same_word
-same_equal [] [] e = refl
-same_equal [] (b ∷ y) e = clash e refl
-same_equal (a ∷ x) [] e = clash e refl
-same_equal (a ∷ x) (b ∷ y) e = let p = both (eqb a b) (same_word x y) e in rw (eqb-true a b p.0, same_equal x y p.1)
-
-pub same_self : (a : List ℕ) → same_word a a ≡ true
-unfolding same_word
-same_self [] = refl
-same_self (a ∷ x) = rw (eq-eqb a a refl) (same_self x)
-
--- by a call that compares two words
-pub compared : (r : Bool) (a b : List ℕ) → (r ≡ true → a ≡ b) → (a ≡ b → r ≡ true) → r ≡ same_word a b
-compared true a b f g = rw (f refl) (sym (same_self b))
-compared false a b f g = by (same_word a b) refl
-  where
-    by : (s : Bool) → same_word a b ≡ s → false ≡ same_word a b
-    by true e = clash (g (same_equal a b e)) refl
-    by false e = sym e
+equal_words [] [] = refl
+equal_words [] (b ∷ y) = refl
+equal_words (a ∷ x) [] = refl
+equal_words (a ∷ x) (b ∷ y) = ap (λ (t : Bool). eqb a b && t) (equal_words x y)

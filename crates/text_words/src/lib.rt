@@ -11,76 +11,31 @@ pub const LINE_LIMIT: usize = 32768;
 pub fn place_of(text: &[u8], character: u8) -> usize
     ensures { result ≡ length (up_to character text.now) }
 {
-    let mut i: usize = 0;
-    while i < text.len() {
-        if text[i] == character {
-            return i;
-        }
-        i += 1;
-    }
-    i
+    text.iter()
+        .position(|c| *c == character)
+        .unwrap_or(text.len())
 }
 
 fn is_blank(character: u8) -> bool
     ensures { result ≡ is_blank character }
 {
-    (character == b' ') | ((character == b'\t') | (character == b'\r'))
+    matches!(character, b' ' | b'\t' | b'\r')
 }
 
 // The word of a text that so many words stand ahead of; nothing where there is none.
 pub fn word(text: &[u8], n: usize) -> &[u8]
     ensures { result.now ≡ get_or (words_in text.now) n [] }
 {
-    let mut start: usize = 0;
-    let mut ahead = n;
-    let mut i: usize = 0;
-    while i < text.len() {
-        let next = i + 1;
-        if !is_blank(text[i]) {
-            i = next;
-            continue;
-        }
-        if i <= start {
-            start = next;
-            i = next;
-            continue;
-        }
-        if ahead == 0 {
-            return &text[start..i];
-        }
-        ahead -= 1;
-        start = next;
-        i = next;
-    }
-    if 0 < ahead {
-        return &text[i..];
-    }
-    &text[start..]
+    text.split(|c| is_blank(*c))
+        .filter(|part| !part.is_empty())
+        .nth(n)
+        .unwrap_or(&[])
 }
 
 pub fn word_count(text: &[u8]) -> usize
     ensures { result ≡ length (words_in text.now) }
 {
-    let mut count: usize = 0;
-    let mut start: usize = 0;
-    let mut i: usize = 0;
-    while i < text.len() {
-        let next = i + 1;
-        if !is_blank(text[i]) {
-            i = next;
-            continue;
-        }
-        if i <= start {
-            start = next;
-            i = next;
-            continue;
-        }
-        count += 1;
-        start = next;
-        i = next;
-    }
-    if start < i {
-        return count + 1;
-    }
-    count
+    text.split(|c| is_blank(*c))
+        .filter(|part| !part.is_empty())
+        .count()
 }

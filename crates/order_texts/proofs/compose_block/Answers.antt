@@ -1,28 +1,23 @@
--- `compose_block` meets its contract: a character that ends the line, one that goes on with it, and the block's end.
+-- `compose_block` meets its contract: a character that ends the line, one that goes on with it, and the run's end.
 -- Assumes nothing.
-use mathlib.Core.Path.{◌∙◌, refl, sym, ap}
-use mathlib.Core.Bool.{Bool, not, ◌&&◌}
-use lib.Dec.{ltb}
-use lib.ListN.{length}
-use Rattle.order_texts.proofs.BlockLoop.{over, goes_on, line_ended, line_open, stops}
+use mathlib.Core.Path.{◌∙◌, refl, sym}
+use Rattle.order_texts.proofs.BlockLoop.{line_ended, line_open, at_refusal}
 use Rattle.order_texts.proofs.compose_block.Goals as goal
+use Rattle.order_texts.proofs.compose_block.Goals.{then-character-eq-LINE_FEED, else-character-eq-LINE_FEED}
 
-pub loop-next-preserved-then-character-eq-LINE_FEED : goal.loop-next-preserved-then-character-eq-LINE_FEED
-loop-next-preserved-then-character-eq-LINE_FEED c =
-    let l = c.loop-next in
-    let size = length c.args.input.now in
-    let g = goes_on l.next size (over l.state) (ap (λ (b : Bool). ltb l.next size && not b) (sym c.is_over.ensures) ∙ c.loop-next-test.true) in
-    line_ended l.invariant g.0 _ c.end_line-state.auto.frame g.1 c.if-character-eq-LINE_FEED.true _ _ c.end_line-state.ensures
+pub returns-then-is_over : goal.returns-then-is_over
+returns-then-is_over c = at_refusal c.loop-character.invariant (sym c.is_over.ensures ∙ c.if-is_over.true)
 
-pub loop-next-preserved : goal.loop-next-preserved
-loop-next-preserved c =
-    let l = c.loop-next in
-    let size = length c.args.input.now in
-    let g = goes_on l.next size (over l.state) (ap (λ (b : Bool). ltb l.next size && not b) (sym c.is_over.ensures) ∙ c.loop-next-test.true) in
-    line_open l.invariant g.0 _ refl c.if-character-eq-LINE_FEED.false _ _ c.with_character-longer.ensures
-
-pub returns : goal.returns
-returns c =
-    let l = c.loop-next in
-    let size = length c.args.input.now in
-    stops l.invariant (ap (λ (b : Bool). ltb l.next size && not b) (sym c.is_over.ensures) ∙ c.loop-next-test.false)
+pub loop-character-preserved : goal.loop-character-preserved
+loop-character-preserved c =
+    let i = c.loop-character.invariant in
+    let some = c.loop-character-test.true in
+    let going = sym c.is_over.ensures ∙ c.if-is_over.false in
+    elim c.if-character-eq-LINE_FEED.branch [
+      | then-character-eq-LINE_FEED w ↦
+          rw (w.line-is, w.frame-is, w.out-is, w.state-is)
+          (line_ended i some _ w.end_line-state.auto.frame going w.if-character-eq-LINE_FEED.true _ _ w.end_line-state.ensures)
+      | else-character-eq-LINE_FEED w ↦
+          rw (w.line-is, w.frame-is, w.out-is, w.state-is)
+          (line_open i some _ refl w.if-character-eq-LINE_FEED.false _ _ w.with_character-state.ensures)
+    ]

@@ -1,17 +1,17 @@
--- `place_of` meets its contract: from each place passed, what is ahead of the character ends at the same place.
+-- `place_of` meets its contract: the place of the first character that is as told.
 -- Assumes nothing.
-use native.Mathlib.Omega.{arith}
-use Rattle.text_words.proofs.Words.{found_here, not_here, text_ended}
+use mathlib.Core.Path.{◌∙◌}
+use lib.Dec.{eqb}
+use borrow.Author.Tests.{tests}
+use Rattle.std.proofs.Common.{rules}
+use Rattle.std.proofs.lemmas.Iterator.{YieldsList-from_slice}
+use Rattle.std.proofs.lemmas.Iterator.Search.{position_from_yields_List}
+use Rattle.text_words.proofs.Words.{place_told}
 use Rattle.text_words.proofs.place_of.Goals as goal
 
-pub returns-then-text-i : goal.returns-then-text-i
-returns-then-text-i c =
-    omega (arith, found_here c.args.character c.args.text.now c.loop-i.i c.loop-i-test.true c.if-text-i.true)
-
-pub loop-i-preserved : goal.loop-i-preserved
-loop-i-preserved c =
-    let more = not_here c.args.character c.args.text.now c.loop-i.i c.loop-i-test.true c.if-text-i.false in
-    (omega arith, omega arith)
-
 pub returns : goal.returns
-returns c = omega (arith, text_ended c.args.character c.args.text.now c.loop-i.i c.loop-i-test.false)
+returns c =
+    c.unwrap_or.ensures
+    ∙ place_told c.args.character c.args.text.now c.position.result
+    (position_from_yields_List (λ d. eqb d c.args.character) _ _ c.position.result c.position.ensures.ran (YieldsList-from_slice c.args.text.now cc)
+    (λ x b q k. search (rules, tests)))

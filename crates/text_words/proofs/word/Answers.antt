@@ -1,33 +1,25 @@
--- `word` meets its contract: from each place passed, the word that is looked for is the same.
+-- `word` meets its contract: of the parts between blanks that have a character, the one at its place.
 -- Assumes nothing.
-use mathlib.Core.Path.{◌≡◌, sym}
-use Prim.Native.Nat.{◌<◌}
-use native.Mathlib.Omega.{arith}
-use Rattle.text_words.proofs.Words.{word_first, walk_on, walk_blank, walk_found, walk_past, walk_none, walk_last}
+use mathlib.Core.List.{List}
+use mathlib.Core.Path.{◌∙◌, refl, ap}
+use Prim.Native.Nat.{ℕ}
+use denote.Ref.{Bor}
+use borrow.Author.Tests.{tests}
+use Rattle.std.proofs.Common.{rules}
+use Rattle.std.proofs.lemmas.Iterator.Consumers.{YieldsList-at, YieldsList-from_filter, nth_from_yields_List}
+use Rattle.std.proofs.lemmas.Iterator.Splits.{YieldsList-from_slice_split}
+use Rattle.text_words.specs.Words.{is_blank}
+use Rattle.text_words.proofs.Words.{some, word_told}
 use Rattle.text_words.proofs.word.Goals as goal
-
-pub loop-i-init : goal.loop-i-init
-loop-i-init c = word_first _ _
-
-pub loop-i-preserved-then-not-is_blank : goal.loop-i-preserved-then-not-is_blank
-loop-i-preserved-then-not-is_blank c = walk_on c.loop-i.invariant c.loop-i-test.true (sym c.if-not-is_blank.ensures)
-
-pub loop-i-preserved-then-i-start : goal.loop-i-preserved-then-i-start
-loop-i-preserved-then-i-start c = walk_blank c.loop-i.invariant c.loop-i-test.true (sym c.if-not-is_blank.ensures) c.if-i-start.true
-
-pub returns-then-ahead-eq0 : goal.returns-then-ahead-eq0
-returns-then-ahead-eq0 c =
-    walk_found c.loop-i.invariant c.loop-i-test.true (sym c.if-not-is_blank.ensures) c.if-i-start.false c.if-ahead-eq0.true
-
-pub loop-i-preserved : goal.loop-i-preserved
-loop-i-preserved c =
-    let some : 0 < c.loop-i.ahead = omega (arith, c.if-ahead-eq0.false) in
-    walk_past c.loop-i.invariant c.loop-i-test.true (sym c.if-not-is_blank.ensures) c.if-i-start.false some
-
-pub returns-then-ahead-gt0 : goal.returns-then-ahead-gt0
-returns-then-ahead-gt0 c = walk_none c.loop-i.invariant c.loop-i-test.false c.if-ahead-gt0.true
 
 pub returns : goal.returns
 returns c =
-    let none : c.loop-i.ahead ≡ 0 = omega (arith, c.if-ahead-gt0.false) in
-    walk_last c.loop-i.invariant c.loop-i-test.false none
+    ap (λ (w : Bor (List ℕ)). w.now) c.unwrap_or.ensures
+    ∙ word_told c.args.text.now c.args.n c.nth.result _
+    (nth_from_yields_List c.nth.result c.nth.new.self c.args.n c.nth.ensures.ran
+    (YieldsList-from_filter _ some
+    (YieldsList-at c.filter.ensures.source
+    (YieldsList-from_slice_split _ is_blank c.args.text.now c.split.ensures.rest c.split.ensures.done c.split.ensures.closure
+    (λ x b q k. search (rules, tests))))
+    c.filter.ensures.closure (λ x b q k. search (rules, tests))))
+    refl

@@ -1,23 +1,21 @@
--- `word_count` meets its contract: at each place passed, the words that have ended and those to come are all of them.
+-- `word_count` meets its contract: the count of the parts between blanks that have a character.
 -- Assumes nothing.
-use mathlib.Core.Path.{sym}
-use Rattle.text_words.proofs.Words.{words_first, count_on, count_blank, count_word, count_last, count_none}
+use mathlib.Core.Path.{◌∙◌, sym, ap}
+use lib.ListN.{length}
+use borrow.Author.Tests.{tests}
+use Rattle.std.proofs.Common.{rules}
+use Rattle.std.proofs.lemmas.Iterator.Consumers.{YieldsList-at, YieldsList-from_filter, count_from_yields_List}
+use Rattle.std.proofs.lemmas.Iterator.Splits.{YieldsList-from_slice_split}
+use Rattle.text_words.specs.Words.{is_blank}
+use Rattle.text_words.proofs.Words.{some, words_split}
 use Rattle.text_words.proofs.word_count.Goals as goal
 
-pub loop-i-init : goal.loop-i-init
-loop-i-init c = words_first _
-
-pub loop-i-preserved-then-not-is_blank : goal.loop-i-preserved-then-not-is_blank
-loop-i-preserved-then-not-is_blank c = count_on c.loop-i.invariant c.loop-i-test.true (sym c.if-not-is_blank.ensures)
-
-pub loop-i-preserved-then-i-start : goal.loop-i-preserved-then-i-start
-loop-i-preserved-then-i-start c = count_blank c.loop-i.invariant c.loop-i-test.true (sym c.if-not-is_blank.ensures) c.if-i-start.true
-
-pub loop-i-preserved : goal.loop-i-preserved
-loop-i-preserved c = count_word c.loop-i.invariant c.loop-i-test.true (sym c.if-not-is_blank.ensures) c.if-i-start.false
-
-pub returns-then-start-i : goal.returns-then-start-i
-returns-then-start-i c = count_last c.loop-i.invariant c.loop-i-test.false c.if-start-i.true
-
 pub returns : goal.returns
-returns c = count_none c.loop-i.invariant c.loop-i-test.false c.if-start-i.false
+returns c =
+    count_from_yields_List c.filter.result _ c.count.ensures.ran
+    (YieldsList-from_filter _ some
+    (YieldsList-at c.filter.ensures.source
+    (YieldsList-from_slice_split _ is_blank c.args.text.now c.split.ensures.rest c.split.ensures.done c.split.ensures.closure
+    (λ x b q k. search (rules, tests))))
+    c.filter.ensures.closure (λ x b q k. search (rules, tests)))
+    ∙ sym (ap length (words_split c.args.text.now))

@@ -6,11 +6,11 @@ use Rattle.compositions.proofs.Rooms.{has_room}
 use Rattle.compositions.proofs.Outcomes.{outcome_refused, outcome_long, outcome_whole}
 use Rattle.compositions.proofs.Composition.outcome.Goals as goal
 
-pub returns-then-refusal-ne0 : goal.returns-then-refusal-ne0
-returns-then-refusal-ne0 c = outcome_refused _ _ c.requires c.if-refusal-ne0.true
+pub returns-in-Some : goal.returns-in-Some
+returns-in-Some c = outcome_refused _ _ c.requires c.in-Some.refusal c.in-Some.is
 
 pub returns-then-not-room_fits : goal.returns-then-not-room_fits
-returns-then-not-room_fits c = outcome_long _ _ c.requires c.if-refusal-ne0.false (sym c.room_fits.ensures ∙ c.if-not-room_fits.true)
+returns-then-not-room_fits c = outcome_long _ _ c.requires c.in_default.is (sym c.room_fits.ensures ∙ c.if-not-room_fits.true)
 
 pub finish-requires : goal.finish-requires
 finish-requires c =
@@ -20,4 +20,4 @@ finish-requires c =
 
 pub returns : goal.returns
 returns c =
-    outcome_whole _ _ c.requires c.if-refusal-ne0.false (sym c.room_fits.ensures ∙ c.if-not-room_fits.false) _ c.finish.ensures _ c.none.ensures
+    outcome_whole _ _ c.requires c.in_default.is (sym c.room_fits.ensures ∙ c.if-not-room_fits.false) _ c.finish.ensures

@@ -11,9 +11,8 @@ use Rattle.order_refusals.proofs.Refusal.put_line.Goals as goal
 
 pub returns : goal.returns
 returns c =
-    let b2 = c in
-    let b5 = b2.before.before.before in
-    let s = b5 in
-    let r = s.args.self in
-    let few = line_length (ascii "!") (r.number ∷ r.line ∷ []) (2 ∷ 8 ∷ []) refl in
-    b2.refused_line.ensures ∙ put_when_fits s.args.out.now 0 (refused_line r.number r.line) (omega (arith, few, s.requires))
+    let number = c.number.result in
+    let line = c.line.result in
+    let few = line_length (ascii "!") (number ∷ line ∷ []) (2 ∷ 8 ∷ []) refl in
+    rw (← c.number.ensures, ← c.line.ensures)
+    (c.refused_line.ensures ∙ put_when_fits c.args.out.now 0 (refused_line number line) (omega (arith, few, c.requires)))
