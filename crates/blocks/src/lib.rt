@@ -71,6 +71,7 @@ pub fn list_block(
     ensures result_value { can_step (length input.now) (length out.old) result ≡ false }
 {
     let mut state = from;
+    // A step takes as much as a line has, so that no `for` counts them.
     while state.can_step(input.len(), out.len()) {
         state = step(state, input, store, tray, out, frames);
     }

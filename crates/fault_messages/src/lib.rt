@@ -6,29 +6,28 @@ ghost use Rattle.output.specs.Block.{block, put_all};
 ghost use Rattle.fault_messages.specs.FaultSentences.{fault_reason, fault_sentence};
 
 // Why a pattern is at fault.
+#[tactic(auto, unfolding(crate::specs::FaultSentences::fault_reason))]
 fn put_fault_reason(out: &mut [u8], at: usize, number: u8) -> usize
     requires { at + length (fault_reason number) ≤ length out.old }
     ensures { block out.new result ≡ put_all out.old at (fault_reason number) }
 {
-    if number == 13 {
-        return output::put_bytes(
+    match number {
+        13 => output::put_bytes(
             out,
             at,
             b"the bits from here on begin none of LV1, BCR, ECR, CAL and SYNC\n",
-        );
-    }
-    if number == 14 {
-        return output::put_bytes(
+        ),
+        14 => output::put_bytes(
             out,
             at,
             b"the input ends inside the command that begins here\n",
-        );
+        ),
+        _ => output::put_bytes(
+            out,
+            at,
+            b"too few zeros lie ahead of the command that begins here\n",
+        ),
     }
-    output::put_bytes(
-        out,
-        at,
-        b"too few zeros lie ahead of the command that begins here\n",
-    )
 }
 
 // The whole sentence for a pattern at fault: its first bit's place, and why it is refused.

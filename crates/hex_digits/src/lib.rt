@@ -10,9 +10,10 @@ fn character(digit: u8) -> u8
     ensures { result ≡ character_of digit }
 {
     if digit < 10 {
-        return b'0' + digit;
+        b'0' + digit
+    } else {
+        b'A' + (digit - 10)
     }
-    b'A' + (digit - 10)
 }
 
 // A number's digits at a place of a buffer, as many as the width says; the last is written first.
@@ -20,11 +21,9 @@ pub fn put_digits(out: &mut [u8], at: usize, number: u64, width: usize)
     requires { at + width ≤ length out.old }
     ensures { out.new ≡ sets out.old at (characters_of number width) }
 {
-    let mut remaining = width;
     let mut quotient = number;
-    while 0 < remaining {
-        remaining -= 1;
-        out[at + remaining] = character((quotient % 16) as u8);
-        quotient = quotient / 16;
+    for place in (at..at + width).rev() {
+        out[place] = character((quotient % 16) as u8);
+        quotient /= 16;
     }
 }

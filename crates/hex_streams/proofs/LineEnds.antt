@@ -1,6 +1,6 @@
 -- The end of a line: it is refused, its bits pass the last cycle, or they are handed on.
 -- Assumes nothing.
-use Rattle.std.proofs.Common.{◌≡◌, ℕ, ◌+◌, ◌-◌, ◌*◌, ◌<◌, ◌≤◌, true, eqb, leb, List, [], ◌∷◌, length, sym, refl, ap, ◌∙◌, arith, ne_eqb, le-leb}
+use Rattle.std.proofs.Common.{◌≡◌, ℕ, ◌+◌, ◌-◌, ◌*◌, ◌<◌, ◌≤◌, true, leb, List, length, sym, refl, arith, ne_eqb, le-leb}
 use borrow.Author.Tests.{lt-leb}
 use Rattle.limits.specs.Limits.{clock_limit, input_limit}
 use Rattle.bits.specs.Bits.{bits_of}
@@ -9,7 +9,7 @@ use Rattle.bits.proofs.BitRanges.{length_bits}
 use Rattle.line_meanings.specs.declared.LineSoFar.{LineSoFar}
 use Rattle.line_meanings.specs.Line.{line_bytes, hex_number}
 use Rattle.line_meanings.specs.Lines.{empty_line, answer_of, meaning_so_far, read_so_far, read_from, next_line_number}
-use Rattle.line_meanings.proofs.FitLines.{LineFits, line_fits, fitting_bits}
+use Rattle.line_meanings.proofs.FitLines.{line_fits, fitting_bits}
 use Rattle.hex_streams.specs.declared.StreamSoFar.{StreamSoFar}
 use Rattle.hex_streams.specs.declared.StreamPart.{StreamPart}
 use Rattle.hex_streams.specs.Streams.{ahead, bits_of_line, stream_lines}

@@ -5,7 +5,6 @@ use borrow.Author.Tests.{not-false}
 use Rattle.limits.specs.Limits.{clock_limit}
 use Rattle.bits.proofs.BitRanges.{binary, binary_append, bits_all}
 use Rattle.bits.proofs.Truth.{choice, neither, clash}
-use Rattle.line_meanings.specs.declared.LineSoFar.{LineSoFar}
 use Rattle.line_meanings.specs.declared.Scanned.{Scanned}
 use Rattle.line_meanings.specs.Lines.{empty_line, no_characters, scan_of, read_so_far, read_from, LineRead, lines_of, lines_read, next_line_number}
 use Rattle.line_meanings.proofs.Blocks.{lines, scan_complete, scan_incomplete, scan_to_end, scan_within, scan_advances}

@@ -15,7 +15,7 @@ pub struct StreamSoFar {
     pub lines: u64,
     // The bits of the lines that have ended.
     pub bits: u64,
-    // The number of a refused line, which ends the stream; 0 for none.
+    // The number of a refused line, which ends the stream; 0 for none, as the definitions (`so_far`, `stream_end`) take it.
     pub number: u8,
 }
 
@@ -52,14 +52,14 @@ impl StreamSoFar {
         let bytes = line.bytes;
         StreamPart {
             stream: StreamSoFar {
-                line: line,
-                lines: lines,
-                bits: self.bits,
-                number: number,
+                line,
+                lines,
+                number,
+                ..self
             },
-            bytes: bytes,
+            bytes,
             count: 0,
-            next: next,
+            next,
         }
     }
 
@@ -69,11 +69,9 @@ impl StreamSoFar {
         ensures { EndsLine self next result }
     {
         let line = self.line;
-        let answer = line.answer();
-        let number = answer.number();
-        let lines = std::num::wrapping_add_u64(self.lines, 1);
-        if number != 0 {
-            return self.refused(line, lines, number, next);
+        let lines = self.lines.wrapping_add(1);
+        if let Err(fault) = line.answer() {
+            return self.refused(line, lines, fault.number(), next);
         }
         // A digit has four bits.
         let count = 4 * line.digits;
@@ -84,13 +82,13 @@ impl StreamSoFar {
         StreamPart {
             stream: StreamSoFar {
                 line: LineSoFar::empty(),
-                lines: lines,
+                lines,
                 bits: self.bits + count as u64,
                 number: 0,
             },
-            bytes: bytes,
-            count: count,
-            next: next,
+            bytes,
+            count,
+            next,
         }
     }
 
@@ -99,22 +97,20 @@ impl StreamSoFar {
         requires { WellFormed self × (self.number ≡ 0) × (at < length input.now) }
         ensures { ReadsOn self input.now at result }
     {
-        let line = self.line;
-        let scanned = line_scans::scan(line, input, at);
-        let longer = scanned.line;
-        let bytes = longer.bytes;
+        let scanned = line_scans::scan(self.line, input, at);
+        let line = scanned.line;
+        let bytes = line.bytes;
         let stream = StreamSoFar {
-            line: longer,
-            lines: self.lines,
-            bits: self.bits,
+            line,
             number: 0,
+            ..self
         };
         if scanned.complete {
             return stream.end_line(scanned.next);
         }
         StreamPart {
-            stream: stream,
-            bytes: bytes,
+            stream,
+            bytes,
             count: 0,
             next: scanned.next,
         }
@@ -125,12 +121,11 @@ impl StreamSoFar {
         requires { WellFormed self }
         ensures { EndsInput self result }
     {
-        let line = self.line;
-        if (self.number != 0) | line.is_empty() {
-            let bytes = line.bytes;
+        if self.number != 0 || self.line.is_empty() {
+            let bytes = self.line.bytes;
             return StreamPart {
                 stream: self,
-                bytes: bytes,
+                bytes,
                 count: 0,
                 next: 0,
             };

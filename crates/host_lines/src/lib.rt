@@ -32,8 +32,10 @@ pub fn kernelstill_frame_part(tray: &[u8], bits: usize) -> usize
 pub fn kernelstill_hex_line(line: &[u8], bytes: &mut [u8]) -> u64
     ensures { line_result result bytes.new ≡ hex_result_of line.now bytes.old }
 {
-    let answer = hexlines::read_line(line, bytes);
-    answer.number() as u64
+    match hexlines::read_line(line, bytes) {
+        Ok(_) => 0,
+        Err(fault) => u64::from(fault.number()),
+    }
 }
 
 // The bytes of a record's line, and the refusal number.

@@ -3,8 +3,8 @@
 use Rattle.std.specs.Prelude.{Bool, true, false, cond, List, [], ◌∷◌, ◌++◌, ℕ, ◌+◌, ◌*◌, ◌%◌, ◌^◌, leb, eqb, length}
 use Rattle.limits.specs.Limits.{clock_limit}
 use Rattle.bits.specs.Bits.{bits_of}
-use Rattle.patterns.specs.declared.Verdict.{Verdict}
-use Rattle.patterns.specs.declared.Verdict.TheVariants.{Accepted, WrongRange, Unknown, Cut, TooClose}
+use Rattle.patterns.specs.Verdict.{Verdict}
+use Rattle.patterns.specs.Verdict.{Accepted, WrongRange, Unknown, Cut, TooClose}
 use Rattle.patterns.specs.Verdicts.{verdict_number, verdict_place, verdict_of}
 use Rattle.line_meanings.specs.declared.LineNotes.{LineNotes}
 use Rattle.line_meanings.specs.Notes.{no_notes}

@@ -8,6 +8,7 @@ ghost use Rattle.judgements.specs.Judgement.{text_of, message_of};
 use line_meanings::LineNotes;
 
 // What is said in the end: a refusal's number, 0 for none; the place of a pattern at fault; or the number of a line that was refused, from 1, and its notes.
+// It is numbers, and no enum, as the definitions (`judged_of`, `text_of`, `message_of`) take them.
 #[derive(Clone, Copy)]
 pub struct Judgement {
     pub number: u8,
@@ -39,7 +40,6 @@ impl Judgement {
         if 13 <= self.number {
             return fault_messages::put_fault(out, 0, self.number, self.place);
         }
-        let notes = self.notes;
-        messages::put_sentence(out, 0, self.number, self.line, notes)
+        messages::put_sentence(out, 0, self.number, self.line, self.notes)
     }
 }

@@ -1,8 +1,7 @@
 -- What the loop over a block keeps, and the input's end.
 -- Assumes nothing.
-use Rattle.std.proofs.Common.{◌≡◌, ℕ, ◌<◌, ◌≤◌, Bool, true, false, not, ◌&&◌, ◌||◌, ltb, List, [], ◌∷◌, ◌++◌, length, drop, sym, refl, ap, ◌∙◌, subst, ⊎_elim, arith, drop_of_length-le, ltb-false, ltb-true, eq-eqb}
-use borrow.Author.Tests.{not-true, not-false}
-use Rattle.bits.proofs.Truth.{cases, both, neither, not_other, true_holds}
+use Rattle.std.proofs.Common.{◌≡◌, ℕ, ◌<◌, ◌≤◌, Bool, true, false, ◌||◌, List, [], ◌∷◌, ◌++◌, length, drop, sym, refl, ap, ◌∙◌, arith, drop_of_length-le, eq-eqb}
+use Rattle.bits.proofs.Truth.{neither}
 use Rattle.acceptance.specs.Progress.{verdict_on}
 use Rattle.line_meanings.specs.declared.LineSoFar.{LineSoFar}
 use Rattle.line_meanings.specs.declared.Scanned.{Scanned}
@@ -28,10 +27,6 @@ with_line s line = record { progress = s.progress; line = line; lines = s.lines;
 
 pub with_line_formed : {s : Judging} → WellFormed s → (line : LineSoFar) → WellFormed (with_line s line)
 with_line_formed w line = record { fits = w.fits; near = w.near; clock = w.clock; numbered = w.numbered }
-
--- The loop's test.
-pub goes_on : (next size : ℕ) (over : Bool) → (ltb next size && not over) ≡ true → (next < size) × (over ≡ false)
-goes_on next size over e = let s = both (ltb next size) (not over) e in (ltb-true next size s.0, not-true over s.1)
 
 pub record Invariant (from : Judging) (input : List ℕ) (next : ℕ) (s : Judging) : Type 0 where
   pub well_formed : WellFormed s
@@ -81,22 +76,17 @@ module _ {from : Judging} {input : List ℕ} where
       }
 
     -- the block is read, or the run is over
-    at_end : length input ≤ next → JudgesBlock from input s
+    pub at_end : length input ≤ next → JudgesBlock from input s
     at_end h = record {
       well_formed = i.well_formed;
       same = λ more. ap (λ (l : List ℕ). still_judged s (l ++ more)) (sym (drop_of_length-le input {i = next} h)) ∙ i.same more;
     }
 
-    at_refusal : s.over ≡ true → JudgesBlock from input s
+    pub at_refusal : s.over ≡ true → JudgesBlock from input s
     at_refusal e = record {
       well_formed = i.well_formed;
       same = λ more. over_judged s more e ∙ sym (over_judged s (drop next input ++ more) e) ∙ i.same more;
     }
-
-    pub stops : (ltb next (length input) && not s.over) ≡ false → JudgesBlock from input s
-    stops e =
-        ⊎_elim (λ (l : ltb next (length input) ≡ true). at_refusal (not-false s.over (not_other (ltb next (length input)) _ e (true_holds _ l))))
-        (λ (l : ltb next (length input) ≡ false). at_end (ltb-false next (length input) l)) (cases (ltb next (length input)))
 
 -- A run at the end of a line and of the input.
 none_begun : {s : Judging} → WellFormed s → s.over ≡ false → no_characters s.line ≡ true → judgement_of s ≡ still_judged s []

@@ -1,22 +1,21 @@
 -- The end of a line in a run of `accept`: it is refused, its bits pass the last cycle, or they are judged.
 -- Assumes nothing.
-use Rattle.std.proofs.Common.{◌≡◌, ℕ, zero, suc, ◌+◌, ◌-◌, ◌*◌, ◌<◌, ◌≤◌, Bool, true, false, cond, not, eqb, leb, List, [], ◌∷◌, ◌++◌, length, sym, refl, ap, ◌∙◌, subst, ⊎_elim, append-nil, arith, eq-eqb, ne_eqb, eqb-true, le-leb}
+use Rattle.std.proofs.Common.{◌≡◌, ℕ, zero, suc, ◌+◌, ◌-◌, ◌*◌, ◌<◌, ◌≤◌, Bool, true, false, not, eqb, leb, List, [], length, sym, refl, ap, ◌∙◌, subst, ⊎_elim, append-nil, arith, eq-eqb, ne_eqb, eqb-true, le-leb}
 use borrow.Author.Tests.{lt-leb}
 use Rattle.limits.specs.Limits.{clock_limit}
 use Rattle.bits.specs.Bits.{bits_of}
 use Rattle.bits.proofs.BitRanges.{length_bits}
 use Rattle.bits.proofs.Truth.{clash, choice}
-use Rattle.patterns.specs.declared.Verdict.{Verdict}
+use Rattle.patterns.specs.Verdict.{Verdict}
 use Rattle.acceptance.specs.declared.Progress.{Progress}
-use Rattle.acceptance.specs.Progress.{fault_at, verdict_on, reached, Fits, After}
+use Rattle.acceptance.specs.Progress.{fault_at, verdict_on, Fits, After}
 use Rattle.acceptance.proofs.Steps.{at_fault, ends_clean, ends_cut}
 use Rattle.line_meanings.specs.declared.LineSoFar.{LineSoFar}
 use Rattle.line_meanings.specs.Line.{line_bytes, hex_number}
-use Rattle.line_meanings.specs.Notes.{no_notes}
 use Rattle.line_meanings.specs.Lines.{empty_line, answer_of, meaning_so_far, read_so_far, read_from}
 use Rattle.line_meanings.proofs.FitLines.{LineFits, line_fits, fitting_bits}
 use Rattle.judging.specs.declared.Judging.{Judging}
-use Rattle.judgements.specs.Judgement.{by_verdict, by_line, is_fault, line_bits, next_line_number, judged_lines}
+use Rattle.judgements.specs.Judgement.{by_verdict, is_fault, line_bits, next_line_number, judged_lines}
 use Rattle.judging.specs.Judging.{refused_at, still_judged, WellFormed, EndsLine}
 
 -- A pattern is at fault, whatever follows, exactly where the progress says so.

@@ -1,10 +1,8 @@
 -- What a run of `accept` stands for: the characters read so far, whatever more follow.
 -- Assumes nothing.
 use Rattle.std.proofs.Common.{◌≡◌, ℕ, List, [], ◌∷◌, ◌++◌, sym, refl, ap, ◌∙◌, subst, append_assoc, append-nil, arith}
-use Rattle.patterns.specs.Verdicts.{verdict_of}
 use Rattle.acceptance.specs.Progress as progress
 use Rattle.acceptance.proofs.Steps.{going, start_fits}
-use Rattle.line_meanings.specs.Lines.{empty_line, lines_of, lines_read, read_from}
 use Rattle.line_meanings.proofs.Blocks.{lines}
 use Rattle.judging.specs.declared.Judging.{Judging}
 use Rattle.judgements.specs.Judgement.{judged_lines, judged_of}

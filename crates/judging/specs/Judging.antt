@@ -1,6 +1,6 @@
 -- A run of `accept` under way: what is still said of its stream, and what each step keeps.
 -- Assumes nothing.
-use Rattle.std.specs.Prelude.{◌≡◌, ℕ, ◌≤◌, Bool, true, false, cond, List, [], ◌∷◌, ◌++◌, ◌==◌}
+use Rattle.std.specs.Prelude.{◌≡◌, ℕ, ◌≤◌, true, false, cond, List, [], ◌∷◌, ◌++◌, ◌==◌}
 use Rattle.limits.specs.Limits.{clock_limit}
 use Rattle.acceptance.specs.Progress as progress
 use Rattle.acceptance.specs.Progress.{verdict_on, reached, Fits}

@@ -21,7 +21,8 @@ pub struct Judging {
     pub lines: u64,
     // The bits of the lines that have ended.
     pub bits: u64,
-    // Whether a refused line or a pattern at fault has ended the run, and the number of a refused line, 0 for none.
+    // Whether a refused line or a pattern at fault has ended the run, and the number of a refused line, 0 for none, as the definitions (`judgement_of`,
+    // `still_judged`) take them.
     pub over: bool,
     pub number: u8,
 }
@@ -47,14 +48,12 @@ impl Judging {
     fn refused(self, line: LineSoFar, lines: u64, number: u8) -> Judging
         ensures { result ≡ refused_at self line lines number }
     {
-        let progress = self.progress;
         Judging {
-            progress: progress,
-            line: line,
-            lines: lines,
-            bits: self.bits,
+            line,
+            lines,
             over: true,
-            number: number,
+            number,
+            ..self
         }
     }
 
@@ -70,12 +69,11 @@ impl Judging {
             return self.refused(LineSoFar::empty(), lines, CLOCK_OVER);
         }
         let bytes = line.bytes;
-        let before = self.progress;
-        let progress = before.check(&bytes, 0, count);
+        let progress = self.progress.check(&bytes, 0, count);
         Judging {
-            progress: progress,
+            progress,
             line: LineSoFar::empty(),
-            lines: lines,
+            lines,
             bits: self.bits + count as u64,
             over: progress.fault != 0,
             number: 0,
@@ -87,12 +85,9 @@ impl Judging {
         requires { WellFormed self }
         ensures { EndsLine self result }
     {
-        let line = self.line;
-        let answer = line.answer();
-        let number = answer.number();
-        let lines = std::num::wrapping_add_u64(self.lines, 1);
-        if number != 0 {
-            return self.refused(line, lines, number);
+        let lines = self.lines.wrapping_add(1);
+        if let Err(fault) = self.line.answer() {
+            return self.refused(self.line, lines, fault.number());
         }
         self.judge_line(lines)
     }
@@ -103,13 +98,12 @@ impl Judging {
         ensures { JudgesBlock self input.now result }
     {
         let mut state = self;
-        let mut next: usize = 0;
-        while (next < input.len()) & !state.over {
-            let line = state.line;
-            let scanned = line_scans::scan(line, input, next);
+        let mut next = 0;
+        // Each turn takes as much of the block as a line has, so no `for` counts them.
+        while next < input.len() && !state.over {
+            let scanned = line_scans::scan(state.line, input, next);
             next = scanned.next;
-            let longer = scanned.line;
-            state.line = longer;
+            state.line = scanned.line;
             if scanned.complete {
                 state = state.end_line();
             }
@@ -122,8 +116,7 @@ impl Judging {
         requires { WellFormed self }
         ensures { EndsInput self result }
     {
-        let line = self.line;
-        if self.over | line.is_empty() {
+        if self.over || self.line.is_empty() {
             return self;
         }
         self.end_line()
@@ -135,20 +128,20 @@ impl Judging {
         ensures { result ≡ judgement_of self }
     {
         if self.number != 0 {
-            let line = self.line;
-            let notes = line.notes;
             return Judgement {
                 number: self.number,
                 place: 0,
                 line: self.lines,
-                notes: notes,
+                notes: self.line.notes,
             };
         }
-        let progress = self.progress;
-        let verdict = progress.verdict();
+        let (number, place) = match self.progress.verdict() {
+            Ok(()) => (0, 0),
+            Err(fault) => (fault.number(), fault.place()),
+        };
         Judgement {
-            number: verdict.number(),
-            place: verdict.place(),
+            number,
+            place,
             line: 0,
             notes: LineNotes {
                 length: 0,

@@ -8,12 +8,24 @@ use lib.Dec.{leb, eqb}
 use lib.ListN.{length, take}
 use lib.Seq.{length-take-le, get_or-take}
 use borrow.Author.Tests.{leb-true, eqb-true}
+use Rattle.std.specs.Prelude.{Result, Ok, Err}
 use Rattle.bits.specs.Bits.{bits_of}
 use Rattle.bits.proofs.Truth.{both, choice}
-use Rattle.line_meanings.specs.declared.HexLine.{HexLine}
+use Rattle.line_meanings.specs.declared.LineFault.{LineFault}
+use Rattle.line_meanings.specs.declared.LineFault.TheVariants.{WrongCharacter, WrongLength}
 use Rattle.line_meanings.specs.declared.LineSoFar.{LineSoFar}
-use Rattle.line_meanings.specs.Line.{digit_limit, line_bytes, count_fits, hex_number, hex_count}
+use Rattle.line_meanings.specs.Line.{digit_limit, line_bytes, count_fits, fault_number, hex_number, hex_count}
 use Rattle.line_meanings.specs.Lines.{answer_of, meaning_so_far}
+
+-- A refusal has a number.
+pub refused_numbered : (fault : LineFault) → fault_number fault ≡ 0 → ⊥
+refused_numbered WrongCharacter e = absurd (omega arith)
+refused_numbered WrongLength e = absurd (omega arith)
+
+-- An answer that is no refusal.
+pub not_refused : (r : Result ℕ LineFault) → ((fault : LineFault) → r ≡ Err fault → ⊥) → hex_number r ≡ 0
+not_refused (Ok count) n = refl
+not_refused (Err fault) n = absurd (n fault refl)
 
 -- What a line that is not refused has.
 pub record LineFits (s : LineSoFar) : Type 0 where
@@ -21,7 +33,7 @@ pub record LineFits (s : LineSoFar) : Type 0 where
   pub even : s.digits % 2 ≡ 0
   pub half : hex_count (answer_of s) ≡ s.digits / 2
 
-abbrev Counted : LineSoFar → HexLine → Type 0
+abbrev Counted : LineSoFar → Result ℕ LineFault → Type 0
 Counted s r = hex_number r ≡ 0 → (s.digits ≤ digit_limit) × (s.digits % 2 ≡ 0) × (hex_count r ≡ s.digits / 2)
 
 pub line_fits : (s : LineSoFar) → hex_number (answer_of s) ≡ 0 → LineFits s

@@ -1,6 +1,6 @@
 -- A run that goes on from block to block: what is said in the end of the characters still to come is said of all.
 -- Assumes nothing.
-use mathlib.Core.Path.{◌≡◌, ◌∙◌, refl, sym, ap, subst}
+use mathlib.Core.Path.{◌≡◌, ◌∙◌, sym, ap}
 use mathlib.Core.List.{List, [], ◌∷◌, ◌++◌, append_assoc}
 use Prim.Native.Nat.{ℕ}
 use Rattle.line_meanings.specs.Blocks.{joined, InBlocks}

@@ -12,13 +12,14 @@ use lib.Dec.{ltb, leb, eqb, lit≤}
 use lib.ListN.{length, get_or, set, take, length-set}
 use lib.Seq.{sets, length-take-le, get_or-set_same, set-set, take-suc-set, append_snoc}
 use borrow.Author.Tests.{lt-ltb, ltb-true, ltb-false, leb-true, leb-false, eqb-true}
+use Rattle.std.specs.Prelude.{Result}
 use Rattle.bits.proofs.Truth.{both, cases, choice}
-use Rattle.line_meanings.specs.declared.HexLine.{HexLine}
+use Rattle.line_meanings.specs.declared.LineFault.{LineFault}
 use Rattle.line_meanings.specs.declared.LineNotes.{LineNotes}
 use Rattle.line_meanings.specs.declared.LineSoFar.{LineSoFar}
 use Rattle.line_meanings.specs.Digits.{is_digit, digit_of, all_digits, bytes_of}
 use Rattle.line_meanings.specs.Line.{digit_limit, line_bytes, line_meaning, count_fits, hex_count, read_as, read_of}
-use Rattle.line_meanings.specs.Notes.{no_notes, with_note, with_notes, notes_of}
+use Rattle.line_meanings.specs.Notes.{with_note, with_notes}
 use Rattle.line_meanings.specs.Lines.{empty_line, with_character, with_characters, answer_of, meaning_so_far, line_read, read_so_far}
 use Rattle.line_meanings.proofs.Digits.{digit_range}
 
@@ -193,10 +194,10 @@ line_read_whole line = λ i. record { meaning = line_means line i; notes = notes
 answer_short : (s : LineSoFar) → hex_count (answer_of s) ≤ line_bytes
 unfolding answer_of
 answer_short s =
-    choice (λ (r : HexLine). hex_count r ≤ line_bytes) s.wrong
+    choice (λ (r : Result ℕ LineFault). hex_count r ≤ line_bytes) s.wrong
     (λ t. lit≤ tt)
     (λ f.
-    choice (λ (r : HexLine). hex_count r ≤ line_bytes) (count_fits s.digits)
+    choice (λ (r : Result ℕ LineFault). hex_count r ≤ line_bytes) (count_fits s.digits)
     (λ t. let h = leb-true s.digits digit_limit (both (eqb (s.digits % 2) 0) (leb s.digits digit_limit) t).1 in omega arith)
     (λ f. lit≤ tt))
 
@@ -212,7 +213,7 @@ unfolding with_characters
 same_buffer_all s [] = refl
 same_buffer_all s (c ∷ cs) = same_buffer_all (with_character s c) cs ∙ same_buffer s c
 
-module _ (line : List ℕ) (s : LineSoFar) (all : s ≡ with_characters empty_line line) (r : HexLine) (answered : r ≡ answer_of s) where
+module _ (line : List ℕ) (s : LineSoFar) (all : s ≡ with_characters empty_line line) (r : Result ℕ LineFault) (answered : r ≡ answer_of s) where
   pub count_limit : hex_count r ≤ line_bytes
   count_limit = rw answered (answer_short s)
 

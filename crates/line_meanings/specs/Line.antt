@@ -1,9 +1,9 @@
 -- The hexadecimal line: what it means, and what a call that reads one answers (document 01, "A taking call": the refusal table).
 -- Assumes nothing.
-use Rattle.std.specs.Prelude.{Bool, cond, ◌&&◌, List, [], ℕ, ◌%◌, ltb, leb, eqb, length}
+use Rattle.std.specs.Prelude.{Bool, cond, ◌&&◌, List, [], ℕ, ◌%◌, ltb, leb, eqb, length, Result, Ok, Err}
 use Rattle.std.proofs.lemmas.List.Edits.{sets}
-use Rattle.line_meanings.specs.declared.HexLine.{HexLine}
-use Rattle.line_meanings.specs.declared.HexLine.TheVariants.{Bytes, WrongCharacter, WrongLength, NoRoom}
+use Rattle.line_meanings.specs.declared.LineFault.{LineFault}
+use Rattle.line_meanings.specs.declared.LineFault.TheVariants.{WrongCharacter, WrongLength}
 use Rattle.line_meanings.specs.Digits.{all_digits, bytes_of}
 
 -- A line's refusal number, 0 for none, and its bytes.
@@ -33,19 +33,20 @@ line_meaning line =
     (cond (count_fits (length line)) (record { number = 0; bytes = bytes_of line }) (refused 8))
     (refused 7)
 
+-- The number of each refusal.
+abbrev pub fault_number : LineFault → ℕ
+fault_number WrongCharacter = 7
+fault_number WrongLength = 8
+
 -- The refusal number of each answer; 0 is none.
-abbrev pub hex_number : HexLine → ℕ
-hex_number (Bytes count) = 0
-hex_number WrongCharacter = 7
-hex_number WrongLength = 8
-hex_number NoRoom = 4
+abbrev pub hex_number : Result ℕ LineFault → ℕ
+hex_number (Ok count) = 0
+hex_number (Err fault) = fault_number fault
 
 -- How many bytes each answer has.
-abbrev pub hex_count : HexLine → ℕ
-hex_count (Bytes count) = count
-hex_count WrongCharacter = 0
-hex_count WrongLength = 0
-hex_count NoRoom = 0
+abbrev pub hex_count : Result ℕ LineFault → ℕ
+hex_count (Ok count) = count
+hex_count (Err fault) = 0
 
 -- An answer by its number and count, with the lent buffer's later contents.
 pub record Read : Type 0 where
@@ -53,7 +54,7 @@ pub record Read : Type 0 where
   pub count : ℕ
   pub buffer : List ℕ
 
-abbrev pub read_as : HexLine → List ℕ → Read
+abbrev pub read_as : Result ℕ LineFault → List ℕ → Read
 read_as answer buffer = record { number = hex_number answer; count = hex_count answer; buffer = buffer }
 
 -- The line's bytes stand at the buffer's start, and nothing else in it changes; a refused line changes nothing.

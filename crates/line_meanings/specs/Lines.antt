@@ -1,9 +1,9 @@
 -- The input's lines, and a line as it is read character by character, since it may be of any length (document 01, "Streams with their records").
 -- Assumes nothing.
-use Rattle.std.specs.Prelude.{Bool, true, false, cond, not, ◌&&◌, List, [], ◌∷◌, ◌++◌, ℕ, ◌+◌, ◌*◌, ◌/◌, ◌%◌, ◌^◌, ltb, eqb, length, get_or, set, take, drop, replicate}
+use Rattle.std.specs.Prelude.{Bool, true, false, cond, not, ◌&&◌, List, [], ◌∷◌, ◌++◌, ℕ, ◌+◌, ◌*◌, ◌/◌, ◌%◌, ◌^◌, ltb, eqb, length, get_or, set, take, drop, replicate, Result, Ok, Err}
 use Rattle.output.specs.Ascii.{line_feed}
-use Rattle.line_meanings.specs.declared.HexLine.{HexLine}
-use Rattle.line_meanings.specs.declared.HexLine.TheVariants.{Bytes, WrongCharacter, WrongLength}
+use Rattle.line_meanings.specs.declared.LineFault.{LineFault}
+use Rattle.line_meanings.specs.declared.LineFault.TheVariants.{WrongCharacter, WrongLength}
 use Rattle.line_meanings.specs.declared.LineNotes.{LineNotes}
 use Rattle.line_meanings.specs.declared.LineSoFar.{LineSoFar}
 use Rattle.line_meanings.specs.declared.Scanned.{Scanned}
@@ -64,8 +64,8 @@ with_characters s [] = s
 with_characters s (c ∷ cs) = with_characters (with_character s c) cs
 
 -- What the line means, if it ends here.
-unfoldable pub answer_of : LineSoFar → HexLine
-answer_of s = cond s.wrong WrongCharacter (cond (count_fits s.digits) (Bytes (s.digits / 2)) WrongLength)
+unfoldable pub answer_of : LineSoFar → Result ℕ LineFault
+answer_of s = cond s.wrong (Err WrongCharacter) (cond (count_fits s.digits) (Ok (s.digits / 2)) (Err WrongLength))
 
 -- The same with the bytes that it holds.
 unfoldable pub meaning_so_far : LineSoFar → LineMeaning

@@ -2,28 +2,24 @@
 #![tactic(auto)]
 
 ghost use Rattle.std.specs.Prelude.{◌≡◌};
-ghost use Rattle.line_meanings.specs.Line.{hex_number};
+ghost use Rattle.line_meanings.specs.Line.{fault_number};
 ghost use Rattle.line_meanings.specs.Lines.{empty_line, answer_of, no_characters};
 
-// What a hexadecimal line means: n bytes, or rejected with number 7 or 8; and with number 4 where a call that reads it is lent too few bytes.
-#[derive(Clone, Copy)]
-pub enum HexLine {
-    Bytes(usize),
+// Why a hexadecimal line is refused: a character is no digit, or the count of digits is odd or above the limit.
+#[derive(Clone, Copy, PartialEq, Eq)]
+pub enum LineFault {
     WrongCharacter,
     WrongLength,
-    NoRoom,
 }
 
-impl HexLine {
-    // The number of the refusal, 0 for none.
+impl LineFault {
+    // The number of the refusal.
     pub fn number(self) -> u8
-        ensures { result ≡ hex_number self }
+        ensures { result ≡ fault_number self }
     {
         match self {
-            HexLine::Bytes(_) => 0,
-            HexLine::WrongCharacter => 7,
-            HexLine::WrongLength => 8,
-            HexLine::NoRoom => 4,
+            LineFault::WrongCharacter => 7,
+            LineFault::WrongLength => 8,
         }
     }
 }
@@ -35,7 +31,7 @@ pub const DIGIT_LIMIT: usize = 64;
 pub const LINE_BYTES: usize = 32;
 
 // What the message of a refusal tells of a line: its length so far, and of the first character that is no digit the place, from 1, and the character
-// itself. The place is 0 while there is none.
+// itself. The place is 0 while there is none, and no Option: a message is a text of any notes, and so needs a place there too.
 #[derive(Clone, Copy)]
 pub struct LineNotes {
     pub length: u64,
@@ -77,28 +73,28 @@ impl LineSoFar {
             wrong: false,
             digits: 0,
             bytes: [0; LINE_BYTES],
-            notes: notes,
+            notes,
         }
     }
 
-    // What the line means if it ends here; its bytes, if it is not refused, are the first of `bytes`.
-    pub fn answer(self) -> HexLine
+    // What the line means if it ends here: so many bytes, the first of `bytes`, or why it is refused.
+    #[tactic(auto, unfolding(crate::specs::Lines::answer_of))]
+    pub fn answer(self) -> Result<usize, LineFault>
         ensures { result ≡ answer_of self }
     {
-        let n = self.digits;
         if self.wrong {
-            return HexLine::WrongCharacter;
+            return Err(LineFault::WrongCharacter);
         }
-        if (n % 2 == 0) & (n <= DIGIT_LIMIT) {
-            return HexLine::Bytes(n / 2);
+        if self.digits % 2 == 0 && self.digits <= DIGIT_LIMIT {
+            return Ok(self.digits / 2);
         }
-        HexLine::WrongLength
+        Err(LineFault::WrongLength)
     }
 
     // Whether there are no characters yet: at the end of the input that is no line.
     pub fn is_empty(self) -> bool
         ensures { result ≡ no_characters self }
     {
-        !self.wrong & (self.digits == 0)
+        !self.wrong && self.digits == 0
     }
 }

@@ -6,19 +6,17 @@ ghost use Rattle.line_meanings.specs.Lines.{up_to_line_feed, scan_of};
 
 use line_meanings::{LineSoFar, Scanned};
 
-// The place of the next line feed, or the block's end.
+// The place of the next line feed, or the block's end. `position` took twice the time of this loop.
 fn line_end(block: &[u8], at: usize) -> usize
     requires { at ≤ length block.now }
     ensures { result ≡ at + length (up_to_line_feed (drop at block.now)) }
 {
-    let mut end = at;
-    while end < block.len() {
+    for end in at..block.len() {
         if block[end] == output::LINE_FEED {
             return end;
         }
-        end += 1;
     }
-    end
+    block.len()
 }
 
 // Scans a block from a place on, up to and with the next line feed, or to the block's end.
@@ -37,13 +35,13 @@ pub fn scan(before: LineSoFar, block: &[u8], at: usize) -> Scanned
     let line = line_characters::with_characters(before, &block[at..end]);
     if end < block.len() {
         return Scanned {
-            line: line,
+            line,
             next: end + 1,
             complete: true,
         };
     }
     Scanned {
-        line: line,
+        line,
         next: end,
         complete: false,
     }

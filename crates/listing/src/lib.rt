@@ -27,10 +27,8 @@ pub fn put_records(out: &mut [u8], at: usize, words: &[u64], tray: &[u8], frames
     ensures { block out.new result ≡ put_all out.old at (records_text frames tray.now words.now) }
 {
     let mut place = at;
-    let mut i: usize = 0;
-    while i < words.len() / 2 {
+    for i in 0..words.len() / 2 {
         place = put_record(out, place, words[2 * i], words[2 * i + 1], tray, frames);
-        i += 1;
     }
     place
 }

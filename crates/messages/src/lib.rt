@@ -30,17 +30,16 @@ fn put_wrong_length(out: &mut [u8], at: usize, notes: LineNotes) -> usize
     )
 }
 
+#[tactic(auto, unfolding(crate::specs::Sentences::reason_of))]
 fn put_reason(out: &mut [u8], at: usize, number: u8, notes: LineNotes) -> usize
     requires { at + length (reason_of number notes) ≤ length out.old }
     ensures { block out.new result ≡ put_all out.old at (reason_of number notes) }
 {
-    if number == 7 {
-        return wrong_characters::put_wrong_character(out, at, notes);
+    match number {
+        7 => wrong_characters::put_wrong_character(out, at, notes),
+        8 => put_wrong_length(out, at, notes),
+        _ => output::put_bytes(out, at, b"its bits pass the last clock cycle\n"),
     }
-    if number == 8 {
-        return put_wrong_length(out, at, notes);
-    }
-    output::put_bytes(out, at, b"its bits pass the last clock cycle\n")
 }
 
 // The whole sentence: the line's number, and why it is refused.

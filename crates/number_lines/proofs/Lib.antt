@@ -1,2 +1,2 @@
-mod NumberPieces
+pub mod NumberPieces
 pub mod LineLengths

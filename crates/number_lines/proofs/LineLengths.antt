@@ -5,9 +5,9 @@ use mathlib.Core.Path.{◌≡◌, refl}
 use Prim.Native.Nat.{ℕ, ◌+◌}
 use native.Mathlib.Nat.{suc_inj}
 use native.Mathlib.Omega.{arith}
-use lib.ListN.{length, length-append}
+use lib.ListN.{length, length-append, length-map}
 use Rattle.hex_digits.proofs.Digits.{digits_length}
-use Rattle.number_lines.specs.NumberLines.{numbers_line, line_of, numbers_size}
+use Rattle.number_lines.specs.NumberLines.{numbers_line, line_of, numbers_size, fields_line, fields_size}
 
 numbers_length : (ns ws : List ℕ) → length ns ≡ length ws → length (numbers_line ns ws) ≡ numbers_size ws
 unfolding numbers_line
@@ -18,3 +18,6 @@ numbers_length (n ∷ ns) (w ∷ ws) e = rw (length-append, digits_length) (omeg
 
 pub line_length : (lead ns ws : List ℕ) → length ns ≡ length ws → length (line_of lead ns ws) ≡ length lead + numbers_size ws
 line_length lead ns ws e = rw (length-append, numbers_length ns ws e)
+
+pub fields_length : (lead : List ℕ) (fields : List (ℕ × ℕ)) → length (fields_line lead fields) ≡ length lead + fields_size fields
+fields_length lead fields = line_length lead _ _ (rw (length-map, length-map))

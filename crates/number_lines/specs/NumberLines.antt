@@ -1,6 +1,6 @@
 -- Lines of numbers in digits, as bytes (document 01, "Streams with their records").
 -- Assumes nothing.
-use Rattle.std.specs.Prelude.{List, [], ◌∷◌, ◌++◌, ℕ, ◌+◌}
+use Rattle.std.specs.Prelude.{List, [], ◌∷◌, ◌++◌, ℕ, ◌+◌, map}
 use Prim.Native.Char.{code}
 use Rattle.output.specs.Ascii.{line_feed}
 use Rattle.hex_digits.specs.Digits.{characters_of}
@@ -27,3 +27,13 @@ line_of lead numbers widths = lead ++ numbers_line numbers widths
 abbrev pub numbers_size : List ℕ → ℕ
 numbers_size [] = 0
 numbers_size (width ∷ widths) = width + 1 + numbers_size widths
+
+-- The same by a list of fields, each of them a number and its width.
+abbrev pub fields_text : List (ℕ × ℕ) → List ℕ
+fields_text fields = numbers_line (map (λ (f : ℕ × ℕ). f.0) fields) (map (λ (f : ℕ × ℕ). f.1) fields)
+
+abbrev pub fields_line : List ℕ → List (ℕ × ℕ) → List ℕ
+fields_line lead fields = line_of lead (map (λ (f : ℕ × ℕ). f.0) fields) (map (λ (f : ℕ × ℕ). f.1) fields)
+
+abbrev pub fields_size : List (ℕ × ℕ) → ℕ
+fields_size fields = numbers_size (map (λ (f : ℕ × ℕ). f.1) fields)

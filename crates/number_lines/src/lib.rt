@@ -5,7 +5,7 @@ ghost use Rattle.std.specs.Prelude.{◌≡◌, cond, [], ◌∷◌, ◌++◌, �
 ghost use Rattle.output.specs.Ascii.{line_feed};
 ghost use Rattle.output.specs.Block.{block, put_all, put_if_fits};
 ghost use Rattle.hex_digits.specs.Digits.{characters_of};
-ghost use Rattle.number_lines.specs.NumberLines.{space, numbers_line, line_of, numbers_size};
+ghost use Rattle.number_lines.specs.NumberLines.{space, fields_text, fields_line, fields_size};
 
 const SPACE: u8 = b' ';
 
@@ -17,6 +17,7 @@ fn separator(last: bool) -> u8
 }
 
 // A number in the digits of its width, and its separator, at a place of a buffer; the answer is the place after them.
+#[tactic(auto, using(crate::proofs::NumberPieces::digits_then_separator))]
 fn put_number(out: &mut [u8], at: usize, number: u64, width: usize, separator: u8) -> usize
     requires { at + width < length out.old }
     ensures { block out.new result ≡ put_all out.old at (characters_of number width ++ (separator ∷ [])) }
@@ -26,18 +27,16 @@ fn put_number(out: &mut [u8], at: usize, number: u64, width: usize, separator: u
     at + width + 1
 }
 
-// The numbers of a line at a place of a buffer, each in its width; the answer is the place after them.
-fn put_numbers(out: &mut [u8], at: usize, numbers: &[u64], widths: &[usize]) -> usize
-    requires { (length numbers.now ≡ length widths.now) × (at + length (numbers_line numbers.now widths.now) ≤ length out.old) }
-    ensures { block out.new result ≡ put_all out.old at (numbers_line numbers.now widths.now) }
+// The numbers of a line, each with its width, at a place of a buffer; the answer is the place after them.
+fn put_fields(out: &mut [u8], at: usize, fields: &[(u64, usize)]) -> usize
+    requires { at + length (fields_text fields.now) ≤ length out.old }
+    ensures { block out.new result ≡ put_all out.old at (fields_text fields.now) }
 {
     let mut place = at;
-    let mut i: usize = 0;
-    while i < numbers.len() {
-        let next = i + 1;
-        let end = separator(next == numbers.len());
-        place = put_number(out, place, numbers[i], widths[i], end);
-        i = next;
+    for (i, field) in fields.iter().enumerate() {
+        let (number, width) = *field;
+        let end = separator(i + 1 == fields.len());
+        place = put_number(out, place, number, width, end);
     }
     place
 }
@@ -46,27 +45,23 @@ fn put_numbers(out: &mut [u8], at: usize, numbers: &[u64], widths: &[usize]) -> 
 fn fits(room: usize, at: usize, size: usize) -> bool
     ensures { result ≡ leb (at + size) room }
 {
-    if room < at {
-        return false;
-    }
-    size <= room - at
+    at <= room && size <= room - at
 }
 
-// A line of a lead and numbers, of a size that is known, put into a block.
+// A line of a lead and numbers, each with the count of its digits, put into a block; the caller has its size, as a sum could wrap.
 pub fn put_line(
     out: &mut [u8],
     at: usize,
     size: usize,
     lead: &[u8],
-    numbers: &[u64],
-    widths: &[usize],
+    fields: &[(u64, usize)],
 ) -> usize
-    requires { (length numbers.now ≡ length widths.now) × (size ≡ length lead.now + numbers_size widths.now) }
-    ensures { block out.new result ≡ put_if_fits out.old at (line_of lead.now numbers.now widths.now) }
+    requires { size ≡ length lead.now + fields_size fields.now }
+    ensures { block out.new result ≡ put_if_fits out.old at (fields_line lead.now fields.now) }
 {
     if !fits(out.len(), at, size) {
         return at;
     }
     let place = output::put_bytes(out, at, lead);
-    put_numbers(out, place, numbers, widths)
+    put_fields(out, place, fields)
 }

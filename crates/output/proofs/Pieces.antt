@@ -1,14 +1,15 @@
 -- Texts put into a block piece by piece: what is left of a text, put at the present place, gives what the whole text gives; and what then stands
 -- ahead of the next place.
 -- Assumes nothing.
-use mathlib.Core.List.{List, [], ◌∷◌, ◌++◌}
+use mathlib.Core.List.{List, [], ◌∷◌, ◌++◌, append_assoc}
 use mathlib.Core.Path.{◌≡◌, refl, ap, ◌∙◌}
-use Prim.Native.Nat.{ℕ, suc, ◌+◌, ◌≤◌, ◌<◌}
-use native.Mathlib.Nat.{add-zero, add_assoc}
+use Prim.Native.Nat.{ℕ, suc, ◌+◌, ◌-◌, ◌≤◌, ◌<◌}
+use native.Mathlib.Nat.{add-zero, add_assoc, add-sub_cancel_left}
 use native.Mathlib.Omega.{arith}
 use lib.ListN.{length, set, take, drop, length-append}
-use lib.Seq.{sets, length-sets, set_comm, sets-eq, take_at, length-take-le}
+use lib.Seq.{sets, length-sets, set_comm, sets-eq, take_at, length-take-le, drop-drop}
 use borrow.Author.Tests.{le-leb, lt-leb}
+use borrow.Rule.Slice.PartMut.{put_mid}
 use Rattle.output.specs.Block.{Block, block, put_all, put_if_fits}
 
 pub sets_append : (xs ys out : List ℕ) (at : ℕ) → sets out at (xs ++ ys) ≡ sets (sets out at xs) (at + length xs) ys
@@ -23,6 +24,11 @@ sets_last [] out at x = rw add-zero
 sets_last (y ∷ xs) out at x =
     let e : at + suc (length xs) ≡ suc at + length xs = omega arith in
     rw (set_comm out (at + suc (length xs)) at x y (λ q. omega arith), e) (sets_last xs (set out at y) (suc at) x)
+
+-- A text copied to a part of the block.
+pub copied : (out xs ys : List ℕ) (at : ℕ) → at + length xs ≤ length out → ys ≡ xs
+    → block (put_mid at (at + length xs - at) out ys) (at + length xs) ≡ put_all out at xs
+copied out xs ys at h e = simp (e, add-sub_cancel_left, drop-drop) (rw (sets-eq xs out at h, append_assoc))
 
 -- A text after another: there is room for both, and they are put as one.
 module _ (out xs ys out' : List ℕ) (at place : ℕ) (e : block out' place ≡ put_all out at xs) where

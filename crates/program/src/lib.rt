@@ -34,7 +34,8 @@ pub struct RunState {
     pub next: usize,
     pub length: usize,
     pub filled: usize,
-    // Whether the input has ended, and whether the run has: at a refusal, or after the input's end. The refusal's number, 0 for none.
+    // Whether the input has ended, and whether the run has: at a refusal, or after the input's end. The refusal's number, 0 for none, as the definitions of
+    // a run's outcome have it.
     pub eof: bool,
     pub over: bool,
     pub number: u8,
@@ -82,11 +83,10 @@ impl RunState {
         ensures { EndsLine self out.old result out.new }
     {
         let line = self.line;
-        let answer = line.answer();
-        let number = answer.number();
         let mut next = self;
         next.lines = std::num::wrapping_add_u64(self.lines, 1);
-        if number != 0 {
+        if let Err(fault) = line.answer() {
+            let number = fault.number();
             next.filled = layout::refused_line(out, self.filled, number, next.lines);
             next.over = true;
             next.number = number;

@@ -2,7 +2,7 @@
 -- Assumes nothing.
 use Rattle.std.specs.Prelude.{Bool, cond, ◌&&◌, ◌||◌, List, [], ◌∷◌, ◌++◌, ℕ, leb, eqb}
 use Rattle.frames.specs.Tray.{part_of}
-use Rattle.replies.specs.declared.Reply.{Reply}
+use Rattle.replies.specs.Said.{Reply}
 use Rattle.replies.specs.Replies.{reply_verdict, reply_bits, read_of}
 use Rattle.output.specs.Ascii.{ascii}
 use Rattle.line_meanings.specs.declared.LineNotes.{LineNotes}

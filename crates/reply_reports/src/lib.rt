@@ -14,7 +14,7 @@ pub struct Report {
     pub verdict: u8,
     pub bits: u64,
     pub expected: u64,
-    // The refusal's number, 0 for none, the line's from 1, and its notes.
+    // The refusal's number, 0 for none, the line's from 1, and its notes. These and the verdict are numbers, as the definitions (`report_by`, `text_of`) take them.
     pub number: u8,
     pub line: u64,
     pub notes: LineNotes,
@@ -29,13 +29,11 @@ fn put_verdict(out: &mut [u8], verdict: u8, bits: u64) -> usize
     requires { length out.old ≡ block_length }
     ensures { block out.new result ≡ put_all out.old 0 (verdict_line verdict bits) }
 {
-    if verdict == WHOLE {
-        return number_lines::put_line(out, 0, 11, b"whole ", &[bits], &[4]);
+    match verdict {
+        WHOLE => number_lines::put_line(out, 0, 11, b"whole ", &[(bits, 4)]),
+        NO_HEADER => output::put_bytes(out, 0, b"no header\n"),
+        _ => number_lines::put_line(out, 0, 15, b"cut short ", &[(bits, 4)]),
     }
-    if verdict == NO_HEADER {
-        return output::put_bytes(out, 0, b"no header\n");
-    }
-    number_lines::put_line(out, 0, 15, b"cut short ", &[bits], &[4])
 }
 
 // The bytes of so many data bits, if there are any.
@@ -66,7 +64,7 @@ impl Report {
     pub fn is_whole(self) -> bool
         ensures { result ≡ whole_report self }
     {
-        (self.verdict == WHOLE) & (self.number == 0)
+        self.verdict == WHOLE && self.number == 0
     }
 
     // The lines of a reply whose data bits are in a buffer, or that of a refused line; the answer is how many bytes they take.
@@ -95,7 +93,6 @@ impl Report {
         if self.number == 0 {
             return put_reason(out, self.verdict, self.bits, self.expected);
         }
-        let notes = self.notes;
-        messages::put_sentence(out, 0, self.number, self.line, notes)
+        messages::put_sentence(out, 0, self.number, self.line, self.notes)
     }
 }

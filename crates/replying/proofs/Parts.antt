@@ -9,8 +9,8 @@ use lib.Dec.{ltb, eqb}
 use lib.ListN.{length}
 use borrow.Author.Tests.{eq-eqb, eqb-true, ltb-true, not-true, not-false}
 use Rattle.bits.proofs.Truth.{choice, both, neither, clash}
-use Rattle.replies.specs.declared.Reply.{Reply}
-use Rattle.replies.specs.declared.Reply.TheVariants.{Whole}
+use Rattle.replies.specs.Said.{Reply}
+use Rattle.replies.specs.Said.{Whole}
 use Rattle.replies.specs.declared.Reception.{Reception}
 use Rattle.replies.specs.Replies.{reply_verdict, reply_bits}
 use Rattle.replies.specs.Reception.{Received, is_whole, after_of, said_of}

@@ -25,7 +25,7 @@ impl Replying {
         ensures { result ≡ start expected }
     {
         Replying {
-            expected: expected,
+            expected,
             reception: Reception::start(expected),
             stream: StreamSoFar::start(),
         }
@@ -35,9 +35,7 @@ impl Replying {
     pub fn is_over(self) -> bool
         ensures { result ≡ is_over self }
     {
-        let reception = self.reception;
-        let stream = self.stream;
-        reception.is_whole() | (stream.number != 0)
+        self.reception.is_whole() || self.stream.number != 0
     }
 
     // More of the stream: its bits are received.
@@ -45,13 +43,11 @@ impl Replying {
         requires { WellFormed self × PartFits self.stream part }
         ensures { Receives (reply_run self buffer.old) part (reply_run result buffer.new) }
     {
-        let before = self.reception;
         let bytes = part.bytes;
-        let stream = part.stream;
         Replying {
-            expected: self.expected,
-            reception: before.receive(&bytes, 0, part.count, buffer),
-            stream: stream,
+            reception: self.reception.receive(&bytes, 0, part.count, buffer),
+            stream: part.stream,
+            ..self
         }
     }
 
@@ -61,10 +57,10 @@ impl Replying {
         ensures { ReceivesBlock (reply_run self buffer.old) input.now (reply_run result buffer.new) }
     {
         let mut state = self;
-        let mut next: usize = 0;
+        let mut next = 0;
+        // Each turn takes as much of the block as a line has, so no `for` counts them.
         while (next < input.len()) & !state.is_over() {
-            let stream = state.stream;
-            let part = stream.read_on(input, next);
+            let part = state.stream.read_on(input, next);
             next = part.next;
             state = state.receive(part, buffer);
         }
@@ -76,25 +72,23 @@ impl Replying {
         requires { WellFormed self }
         ensures { EndsInput (reply_run self buffer.old) (reply_run result buffer.new) }
     {
-        let stream = self.stream;
-        self.receive(stream.end_input(), buffer)
+        self.receive(self.stream.end_input(), buffer)
     }
 
     // What is said if the run ends here, after a line's end.
     pub fn report(self) -> Report
         ensures { result ≡ report_of self }
     {
-        let reception = self.reception;
-        let reply = reception.reply();
+        let reply = self.reception.reply();
         let expected = self.expected as u64;
         let verdict = reply.verdict();
         let bits = reply.bits(expected);
         let stream = self.stream;
         if (verdict == 0) | (stream.number == 0) {
             return Report {
-                verdict: verdict,
-                bits: bits,
-                expected: expected,
+                verdict,
+                bits,
+                expected,
                 number: 0,
                 line: 0,
                 notes: LineNotes {
@@ -104,15 +98,13 @@ impl Replying {
                 },
             };
         }
-        let line = stream.line;
-        let notes = line.notes;
         Report {
-            verdict: verdict,
-            bits: bits,
-            expected: expected,
+            verdict,
+            bits,
+            expected,
             number: stream.number,
             line: stream.lines,
-            notes: notes,
+            notes: stream.line.notes,
         }
     }
 }

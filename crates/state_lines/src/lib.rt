@@ -1,7 +1,7 @@
 // The bytes of the lines by which a program shows the model's state. No call asks anything of its caller.
 #![tactic(auto)]
 
-ghost use Rattle.std.specs.Prelude.{◌≡◌, cond};
+ghost use Rattle.std.specs.Prelude.{◌≡◌};
 ghost use Rattle.output.specs.Block.{block, put_if_fits};
 ghost use Rattle.state_lines.specs.StateLines.{register_line, l1id_line, base_line, runmode_line, pointers_line, word_line};
 
@@ -12,58 +12,46 @@ ghost use Rattle.state_lines.specs.StateLines.{register_line, l1id_line, base_li
 pub fn register_line(out: &mut [u8], at: usize, address: usize, value: u16) -> usize
     ensures { block out.new result ≡ put_if_fits out.old at (register_line address value) }
 {
-    let numbers = [address as u64, value as u64];
-    let widths = [1, 4];
-    number_lines::put_line(out, at, 16, b"register ", &numbers, &widths)
+    let fields = [(address as u64, 1), (value as u64, 4)];
+    number_lines::put_line(out, at, 16, b"register ", &fields)
 }
 
 // The trigger number. 8 bytes.
 pub fn l1id_line(out: &mut [u8], at: usize, l1id: u8) -> usize
     ensures { block out.new result ≡ put_if_fits out.old at (l1id_line l1id) }
 {
-    let numbers = [l1id as u64];
-    let widths = [2];
-    number_lines::put_line(out, at, 8, b"l1id ", &numbers, &widths)
+    let fields = [(l1id as u64, 2)];
+    number_lines::put_line(out, at, 8, b"l1id ", &fields)
 }
 
 // The cycle from which the bunch number counts. 18 bytes.
 pub fn base_line(out: &mut [u8], at: usize, base: u64) -> usize
     ensures { block out.new result ≡ put_if_fits out.old at (base_line base) }
 {
-    let numbers = [base];
-    let widths = [12];
-    number_lines::put_line(out, at, 18, b"base ", &numbers, &widths)
-}
-
-fn bit(on: bool) -> u64
-    ensures { result ≡ cond on 1 0 }
-{
-    if on { 1 } else { 0 }
+    let fields = [(base, 12)];
+    number_lines::put_line(out, at, 18, b"base ", &fields)
 }
 
 // RunMode, 1 for on. 10 bytes.
 pub fn runmode_line(out: &mut [u8], at: usize, on: bool) -> usize
     ensures { block out.new result ≡ put_if_fits out.old at (runmode_line on) }
 {
-    let numbers = [bit(on)];
-    let widths = [1];
-    number_lines::put_line(out, at, 10, b"runmode ", &numbers, &widths)
+    let fields = [(u64::from(on), 1)];
+    number_lines::put_line(out, at, 10, b"runmode ", &fields)
 }
 
 // A FIFO's write and read pointers. 17 bytes.
 pub fn pointers_line(out: &mut [u8], at: usize, fifo: usize, write: u8, read: u8) -> usize
     ensures { block out.new result ≡ put_if_fits out.old at (pointers_line fifo write read) }
 {
-    let numbers = [fifo as u64, write as u64, read as u64];
-    let widths = [1, 2, 2];
-    number_lines::put_line(out, at, 17, b"pointers ", &numbers, &widths)
+    let fields = [(fifo as u64, 1), (write as u64, 2), (read as u64, 2)];
+    number_lines::put_line(out, at, 17, b"pointers ", &fields)
 }
 
 // A word of a FIFO, and its place there. 19 bytes.
 pub fn word_line(out: &mut [u8], at: usize, fifo: usize, place: usize, word: u32) -> usize
     ensures { block out.new result ≡ put_if_fits out.old at (word_line fifo place word) }
 {
-    let numbers = [fifo as u64, place as u64, word as u64];
-    let widths = [1, 2, 8];
-    number_lines::put_line(out, at, 19, b"word ", &numbers, &widths)
+    let fields = [(fifo as u64, 1), (place as u64, 2), (word as u64, 8)];
+    number_lines::put_line(out, at, 19, b"word ", &fields)
 }

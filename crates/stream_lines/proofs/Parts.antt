@@ -4,12 +4,12 @@ use mathlib.Core.Bool.{Bool, true, false, cond, ◌||◌}
 use mathlib.Core.List.{List, [], ◌∷◌, ◌++◌, append_assoc}
 use mathlib.Core.Logic.{◌⊎◌, inl, inr, ⊎_elim}
 use mathlib.Core.Path.{◌≡◌, ◌∙◌, refl, sym, ap}
-use Prim.Native.Nat.{ℕ, zero, suc, ◌+◌, ◌*◌, ◌-◌, ◌≤◌, ◌<◌, min}
+use Prim.Native.Nat.{ℕ, zero, suc, ◌+◌, ◌*◌, ◌≤◌, ◌<◌, min}
 use native.Mathlib.Omega.{arith}
-use lib.Dec.{leb, eqb}
-use lib.ListN.{length, take, drop, length-append, length-drop, take-append-drop, drop_of_length-le}
-use lib.Seq.{drop-drop, length-take-le}
-use borrow.Author.Tests.{eq-eqb, ne_eqb, eqb-true, leb-true, leb-false}
+use lib.Dec.{eqb}
+use lib.ListN.{length, take, drop, length-append, length-drop, take-append-drop}
+use lib.Seq.{length-take-le}
+use borrow.Author.Tests.{eq-eqb, ne_eqb, eqb-true}
 use Rattle.bits.proofs.Truth.{or_right}
 use Rattle.output.specs.Ascii.{line_feed}
 use Rattle.line_meanings.specs.Lines.{is_empty}
@@ -37,25 +37,14 @@ part_text : (line rest : List ℕ) → 0 < length line → length line ≤ 32 �
 part_text [] rest s h e = absurd (omega arith)
 part_text (b ∷ line) rest s h e = let z : 0 + suc (length line) ≡ suc (length line) = omega arith in line_text 0 b line rest (omega arith) (rw z e)
 
--- The line that begins at a place.
-module _ (bytes : List ℕ) (at end : ℕ) (h : at < length bytes) (e : end ≡ min (length bytes) (at + 32)) where
-  abbrev rest : List ℕ
-  rest = drop at bytes
+-- The next line, and what is left behind it.
+ends : (line rest : List ℕ) → length line ≡ min 32 (length (line ++ rest)) → Ends (length line) rest
+ends line [] e = inr refl
+ends line (b ∷ rest) e = inl (omega (arith, e, length-append line (b ∷ rest)))
 
-  size : length (take (end - at) rest) ≡ end - at
-  size = length-take-le (end - at) rest (omega (arith, length-drop at bytes))
-
-  behind : drop (end - at) rest ≡ drop end bytes
-  behind = let f : at + (end - at) ≡ end = omega arith in drop-drop (end - at) at bytes ∙ rw f
-
-  whole : (b : Bool) → leb (at + 32) (length bytes) ≡ b → Ends (length (take (end - at) rest)) (drop end bytes)
-  whole true t = inl (size ∙ omega (arith, leb-true (at + 32) (length bytes) t))
-  whole false t = inr (drop_of_length-le bytes {i = end} (omega (arith, leb-false (at + 32) (length bytes) t)))
-
-  pub next_line : stream_text (drop at bytes) ≡ bytes_line (take (end - at) rest) ++ stream_text (drop end bytes)
-  next_line =
-      ap stream_text (sym (take-append-drop (end - at) rest) ∙ ap (λ (l : List ℕ). take (end - at) rest ++ l) behind)
-      ∙ part_text (take (end - at) rest) (drop end bytes) (omega (arith, size)) (omega (arith, size)) (whole (leb (at + 32) (length bytes)) refl)
+pub next_line : (line rest : List ℕ) → length line ≡ min 32 (length (line ++ rest)) → 0 < length (line ++ rest)
+    → stream_text (line ++ rest) ≡ bytes_line line ++ stream_text rest
+next_line line rest e h = part_text line rest (omega arith) (omega arith) (ends line rest e)
 
 -- How long the text is.
 line_feed_paid : (n : ℕ) (bytes : List ℕ) → (is_empty bytes || eqb n 31) ≡ true → 32 * length (lines_from 0 bytes) ≤ 65 * length bytes + 0 + 31

@@ -8,29 +8,24 @@ ghost use Rattle.wrong_characters.specs.WrongCharacters.{character_text, wrong_c
 use line_meanings::LineNotes;
 
 // What a character is that is no digit: those that captures have most often by their names, any other by its number.
+#[tactic(auto, unfolding(crate::specs::WrongCharacters::character_text))]
 fn put_character(out: &mut [u8], at: usize, character: u8) -> usize
     requires { at + length (character_text character) ≤ length out.old }
     ensures { block out.new result ≡ put_all out.old at (character_text character) }
 {
-    if character == 13 {
-        return output::put_bytes(out, at, b"a carriage return\n");
+    match character {
+        b'\r' => output::put_bytes(out, at, b"a carriage return\n"),
+        b' ' => output::put_bytes(out, at, b"a space\n"),
+        b'\t' => output::put_bytes(out, at, b"a tab\n"),
+        b'a'..=b'z' => output::put_bytes(out, at, b"a lower-case letter\n"),
+        _ => decimal_digits::put_labelled(
+            out,
+            at,
+            b"byte ",
+            character as u64,
+            b", none of 0-9 and A-F\n",
+        ),
     }
-    if character == 32 {
-        return output::put_bytes(out, at, b"a space\n");
-    }
-    if character == 9 {
-        return output::put_bytes(out, at, b"a tab\n");
-    }
-    if (b'a' <= character) & (character <= b'z') {
-        return output::put_bytes(out, at, b"a lower-case letter\n");
-    }
-    decimal_digits::put_labelled(
-        out,
-        at,
-        b"byte ",
-        character as u64,
-        b", none of 0-9 and A-F\n",
-    )
 }
 
 // Number 7: the first character that is none of 0-9 and A-F.

@@ -1,14 +1,9 @@
 -- `byte_lines::put_byte_digits` meets its contract: the bytes that are left, put at the present place, give what all of them give.
 -- Assumes nothing.
-use Prim.Native.Nat.{◌-◌, ◌≤◌}
-use lib.ListN.{length, drop}
+use lib.ListN.{drop}
 use Rattle.output.proofs.Pieces.{PartlyPut}
 use Rattle.byte_lines.specs.ByteLines.{byte_digits}
 use Rattle.byte_lines.proofs.put_byte_digits.Given as goal
 
-abbrev pub invariant-loop-i : goal.invariant-loop-i
-invariant-loop-i l =
-    (l.i ≤ length l.bytes) × PartlyPut l.initial.out l.at (byte_digits l.bytes) l.out l.place (byte_digits (drop l.i l.bytes))
-
-abbrev pub decreases-loop-i : goal.decreases-loop-i
-decreases-loop-i l = length l.bytes - l.i
+abbrev pub invariant-loop-byte : goal.invariant-loop-byte
+invariant-loop-byte l = PartlyPut l.initial.out l.at (byte_digits l.bytes) l.out l.place (byte_digits (drop l.byte-index l.bytes))

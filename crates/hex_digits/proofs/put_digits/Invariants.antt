@@ -3,8 +3,5 @@
 use Rattle.hex_digits.proofs.Digits.{LowDigitsPut}
 use Rattle.hex_digits.proofs.put_digits.Given as goal
 
-abbrev pub invariant-loop-remaining : goal.invariant-loop-remaining
-invariant-loop-remaining l = LowDigitsPut l.initial.out l.at l.number l.width l.out l.remaining l.quotient
-
-abbrev pub decreases-loop-remaining : goal.decreases-loop-remaining
-decreases-loop-remaining l = l.remaining
+abbrev pub invariant-loop-place : goal.invariant-loop-place
+invariant-loop-place l = LowDigitsPut l.initial.out l.at l.number l.width l.out l.place l.quotient

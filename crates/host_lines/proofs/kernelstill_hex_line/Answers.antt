@@ -5,5 +5,8 @@ use Rattle.line_meanings.specs.Line.{Read}
 use Rattle.host_lines.specs.Lines.{line_result}
 use Rattle.host_lines.proofs.kernelstill_hex_line.Goals as goal
 
-pub returns : goal.returns
-returns c = rw c.number.ensures (ap (λ (read : Read). line_result read.number read.buffer) c.read_line-answer.ensures)
+pub returns-in-Ok : goal.returns-in-Ok
+returns-in-Ok c = ap (λ (read : Read). line_result read.number read.buffer) c.in-Ok.ensures
+
+pub returns-in-Err : goal.returns-in-Err
+returns-in-Err c = rw (c.from.ensures, c.number.ensures) (ap (λ (read : Read). line_result read.number read.buffer) c.in-Err.ensures)

@@ -5,9 +5,7 @@ use Rattle.line_meanings.proofs.Blocks.{ahead_none, ahead_more, ahead_end}
 use Rattle.line_scans.proofs.line_end.Goals as goal
 
 pub loop-end-preserved : goal.loop-end-preserved
-loop-end-preserved c =
-    let more = ahead_more c.args.block.now c.loop-end.end c.loop-end-test.true c.if-block-end-eq-LINE_FEED.false in
-    (omega arith, omega arith)
+loop-end-preserved c = omega (arith, ahead_more c.args.block.now c.loop-end.end c.loop-end-test.true c.if-block-end-eq-LINE_FEED.false)
 
 pub returns-then-block-end-eq-LINE_FEED : goal.returns-then-block-end-eq-LINE_FEED
 returns-then-block-end-eq-LINE_FEED c = omega (arith, ahead_none c.args.block.now c.loop-end.end c.loop-end-test.true c.if-block-end-eq-LINE_FEED.true)
