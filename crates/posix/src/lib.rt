@@ -1,8 +1,8 @@
-// Reads and writes that go on after an interruption, and messages on standard error. A contract cannot say what the system reads or writes.
+// Reads and writes that go on after an interruption, the loop that reads an input block by block, and messages on standard error. A contract cannot say what the system reads or writes.
 #![tactic(auto)]
 
-ghost use Rattle.std.specs.Prelude.{◌≡◌, true, ◌≤◌, length};
-ghost use Rattle.std.specs.Io.{ReadsAtMost, WritesAtMost};
+ghost use Rattle.std.specs.Prelude.{ℕ, ◌≤◌, IfOk, IsOk, OnOk, List, [], ◌++◌, length};
+ghost use Rattle.std.specs.Io.{ReadsAtMost};
 
 use std::fs::File;
 use std::io::{ErrorKind, Read, Stdin, Write};
@@ -11,23 +11,6 @@ use std::{fmt, io};
 // A proved loop has to end, and nothing says that an input or the interruptions of a call do: no run uses this number up.
 pub const TURNS: u64 = u64::MAX;
 
-// The system, with the error of the last call that failed.
-#[derive(Clone, Copy)]
-pub struct System {
-    pub rt: HostRuntime,
-    pub error: io::Error,
-}
-
-impl System {
-    // No call has failed yet.
-    pub fn start(rt: HostRuntime) -> System {
-        System {
-            rt: rt,
-            error: io::Error::from(ErrorKind::Other),
-        }
-    }
-}
-
 // An input that is open: standard input, or a file by its name.
 #[derive(Drop)]
 pub enum Input {
@@ -35,94 +18,115 @@ pub enum Input {
     Named(File),
 }
 
-// What a program writes to.
-#[derive(Clone, Copy)]
-pub enum Stream {
-    Output,
-    Errors,
-}
-
-// What a read brought: how many characters, 0 at the input's end; or that it failed.
-#[derive(Clone, Copy)]
-pub struct Got {
-    pub count: usize,
-    pub failed: bool,
-}
-
-fn read_some(from: &mut Input, input: &mut [u8]) -> io::Result<usize>
-    ensures { ReadsAtMost result input.new }
-{
-    match from {
-        Input::Standard(stdin) => stdin.read(input),
-        Input::Named(file) => file.read(input),
+impl Read for Input {
+    fn read(&mut self, input: &mut [u8]) -> io::Result<usize>
+        ensures bound { ReadsAtMost result input.new }
+    {
+        match self {
+            Input::Standard(stdin) => stdin.read(input),
+            Input::Named(file) => file.read(input),
+        }
     }
 }
 
-fn write_some(system: &System, stream: Stream, text: &[u8]) -> io::Result<usize>
-    ensures { WritesAtMost result text.now }
-{
-    match stream {
-        Stream::Output => system.rt.stdout().write(text),
-        Stream::Errors => system.rt.stderr().write(text),
-    }
+// Why the system ended a run: a read failed, a write to standard output did, or a loop's turns are used up.
+#[derive(Clone, Copy)]
+pub enum RunError {
+    Input(io::Error),
+    Output(io::Error),
+    Turns,
 }
 
-// A read, made again if it was interrupted.
-pub fn read_input(system: &mut System, from: &mut Input, input: &mut [u8]) -> Got
-    ensures { result.count ≤ length input.old }
+// A read, made again if it was interrupted: how many characters it brought, 0 at the input's end.
+pub fn read_input(from: &mut Input, input: &mut [u8]) -> Result<usize, RunError>
+    ensures { IfOk result (λ count. count ≤ length input.old) }
 {
-    let mut turns = TURNS;
-    while 0 < turns {
-        turns -= 1;
-        match read_some(from, input) {
-            Ok(count) => {
-                return Got {
-                    count: count,
-                    failed: false,
-                };
-            }
+    let mut last = io::Error::from(ErrorKind::Interrupted);
+    for _ in 0..TURNS {
+        match from.read(input) {
+            Ok(count) => return Ok(count),
             Err(error) => {
-                system.error = error;
                 if error.kind() != ErrorKind::Interrupted {
-                    return Got {
-                        count: 0,
-                        failed: true,
-                    };
+                    return Err(RunError::Input(error));
                 }
+                last = error;
             }
         }
     }
-    Got {
-        count: 0,
-        failed: true,
-    }
+    Err(RunError::Input(last))
 }
 
-// Writes all, going on after a short write and after an interrupted one, and tells whether it could.
-pub fn write_whole(system: &mut System, stream: Stream, text: &[u8]) -> bool {
-    let mut done: usize = 0;
-    let mut turns = TURNS;
-    while (done < text.len()) & (0 < turns) {
-        turns -= 1;
-        let rest = &text[done..];
-        match write_some(system, stream, rest) {
-            Ok(0) => {
-                system.error = io::Error::from(ErrorKind::WriteZero);
-                return false;
-            }
-            Ok(put) => done += put,
-            Err(error) => {
-                system.error = error;
-                if error.kind() != ErrorKind::Interrupted {
-                    return false;
-                }
-            }
+// What takes the characters of an input, block by block.
+pub trait TakesBlocks {
+    // That it took these characters, one after the other, since it was as it was.
+    ghost took: { Self → List ℕ → Self → Type 0 };
+
+    fn take_block(&mut self, block: &[u8])
+        requires { (from : Self) × (characters : List ℕ) × took from characters self.old }
+        ensures { (from : Self) (characters : List ℕ) → took from characters self.old → took from (characters ++ block.now) self.new };
+
+    // Whether it needs no more of them.
+    fn is_over(&self) -> bool;
+}
+
+// Reads an input that is open, up to its end or until no more is needed.
+pub fn read_blocks<T: TakesBlocks>(
+    taker: &mut T,
+    from: &mut Input,
+    input: &mut [u8],
+) -> Result<(), RunError>
+    requires { T.took taker.old [] taker.old }
+    ensures { OnOk result ((characters : List ℕ) × T.took taker.old characters taker.new) }
+{
+    for _ in 0..TURNS {
+        let count = read_input(from, input)?;
+        taker.take_block(&input[..count]);
+        if count == 0 || taker.is_over() {
+            return Ok(());
         }
     }
-    done == text.len()
+    Err(RunError::Turns)
 }
 
-// The text of an error, as far as there is room for it.
+// Writes all, going on after a short write and after an interrupted one.
+fn write_to(stream: &mut impl Write, text: &[u8]) -> io::Result<()> {
+    // std has words of its own for a write that takes nothing: its kind is told.
+    stream.write_all(text).map_err(|error| match error.kind() {
+        ErrorKind::WriteZero => io::Error::from(ErrorKind::WriteZero),
+        _ => error,
+    })
+}
+
+// Writes all to standard output.
+pub fn write_whole(rt: HostRuntime, text: &[u8]) -> Result<(), RunError> {
+    write_to(&mut rt.stdout(), text).map_err(RunError::Output)
+}
+
+// The last that standard output is asked. The library closes it nowhere, so that a write which a file system fails only then is not told.
+fn close_output(rt: HostRuntime) -> Result<(), RunError> {
+    match rt.stdout().flush() {
+        Err(error) if error.kind() != ErrorKind::Interrupted => Err(RunError::Output(error)),
+        _ => Ok(()),
+    }
+}
+
+// The end of standard output: whether all was written and it could be flushed.
+pub fn end_output(rt: HostRuntime, written: Result<(), RunError>) -> Result<(), RunError>
+    ensures { OnOk result (IsOk written) }
+{
+    written?;
+    close_output(rt)
+}
+
+// Prints a text, piece by piece, that is all of standard output.
+pub fn print(rt: HostRuntime, pieces: &[&[u8]]) -> Result<(), RunError> {
+    for piece in pieces {
+        write_whole(rt, piece)?;
+    }
+    end_output(rt, Ok(()))
+}
+
+// The text of an error, as far as there is room for it. It is kept, and not written as it is displayed: std puts the error's number behind it.
 #[derive(Clone, Copy)]
 struct Reason {
     bytes: [u8; 320],
@@ -145,19 +149,21 @@ impl fmt::Write for Reason {
 fn text_length(text: &[u8]) -> usize
     ensures { result ≤ length text.now }
 {
-    let mut at = text.len();
-    while 0 < at {
-        at -= 1;
-        if text[at] == b'(' {
-            return at.saturating_sub(1);
-        }
+    match text.iter().rposition(|byte| *byte == b'(') {
+        Some(at) => at.saturating_sub(1),
+        None => text.len(),
     }
-    text.len()
+}
+
+// Pieces of a message, one after the other. What standard error does not take is lost.
+pub fn say(rt: HostRuntime, pieces: &[&[u8]]) {
+    for piece in pieces {
+        let _ = write_to(&mut rt.stderr(), piece);
+    }
 }
 
 // A message on what failed: the system's text.
-pub fn fail(system: &mut System, name: &[u8], what: &[u8]) {
-    let error = system.error;
+pub fn fail(rt: HostRuntime, name: &[u8], what: &[u8], error: io::Error) {
     let mut reason = Reason {
         bytes: [0; 320],
         length: 0,
@@ -168,52 +174,37 @@ pub fn fail(system: &mut System, name: &[u8], what: &[u8]) {
         Some(_) => text_length(whole),
         None => whole.len(),
     };
-    write_whole(system, Stream::Errors, name);
-    write_whole(system, Stream::Errors, b": ");
-    write_whole(system, Stream::Errors, what);
-    write_whole(system, Stream::Errors, b": ");
-    write_whole(system, Stream::Errors, &whole[..length]);
-    write_whole(system, Stream::Errors, b"\n");
+    say(rt, &[name, b": ", what, b": "]);
+    say(rt, &[&whole[..length], b"\n"]);
 }
 
 // A write to standard output failed. A pipe is closed by its reader, who wants no message.
-pub fn fail_output(system: &mut System, name: &[u8]) {
-    if system.error.kind() != ErrorKind::BrokenPipe {
-        fail(system, name, b"standard output");
+pub fn fail_output(rt: HostRuntime, name: &[u8], error: io::Error) {
+    if error.kind() != ErrorKind::BrokenPipe {
+        fail(rt, name, b"standard output", error);
     }
 }
 
-// A message on what was refused of the input.
-pub fn tell(system: &mut System, name: &[u8], source: &[u8], sentence: &[u8]) {
-    write_whole(system, Stream::Errors, name);
-    write_whole(system, Stream::Errors, b": ");
-    write_whole(system, Stream::Errors, source);
-    write_whole(system, Stream::Errors, b": ");
-    write_whole(system, Stream::Errors, sentence);
+// Whose messages stand on standard error, and what they are about: the program's name, and the input's.
+#[derive(Clone, Copy)]
+pub struct Speaker<'a> {
+    pub rt: HostRuntime,
+    pub name: &'a [u8],
+    pub source: &'a [u8],
 }
 
-// The last that standard output is asked. The library closes it nowhere, so that a write which a file system fails only then is not told.
-pub fn close_output(system: &mut System) -> bool {
-    match system.rt.stdout().flush() {
-        Ok(()) => true,
-        Err(error) => {
-            system.error = error;
-            error.kind() == ErrorKind::Interrupted
+impl Speaker<'_> {
+    // A message on what was refused of the input.
+    pub fn tell(self, sentence: &[u8]) {
+        say(self.rt, &[self.name, b": ", self.source, b": ", sentence]);
+    }
+
+    // A message on what ended a run, if it has one.
+    pub fn tell_error(self, error: RunError) {
+        match error {
+            RunError::Input(error) => fail(self.rt, self.name, self.source, error),
+            RunError::Output(error) => fail_output(self.rt, self.name, error),
+            RunError::Turns => {}
         }
     }
-}
-
-// The end of standard output: whether all was written and it could be closed. A failure is told.
-pub fn end_output(system: &mut System, name: &[u8], written: bool) -> bool
-    ensures { result ≡ true → written ≡ true }
-{
-    if !written {
-        fail_output(system, name);
-        return false;
-    }
-    if !close_output(system) {
-        fail_output(system, name);
-        return false;
-    }
-    true
 }

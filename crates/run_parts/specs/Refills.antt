@@ -1,6 +1,6 @@
 -- A run after a read, where one was due.
 -- Assumes nothing.
-use Rattle.std.specs.Prelude.{Bool, true, false, List, ◌≡◌, ℕ}
+use Rattle.std.specs.Prelude.{List, ◌≡◌, ℕ, Result, IfOk}
 use Rattle.program.specs.declared.RunState.{RunState}
 use Rattle.program.specs.Turns.{Refill}
 
@@ -10,7 +10,6 @@ pub record Brought (s : RunState) (input : List ℕ) (r : RunState) (input' : Li
   pub brought : List ℕ
   pub refill : Refill s input got brought r input'
 
--- The run after a read, or as it was if the read failed.
-pub record AfterRefill (s : RunState) (input : List ℕ) (r : RunState) (input' : List ℕ) (fails : Bool) : Type 0 where
-  pub came : fails ≡ false → Brought s input r input'
-  pub kept : fails ≡ true → r ≡ s
+-- The run after a read, unless the read failed.
+abbrev pub AfterRefill : {E : Type 0} → RunState → List ℕ → Result RunState E → List ℕ → Type 0
+AfterRefill s input r input' = IfOk r (λ after. Brought s input after input')

@@ -20,7 +20,7 @@ use Rattle.program.specs.Program.{program_of}
 use Rattle.program.specs.Turns.{characters_read, emptied, text_put}
 use Rattle.program.proofs.Standing.{over_stands}
 use Rattle.program.proofs.Turns.{BetweenReads, begins, refilled, block_written}
-use Rattle.statuses.specs.Status.{status_of, IsStatus, Finished}
+use Rattle.statuses.specs.Status.{status_of, Finished}
 use Rattle.run_parts.specs.Refills.{Brought}
 use Rattle.runs.specs.Runs.{RanOn, Ran}
 
@@ -71,10 +71,3 @@ module _ (prints : PrintOptions) {store₀ tray₀ : List ℕ} {s : RunState} {s
         tray_left = ap (λ (q : Outcome). q.system.machine.tray) (sym o);
         status_told = e ∙ ap status_of (sym (ap (λ (q : Outcome). q.refusal.number) o ∙ end_number s));
       })) f
-
-status_low : (number : ℕ) → IsStatus (status_of number)
-status_low number = choice IsStatus (eqb number 0) {x = 0} {y = 1} (λ _. omega arith) (λ _. omega arith)
-
-pub ran_status : (prints : PrintOptions) (status : ℕ) {store tray store' tray' : List ℕ} → Ran prints status store tray store' tray' → IsStatus status
-ran_status prints status {store} {tray} r =
-    ⊎_elim (λ e. omega arith) (λ q. rw q.status_told (status_low (program_of prints store tray q.characters).refusal.number)) r

@@ -3,71 +3,58 @@
 
 ghost use Rattle.std.specs.Prelude.{◌≡◌, length};
 ghost use Rattle.limits.specs.Limits.{store_length, tray_length};
-ghost use Rattle.statuses.specs.Status.{IsStatus};
+ghost use Rattle.statuses.specs.Status.{IsStatus, told};
 ghost use Rattle.runs.specs.Runs.{Ran};
 
 use decoder::Decoder;
-use posix::{Input, Stream, System};
+use posix::{Input, RunError, Speaker};
 use program::{PrintOptions, RunState};
+use statuses::Status;
 
 // A run over an input that is open: what a read brought is listed and written before the next read.
 fn list(
-    system: &mut System,
-    name: &[u8],
-    source: &[u8],
+    speaker: Speaker<'_>,
     from: &mut Input,
     prints: PrintOptions,
     store: &mut [u32],
     tray: &mut [u8],
-) -> u8
+) -> Result<Status, RunError>
     requires { (length store.old ≡ store_length) × (length tray.old ≡ tray_length) }
-    ensures { Ran prints result store.old tray.old store.new tray.new }
+    ensures { Ran prints (told result) store.old tray.old store.new tray.new }
 {
     let mut input = io::large_buffer();
     let mut output = io::large_buffer();
     let mut state = RunState::start();
-    let mut turns = posix::TURNS;
-    while (0 < turns) & !state.over {
-        turns -= 1;
-        let refilled = run_parts::refill(system, state, from, &mut input);
-        if refilled.failed {
-            posix::fail(system, name, source);
-            return statuses::FAILED;
+    // A read is due only where all that came before is listed, and each text is written: more than `posix::read_blocks` asks of a run.
+    for _ in 0..posix::TURNS {
+        if state.over {
+            return run_parts::finish(speaker, state, prints, store, &mut output);
         }
-        state = refilled.state;
-        let length = state.length;
+        let received = run_parts::refill(state, from, &mut input)?;
+        let length = received.length;
         state = blocks::list_block(
-            state,
+            received,
             &input[..length],
             store,
             tray,
             &mut output,
             prints.frames,
         );
-        let filled = state.filled;
-        if !posix::write_whole(system, Stream::Output, &output[..filled]) {
-            posix::fail_output(system, name);
-            return statuses::FAILED;
-        }
+        posix::write_whole(speaker.rt, &output[..state.filled])?;
         state.filled = 0;
     }
-    if !state.over {
-        return statuses::FAILED;
-    }
-    run_parts::finish(system, name, source, state, prints, store, &mut output)
+    Err(RunError::Turns)
 }
 
 // "Its 2,048 FIFO words start at zero".
 pub fn list_input(
-    system: &mut System,
-    name: &[u8],
-    source: &[u8],
+    speaker: Speaker<'_>,
     from: &mut Input,
     prints: PrintOptions,
-) -> u8
-    ensures { IsStatus result }
+) -> Result<Status, RunError>
+    ensures { IsStatus (told result) }
 {
     let mut store = [0u32; Decoder::STORE_LENGTH];
     let mut tray = [0u8; Decoder::TRAY_LENGTH];
-    list(system, name, source, from, prints, &mut store, &mut tray)
+    list(speaker, from, prints, &mut store, &mut tray)
 }

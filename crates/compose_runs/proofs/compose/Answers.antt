@@ -1,17 +1,15 @@
--- `compose_runs::compose`: from read to read the run stands for the characters that were read.
+-- `compose_runs::compose`: the run stands for the characters that were read.
 -- Assumes nothing.
-use Rattle.std.proofs.Common.{replicate, arith}
-use Rattle.compose_runs.proofs.Statuses.{zeros_long, started, after_block}
+use Rattle.std.proofs.Common.{replicate}
+use Rattle.compose_runs.proofs.Statuses.{zeros_long, where_ok, begins, composed_from_start}
 use Rattle.compose_runs.proofs.compose.Goals as goal
 
-pub loop-turns-init : goal.loop-turns-init
-loop-turns-init c =
-    started _ (replicate 32768 0) (replicate 16384 0) (replicate 1048576 0) (omega arith) (zeros_long 32768) (zeros_long 16384) (zeros_long 1048576) _
-    c.start-state.ensures
+pub read_blocks-requires : goal.read_blocks-requires
+read_blocks-requires c =
+    begins (replicate 32768 0) (replicate 1048576 0) c.start.ensures (zeros_long 1048576) (replicate 16384 0) (zeros_long 32768) (zeros_long 16384)
 
-pub loop-turns-preserved : goal.loop-turns-preserved
-loop-turns-preserved c =
-    let i = c.loop-turns.invariant in
-    let k = c.compose_block-state in
-    after_block i (omega (arith, c.read_input-got.auto.input, i.block)) (omega (arith, k.auto.line, i.lent.line_long))
-    (omega (arith, k.auto.frame, i.lent.frame_long)) k.ensures
+pub returns : goal.returns
+returns c =
+    let read = where_ok c.read_blocks.result c.in_ok-read_blocks.was c.read_blocks.ensures in
+    composed_from_start (replicate 32768 0) (replicate 1048576 0) c.start.ensures (zeros_long 1048576) read.1.0 c.end_input-last.ensures
+    c.outcome-outcome.ensures c.finish.ensures

@@ -1,13 +1,9 @@
--- `reply_runs::read_reply`: from read to read the run stands for the characters that were read.
+-- `reply_runs::read_reply`: the run stands for the characters that were read.
 -- Assumes nothing.
-use Rattle.std.proofs.Common.{arith}
-use Rattle.reply_runs.proofs.Statuses.{started, after_block}
+use Rattle.reply_runs.proofs.Statuses.{replied_from_start}
 use Rattle.reply_runs.proofs.read_reply.Goals as goal
 
-pub loop-turns-init : goal.loop-turns-init
-loop-turns-init c = started c.args.expected _ (omega arith) c.requires _ c.start-state.ensures
-
-pub loop-turns-preserved : goal.loop-turns-preserved
-loop-turns-preserved c =
-    let i = c.loop-turns.invariant in
-    after_block _ i (omega (arith, c.read_input-got.auto.input, i.block)) (omega (arith, c.receive_block-state.auto.buffer, i.long)) c.receive_block-state.ensures
+pub returns : goal.returns
+returns c =
+    let read = rw c.in_ok-read_blocks.was at c.read_blocks.ensures in
+    replied_from_start c.requires c.start.ensures read.1 c.end_input-state.ensures c.finish.ensures

@@ -1,48 +1,40 @@
 -- `runs::list`: what holds from read to read is kept by a read, by the listing of a block and by its write.
 -- Assumes nothing.
-use Rattle.std.proofs.Common.{◌≡◌, ℕ, ◌≤◌, Bool, true, false, not, List, length, sym, arith}
-use mathlib.Core.Bool.{◌&&◌}
-use lib.Dec.{ltb}
+use Rattle.std.proofs.Common.{ℕ, ◌≤◌, Bool, List, length, sym, arith}
 use lib.Seq.{length-take-le}
-use borrow.Author.Tests.{not-true, not-false}
-use Rattle.bits.proofs.Truth.{both}
 use Rattle.program.specs.declared.RunState.{RunState}
-use Rattle.run_parts.specs.Refills.{AfterRefill}
 use Rattle.runs.proofs.UnderWay.{UnderWay, started, after_read, after_write, ran}
 use Rattle.runs.proofs.list.Goals as goal
+use Rattle.runs.proofs.list.Goals.{In_ok-received}
 
--- the run after a read that did not fail
-ready : {frames : Bool} {store₀ tray₀ : List ℕ} {s r : RunState} {store tray input input' output : List ℕ} {fails : Bool} (turns : ℕ)
-    → UnderWay frames store₀ tray₀ s store tray input output → (ltb 0 turns && not s.over) ≡ true → AfterRefill s input r input' fails → fails ≡ false
-    → UnderWay frames store₀ tray₀ r store tray input' output
-ready {s = s} turns u t a e = after_read u (not-true _ (both (ltb 0 turns) (not s.over) t).1) (a.came e)
+-- the run after a read
+ready : (c : In_ok-received) → UnderWay c.args.prints.frames c.args.store.now c.args.tray.now c.in_ok-received.received c.loop.store c.loop.tray
+    c.refill.new.input c.loop.output
+ready c = after_read c.loop.invariant c.if-state.false c.in_ok-received.ensures
 
 -- what it read is in the block of input
 within : {frames : Bool} {store₀ tray₀ : List ℕ} {s : RunState} {store tray input output : List ℕ} → UnderWay frames store₀ tray₀ s store tray input output
     → s.length ≤ length input
 within u = omega (arith, u.kept.places.length, u.kept.input_length)
 
-pub loop-turns-init : goal.loop-turns-init
-loop-turns-init c = started _ _ _ _ _ c.requires.0 c.requires.1 (omega arith) (omega arith) _ c.start-state.ensures
+pub loop-init : goal.loop-init
+loop-init c = started _ _ _ _ _ c.requires.0 c.requires.1 (omega arith) (omega arith) _ c.start-state.ensures
 
 pub slice_bounds-input-end : goal.slice_bounds-input-end
-slice_bounds-input-end c =
-    within (ready c.loop-turns.turns c.loop-turns.invariant c.loop-turns-test.true c.refill-refilled.ensures c.if-refilled.false)
+slice_bounds-input-end c = within (ready (goal.at.slice_bounds-input-end c).In_ok-received)
 
 pub slice_bounds-list_block-end : goal.slice_bounds-list_block-end
-slice_bounds-list_block-end c =
-    let u = ready c.loop-turns.turns c.loop-turns.invariant c.loop-turns-test.true c.refill-refilled.ensures c.if-refilled.false in
-    sym (length-take-le _ _ (within u))
+slice_bounds-list_block-end c = sym (length-take-le _ _ (within (ready (goal.at.slice_bounds-list_block-end c).In_ok-received)))
 
 pub list_block-state-requires : goal.list_block-state-requires
 list_block-state-requires c =
-    let u = ready c.loop-turns.turns c.loop-turns.invariant c.loop-turns-test.true c.refill-refilled.ensures c.if-refilled.false in
+    let u = ready (goal.at.list_block-state-requires c).In_ok-received in
     (u.kept.well_formed, rw (length-take-le _ _ (within u)) u.kept.places.next)
 
-pub loop-turns-preserved : goal.loop-turns-preserved
-loop-turns-preserved c =
-    let u = ready c.loop-turns.turns c.loop-turns.invariant c.loop-turns-test.true c.refill-refilled.ensures c.if-refilled.false in
+pub loop-preserved : goal.loop-preserved
+loop-preserved c =
+    let u = ready (goal.at.loop-preserved c).In_ok-received in
     after_write u c.list_block-state.ensures.after_steps (omega (arith, c.list_block-state.auto.out, u.kept.output_length))
 
-pub returns : goal.returns
-returns c = ran _ c.loop-turns.invariant (not-false _ c.if-not-state.false) _ c.finish.ensures
+pub returns-then-state : goal.returns-then-state
+returns-then-state c = ran _ c.loop.invariant c.if-state.true _ c.finish.ensures

@@ -1,0 +1,7 @@
+-- `compose_runs::compose_input`: however the run ends, it has a status.
+-- Assumes nothing.
+use Rattle.statuses.proofs.Told.{told_status}
+use Rattle.compose_runs.proofs.compose_input.Goals as goal
+
+pub returns : goal.returns
+returns c = told_status c.compose.result
