@@ -3,8 +3,8 @@
 use Rattle.std.specs.Prelude.{◌≡◌, cond, List, [], ◌∷◌, ◌++◌, ◌⊎◌, ℕ, zero, suc, ◌+◌, ◌/◌, ◌%◌, ◌<◌, ◌≤◌, leb, eqb, length}
 use Rattle.timing.specs.Table.{zeros_asked}
 use Rattle.clean_streams.specs.Commands.{Command, code_of, width_of, command_kind}
-use Rattle.patterns.specs.declared.Verdict.{Verdict}
-use Rattle.patterns.specs.declared.Verdict.TheVariants.{Unknown, TooClose}
+use Rattle.patterns.specs.Verdict.{Verdict}
+use Rattle.patterns.specs.Verdict.{Unknown, TooClose}
 use Rattle.patterns.specs.Patterns.{unknown, cut, pattern_of}
 use Rattle.patterns.specs.Verdicts.{verdict_from}
 use Rattle.acceptance.specs.declared.Progress.{Progress}

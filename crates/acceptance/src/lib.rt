@@ -6,10 +6,11 @@ ghost use Rattle.limits.specs.Limits.{clock_limit};
 ghost use Rattle.bits.specs.Bits.{bits_of};
 ghost use Rattle.bits.specs.Range.{range_fits};
 ghost use Rattle.patterns.specs.Verdicts.{accept_of};
+ghost use Rattle.patterns.specs.Answers.{answered};
 ghost use Rattle.acceptance.specs.Progress.{Reads, UnderWay, WidthBy, CompletedBy, progress, start, reached, Fits, After, verdict_on};
 
 use bits::Cursor;
-use patterns::Verdict;
+use patterns::StreamFault;
 use records::{KIND_FAST, KIND_LV1};
 
 // What the bits of a pattern so far are: the beginning of a command, a whole one by the kind of its record, or neither.
@@ -20,7 +21,7 @@ enum Reading {
     Unknown,
 }
 
-// How far a stream is accepted.
+// How far a stream is accepted. The kind and the number keep 0 for none, as the definitions (`progress`, `zeros_asked`, `fault_at`) take them.
 #[derive(Clone, Copy)]
 pub struct Progress {
     // The place of the first bit that is not accepted yet: the first of the pattern under way, or the next one.
@@ -64,7 +65,7 @@ fn read_pattern(pattern: u16) -> Reading
         }
         return Reading::Unknown;
     }
-    let ones = u16::count_ones(pattern);
+    let ones = pattern.count_ones();
     if pattern < 256 {
         if ones <= 4 {
             return Reading::Begun;
@@ -105,11 +106,9 @@ impl Progress {
         ensures { result ≡ progress self.place self.zeros self.last 0 number }
     {
         Progress {
-            place: self.place,
-            zeros: self.zeros,
-            last: self.last,
             pattern: 0,
             fault: number,
+            ..self
         }
     }
 
@@ -140,20 +139,11 @@ impl Progress {
             return Progress {
                 place: self.place + 1,
                 zeros: self.zeros + 1,
-                last: self.last,
-                pattern: 0,
-                fault: 0,
+                ..self
             };
         }
-        let reading = read_pattern(pattern);
-        match reading {
-            Reading::Begun => Progress {
-                place: self.place,
-                zeros: self.zeros,
-                last: self.last,
-                pattern: pattern,
-                fault: 0,
-            },
+        match read_pattern(pattern) {
+            Reading::Begun => Progress { pattern, ..self },
             Reading::Whole { kind } => self.completed(kind),
             Reading::Unknown => self.refused(UNKNOWN),
         }
@@ -165,41 +155,43 @@ impl Progress {
         ensures { After self (bits_of input.now first count) result }
     {
         let mut at = Cursor::at(first);
-        let mut left = count;
         let mut progress = self;
-        while (0 < left) & (progress.fault == 0) {
+        // The cursor goes on beside it: a place made a byte and a bit anew would cost a shift and a mask for each bit.
+        for _ in 0..count {
+            if progress.fault != 0 {
+                return progress;
+            }
             progress = progress.step(at.read(input));
             at = at.next();
-            left = left - 1;
         }
         progress
     }
 
     // What is said of the stream if it ends here.
-    pub fn verdict(self) -> Verdict
+    pub fn verdict(self) -> Result<(), StreamFault>
         requires { Fits self }
-        ensures { result ≡ verdict_on self [] }
+        ensures { answered result ≡ verdict_on self [] }
     {
         let place = self.place;
         if self.fault == UNKNOWN {
-            return Verdict::Unknown { place };
+            return Err(StreamFault::Unknown { place });
         }
         if self.fault != 0 {
-            return Verdict::TooClose { place };
+            return Err(StreamFault::TooClose { place });
         }
         if self.pattern != 0 {
-            return Verdict::Cut { place };
+            return Err(StreamFault::Cut { place });
         }
-        Verdict::Accepted
+        Ok(())
     }
 }
 
 // Whether a range of the input is a stream of zeros and whole, exact commands in time.
-pub fn accept(input: &[u8], first: usize, count: usize) -> Verdict
-    ensures { result ≡ accept_of input.now first count }
+pub fn accept(input: &[u8], first: usize, count: usize) -> Result<(), StreamFault>
+    ensures { answered result ≡ accept_of input.now first count }
 {
     if !bits::range_fits(input, first, count) {
-        return Verdict::WrongRange;
+        return Err(StreamFault::WrongRange);
     }
     let progress = Progress::start().check(input, first, count);
     progress.verdict()

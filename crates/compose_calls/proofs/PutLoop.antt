@@ -3,13 +3,11 @@
 use mathlib.Core.Bool.{true}
 use mathlib.Core.List.{List, [], ◌∷◌, ◌++◌}
 use mathlib.Core.Path.{◌≡◌, ◌∙◌, refl, sym, ap, subst}
-use Prim.Native.Nat.{ℕ, ◌+◌, ◌<◌, ◌≤◌}
-use native.Mathlib.Omega.{arith}
-use lib.ListN.{length, drop, length-drop}
-use lib.Seq.{drop-drop}
+use Prim.Native.Nat.{ℕ, ◌+◌}
+use lib.ListN.{length}
 use Rattle.orders.specs.declared.Order.{Order}
-use Rattle.orders.specs.declared.Composed.{Composed}
-use Rattle.orders.specs.Fields.{Ordered, order_fits, order_in, orders_in}
+use Rattle.orders.specs.Composed.{Composed}
+use Rattle.orders.specs.Fields.{Ordered, order_fits, orders_in}
 use Rattle.orders.specs.Streams.{order_bits, stream_of}
 use Rattle.orders.specs.Composing.{context_after, order_number}
 use Rattle.stream_writer.specs.declared.Writer.{Writer}
@@ -20,7 +18,7 @@ use Rattle.orders.proofs.OrderByOrder.{number_fits, first_fits, refusal_later}
 use Rattle.composing.specs.Checked.{ordered, SomeFit, Room}
 use Rattle.composing.proofs.Rooms.{room_as, first_room}
 use Rattle.compose_calls.specs.AllFit.{AllFit}
-use Rattle.compose_calls.proofs.OrderLists.{orders_apart, no_orders, whole_order, cnt_narrow}
+use Rattle.compose_calls.proofs.OrderLists.{no_orders, cnt_narrow}
 
 -- The first of fit orders is fit, and so are the others.
 module _ (x : Ordered) (xs : List Ordered) (a : AllFit (x ∷ xs)) where
@@ -50,25 +48,18 @@ no_bits : stream_of [] ≡ []
 unfolding stream_of
 no_bits = refl
 
-pub record Putting (words frames : List ℕ) (from : Writer) (before : List ℕ) (writer : Writer) (out : List ℕ) (at : ℕ) : Type 0 where
-  pub inside : at ≤ length words
-  pub fit : AllFit (orders_in frames (drop at words))
-  pub written : Written from before (stream_of (orders_in frames words)) writer out (stream_of (orders_in frames (drop at words)))
+pub record Putting (words frames : List ℕ) (from : Writer) (before : List ℕ) (writer : Writer) (out : List ℕ) (left : List ℕ) : Type 0 where
+  pub fit : AllFit (orders_in frames left)
+  pub written : Written from before (stream_of (orders_in frames words)) writer out (stream_of (orders_in frames left))
 
 module _ {words frames : List ℕ} {from : Writer} {before : List ℕ} where
-  pub initially : AllFit (orders_in frames words) → Fits from → Putting words frames from before from before 0
-  initially a f = record { inside = omega arith; fit = a; written = nothing_yet f }
+  pub initially : AllFit (orders_in frames words) → Fits from → Putting words frames from before from before words
+  initially a f = record { fit = a; written = nothing_yet f }
 
-  module _ {writer : Writer} {out : List ℕ} {at : ℕ} (i : Putting words frames from before writer out at) (here : at < length words)
-      (o : Order) (lent : List ℕ) (is : o ≡ order_in (drop at words)) (Lent-is : lent ≡ drop o.frame frames) where
-    abbrev left : List ℕ
-    left = drop at words
-
+  module _ {writer : Writer} {out left : List ℕ} (later : List ℕ) (i : Putting words frames from before writer out left) (o : Order)
+      (lent : List ℕ) (apart : orders_in frames left ≡ ordered o lent ∷ orders_in frames later) where
     abbrev rest : List Ordered
-    rest = orders_in frames (drop 6 left)
-
-    apart : orders_in frames left ≡ ordered o lent ∷ rest
-    apart = orders_apart frames left (omega (arith, length-drop at words)) o lent is Lent-is
+    rest = orders_in frames later
 
     all_fit : AllFit (ordered o lent ∷ rest)
     all_fit = subst AllFit apart i.fit
@@ -82,21 +73,12 @@ module _ {words frames : List ℕ} {from : Writer} {before : List ℕ} where
     pub this_room : Room from before (stream_of (orders_in frames words)) → Room writer out (order_bits (ordered o lent))
     this_room r = first_room writer out (order_bits (ordered o lent)) (stream_of rest) (room_as writer out (sym bits_left) (room_left i.written r))
 
-    pub six_more : at + 6 ≤ length words
-    six_more =
-        let fits = subst (λ (q : Order). order_fits this_fit.cnt q (length lent) ≡ true) is this_fit.fits in
-        omega (arith, whole_order left this_fit.cnt (length lent) fits, length-drop at words, here)
-
-    pub again : (next : Writer) (later : List ℕ) → Wrote writer out (order_bits (ordered o lent)) next later
-        → Putting words frames from before next later (at + 6)
-    again next later w = record {
-      inside = six_more;
-      fit = subst (λ (l : List ℕ). AllFit (orders_in frames l)) (drop-drop 6 at words) (others_fit (ordered o lent) rest all_fit);
-      written = left_as (ap (λ (l : List ℕ). stream_of (orders_in frames l)) (drop-drop 6 at words))
-          (onward (order_bits (ordered o lent)) (stream_of rest) (left_as bits_left i.written) w);
+    pub again : (next : Writer) (now : List ℕ) → Wrote writer out (order_bits (ordered o lent)) next now → Putting words frames from before next now later
+    again next now w = record {
+      fit = others_fit (ordered o lent) rest all_fit;
+      written = onward (order_bits (ordered o lent)) (stream_of rest) (left_as bits_left i.written) w;
     }
 
-  pub over : {writer : Writer} {out : List ℕ} {at : ℕ} → Putting words frames from before writer out at → length words ≤ at
+  pub over : {writer : Writer} {out left : List ℕ} → Putting words frames from before writer out left → length left ≡ 0
       → Wrote from before (stream_of (orders_in frames words)) writer out
-  over {at = at} i h =
-      left_as (ap stream_of (no_orders frames (drop at words) (omega (arith, length-drop at words))) ∙ no_bits) i.written
+  over {left = left} i h = left_as (ap stream_of (no_orders frames left h) ∙ no_bits) i.written

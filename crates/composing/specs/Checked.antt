@@ -5,7 +5,7 @@ use Rattle.limits.specs.Limits.{clock_limit}
 use Rattle.records.specs.Records.{kind_slow}
 use Rattle.plans.specs.declared.Plan.{Plan}
 use Rattle.orders.specs.declared.Order.{Order}
-use Rattle.orders.specs.declared.Composed.{Composed}
+use Rattle.orders.specs.Composed.{Composed}
 use Rattle.orders.specs.Fields.{Ordered, is_frame_kind, order_fits}
 use Rattle.orders.specs.Streams.{command_bits, stream_of}
 use Rattle.orders.specs.Composing.{start, composed, refusal_from}

@@ -7,11 +7,10 @@ ghost use Rattle.orders.specs.Composing.{room_fits};
 ghost use Rattle.stream_writer.specs.Writer.{Fits, Wrote};
 ghost use Rattle.composing.specs.Checked.{ordered, SomeFit, SlowFit, FrameFit, WidthOf, Room, capped};
 
+use order_kinds::WR_RECEIVER;
 use orders::Order;
 use records::{KIND_FAST, KIND_LV1, KIND_SLOW};
 use stream_writer::Writer;
-
-const WR_RECEIVER: u64 = 0x26;
 
 // A stream's bits are at most the clock's cycles.
 const BIT_LIMIT: u64 = 0x1_0000_0000_0000;
@@ -102,21 +101,15 @@ pub fn command_width(order: Order, bytes: usize) -> u64
 pub fn add_bits(bits: u64, more: u64) -> u64
     ensures { result ≡ capped (bits + more) }
 {
-    if BIT_LIMIT < bits {
-        return BIT_LIMIT + 1;
+    match bits.checked_add(more) {
+        Some(sum) if sum <= BIT_LIMIT => sum,
+        _ => BIT_LIMIT + 1,
     }
-    if BIT_LIMIT - bits < more {
-        return BIT_LIMIT + 1;
-    }
-    bits + more
 }
 
 // Whether so many bits are no more than the clock's cycles and fit so many bytes.
 pub fn room_fits(bits: u64, bytes: usize) -> bool
     ensures { result ≡ room_fits bits bytes }
 {
-    if BIT_LIMIT < bits {
-        return false;
-    }
-    (bits + 7) / 8 <= bytes as u64
+    bits <= BIT_LIMIT && bits.div_ceil(8) <= bytes as u64
 }

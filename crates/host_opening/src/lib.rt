@@ -28,16 +28,14 @@ pub fn kernelstill_open(
 {
     let plan = host_plans::plan_of(mask, csr, feen, cnt);
     let opened = Decoder::start(plan, cycle);
-    let opening = opened.opening;
-    let number = opening.number();
+    let number = opened.opening.number();
     if image.len() != image_words::WORDS {
         if number == 0 {
             return UNSOUND;
         }
         return number;
     }
-    let decoder = opened.decoder;
-    image_writer::write(decoder, image);
+    image_writer::write(opened.decoder, image);
     number
 }
 
@@ -45,9 +43,5 @@ pub fn kernelstill_open(
 pub fn sound_image(image: &[u64]) -> bool
     ensures { result ≡ sound_image image.now }
 {
-    if !image::fits(image) {
-        return false;
-    }
-    let decoder = image_reader::read(image);
-    decoder.sound()
+    image::fits(image) && image_reader::read(image).sound()
 }

@@ -13,13 +13,13 @@ fn ending_code(ending: Ending) -> u64
     ensures { result ≡ ending_code ending }
 {
     match ending {
-        Ending::Done => 0,
         Ending::Frame => 1,
         Ending::ListFull => 2,
-        Ending::Unsound => 0,
-        Ending::WrongBuffers => 0,
-        Ending::WrongRange => 0,
-        Ending::ClockOver => 0,
+        Ending::Done
+        | Ending::Unsound
+        | Ending::WrongBuffers
+        | Ending::WrongRange
+        | Ending::ClockOver => 0,
     }
 }
 
@@ -28,8 +28,7 @@ pub fn write_result(res: &mut [u64], answer: Report)
     requires { length res.old ≡ result_length }
     ensures { res.new ≡ result_words answer }
 {
-    let ending = answer.ending;
     res[0] = answer.bits as u64;
     res[1] = answer.records as u64;
-    res[2] = ending_code(ending);
+    res[2] = ending_code(answer.ending);
 }

@@ -1,7 +1,7 @@
 -- What the library answers for a stream: a number and a place in one word (ours).
 -- Assumes nothing.
 use Rattle.std.specs.Prelude.{ℕ, ◌+◌, ◌*◌}
-use Rattle.patterns.specs.declared.Verdict.{Verdict}
+use Rattle.patterns.specs.Verdict.{Verdict}
 use Rattle.patterns.specs.Verdicts.{verdict_number, verdict_place}
 
 -- The place stands above the number, which is below 256.

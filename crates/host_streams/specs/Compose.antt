@@ -1,7 +1,7 @@
 -- What the library answers for a list of orders: a number, and the count of bits or an order's number, in one word (ours).
 -- Assumes nothing.
 use Rattle.std.specs.Prelude.{cond, List, ℕ, ◌+◌, ◌*◌, ◌%◌, ◌^◌, eqb}
-use Rattle.orders.specs.declared.Composed.{Composed}
+use Rattle.orders.specs.Composed.{Composed}
 use Rattle.orders.specs.Fields.{orders_in}
 use Rattle.orders.specs.Composing.{ComposeResult, compose_of}
 use Rattle.host_plans.specs.Plans.{plan_of}

@@ -1,7 +1,7 @@
 -- What the library answers for a reply: a number, a verdict and the count of complete bits, in one word (ours).
 -- Assumes nothing.
 use Rattle.std.specs.Prelude.{List, ℕ, ◌+◌, ◌*◌}
-use Rattle.replies.specs.declared.Reply.{Reply}
+use Rattle.replies.specs.Said.{Reply}
 use Rattle.replies.specs.Replies.{ReplyResult, reply_of, reply_number, reply_verdict, reply_bits}
 
 -- The count of bits stands above the verdict, which stands above the number; both are below 256.

@@ -39,13 +39,11 @@ pub fn kernelstill_take(
     let decoder = image_reader::read(image);
     let taken = taking::take(decoder, input, first, count, store, tray, list, free);
     let answer = taken.report;
-    let ending = answer.ending;
-    let number = ending.number();
+    let number = answer.ending.number();
     if number != 0 {
         return number;
     }
     host_results::write_result(res, answer);
-    let next = taken.decoder;
-    image_writer::write(next, image);
+    image_writer::write(taken.decoder, image);
     0
 }

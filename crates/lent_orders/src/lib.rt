@@ -10,10 +10,11 @@ use orders::Order;
 pub const ORDER_WORDS: usize = 6;
 
 // The order that some words begin with; fewer than six are no command.
+#[tactic(auto, unfolding(orders::specs::Fields::order_in))]
 pub fn read_order(words: &[u64]) -> Order
     ensures { result ≡ order_in words.now }
 {
-    if words.len() < ORDER_WORDS {
+    let [kind, zeros, address, value, frame, bits, ..] = *words else {
         return Order {
             kind: 0,
             zeros: 0,
@@ -22,14 +23,14 @@ pub fn read_order(words: &[u64]) -> Order
             frame: 0,
             bits: 0,
         };
-    }
+    };
     Order {
-        kind: words[0],
-        zeros: words[1],
-        address: words[2],
-        value: words[3],
-        frame: words[4],
-        bits: words[5],
+        kind,
+        zeros,
+        address,
+        value,
+        frame,
+        bits,
     }
 }
 
@@ -37,9 +38,5 @@ pub fn read_order(words: &[u64]) -> Order
 pub fn lent_from(frames: &[u8], frame: u64) -> &[u8]
     ensures { result.now ≡ drop frame frames.now }
 {
-    let at = frame as usize;
-    if frames.len() < at {
-        return &frames[..0];
-    }
-    &frames[at..]
+    frames.get(frame as usize..).unwrap_or(&[])
 }

@@ -16,7 +16,11 @@ const WR_FIFO: u64 = 0x22;
 
 const RD_FIFO: u64 = 0x23;
 
-const WR_RECEIVER: u64 = 0x26;
+const WR_FRONT_END: u64 = 0x24;
+
+pub const WR_RECEIVER: u64 = 0x26;
+
+pub const GLOBAL_RESET_MCC: u64 = 0x29;
 
 const GLOBAL_RESET_FE: u64 = 0x2A;
 
@@ -24,33 +28,25 @@ const GLOBAL_RESET_FE: u64 = 0x2A;
 pub fn is_known(kind: u64) -> bool
     ensures { result ≡ is_known kind }
 {
-    if kind == KIND_LV1 as u64 {
-        return true;
+    match u8::try_from(kind) {
+        Ok(KIND_LV1) => true,
+        Ok(slow @ KIND_SLOW..) => slow_fields::is_slow(slow - KIND_SLOW),
+        Ok(fast @ KIND_FAST..) => windows::is_fast(fast - KIND_FAST),
+        _ => false,
     }
-    if 256 <= kind {
-        return false;
-    }
-    let narrow = kind as u8;
-    if KIND_SLOW <= narrow {
-        return slow_fields::is_slow(narrow - KIND_SLOW);
-    }
-    if KIND_FAST <= narrow {
-        return windows::is_fast(narrow - KIND_FAST);
-    }
-    false
 }
 
 // Whether the command carries a frame: WrFrontEnd, RdFrontEnd, WrReceiver.
 pub fn is_frame_kind(kind: u64) -> bool
     ensures { result ≡ is_frame_kind kind }
 {
-    (0x24 <= kind) & (kind <= WR_RECEIVER)
+    (WR_FRONT_END..=WR_RECEIVER).contains(&kind)
 }
 
 pub fn uses_address(kind: u64) -> bool
     ensures { result ≡ uses_address kind }
 {
-    (kind == WR_REGISTER) | ((kind == RD_REGISTER) | (kind == RD_FIFO))
+    matches!(kind, WR_REGISTER | RD_REGISTER | RD_FIFO)
 }
 
 // Field 4: the address where the command uses it, else 0.
@@ -58,25 +54,22 @@ pub fn field4(order: Order) -> u64
     ensures { result ≡ field4 order }
 {
     if uses_address(order.kind) {
-        return order.address;
+        order.address
+    } else {
+        0
     }
-    0
 }
 
 // How many bits of Field 5 an order gives as a number; 0 where it gives none.
 pub fn value_width(kind: u64) -> u32
     ensures { (result ≡ value_width kind) × (result ≤ 27) }
 {
-    if kind == WR_REGISTER {
-        return 16;
+    match kind {
+        WR_REGISTER => 16,
+        WR_FIFO => 27,
+        GLOBAL_RESET_FE => 4,
+        _ => 0,
     }
-    if kind == WR_FIFO {
-        return 27;
-    }
-    if kind == GLOBAL_RESET_FE {
-        return 4;
-    }
-    0
 }
 
 // The bits of a frame, by CNT.

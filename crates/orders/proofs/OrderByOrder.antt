@@ -13,7 +13,7 @@ use Rattle.bits.proofs.Truth.{cases}
 use Rattle.plans.specs.declared.Plan.{Plan}
 use Rattle.orders.specs.declared.Order.{Order}
 use Rattle.orders.specs.declared.Context.{Context}
-use Rattle.orders.specs.declared.Composed.{Composed}
+use Rattle.orders.specs.Composed.{Composed}
 use Rattle.orders.specs.Fields.{Ordered, order_fits}
 use Rattle.orders.specs.Composing.{composed, context_after, order_number, refusal_from}
 

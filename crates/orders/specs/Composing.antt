@@ -9,7 +9,7 @@ use Rattle.plans.specs.Plan.{plan_fits}
 use Rattle.timing.specs.Table.{zeros_asked}
 use Rattle.orders.specs.declared.Order.{Order}
 use Rattle.orders.specs.declared.Context.{Context}
-use Rattle.orders.specs.declared.Composed.{Composed}
+use Rattle.orders.specs.Composed.{Composed}
 use Rattle.orders.specs.Fields.{Ordered, order_fits}
 use Rattle.orders.specs.Streams.{stream_of, packed}
 

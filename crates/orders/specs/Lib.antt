@@ -1,3 +1,4 @@
+pub mod Composed
 pub mod Fields
 pub mod Streams
 pub mod Composing

@@ -1,7 +1,7 @@
-// Orders, from which a stream is composed: a command by its kind, its fields and the zeros ahead of it; what one goes by, and what composing answers.
-// An order. What a field holds that its command does not use is not looked at.
+// Orders, from which a stream is composed: a command by its kind, its fields and the zeros ahead of it; and what one goes by.
 #![tactic(auto)]
 
+// An order. What a field holds that its command does not use is not looked at.
 #[derive(Clone, Copy)]
 pub struct Order {
     // The kind of the command's record.
@@ -17,17 +17,9 @@ pub struct Order {
     pub bits: u64,
 }
 
-// What an order goes by: the kind of the command before it, 0 for none, and CNT as the orders before it wrote it.
+// What an order goes by: the kind of the command before it, 0 for none, as the timing table takes it, and CNT as the orders before it wrote it.
 #[derive(Clone, Copy)]
 pub struct Context {
     pub last: u8,
     pub cnt: u16,
-}
-
-// What composing answers: a refusal's number, 0 for none; the number of the order that was refused, counted from 0; the count of bits.
-#[derive(Clone, Copy)]
-pub struct Composed {
-    pub number: u8,
-    pub order: u64,
-    pub bits: u64,
 }

@@ -1,7 +1,7 @@
 -- What each verdict says of its stream; and a clean stream is accepted.
 -- Assumes nothing.
 use mathlib.Core.Path.{◌≡◌, ◌∙◌, refl, sym, ap, subst}
-use mathlib.Core.Bool.{Bool, true, false, cond, ◌&&◌}
+use mathlib.Core.Bool.{Bool, true, false, ◌&&◌}
 use mathlib.Core.List.{List, [], ◌∷◌, ◌++◌, append_assoc, append-nil}
 use Prim.Native.Nat.{ℕ, zero, suc, ◌+◌, ◌≤◌}
 use native.Mathlib.Nat.{zero-add}
@@ -12,10 +12,10 @@ use borrow.Author.Tests.{le-leb, leb-true, leb-false}
 use Rattle.bits.proofs.Truth.{holds_true, true_holds, and_both, and_left, and_right}
 use Rattle.timing.specs.Table.{zeros_asked}
 use Rattle.clean_streams.specs.Commands.{Command, code_of, command_kind, width_of}
-use Rattle.clean_streams.specs.CleanStreams.{Item, zeros, zeros_between, item_bits, stream_bits, spaced, timed}
+use Rattle.clean_streams.specs.CleanStreams.{Item, zeros, stream_bits, spaced, timed}
 use Rattle.clean_streams.proofs.FiniteFacts.{each_at}
-use Rattle.patterns.specs.declared.Verdict.{Verdict}
-use Rattle.patterns.specs.declared.Verdict.TheVariants.{Accepted, Unknown, Cut, TooClose}
+use Rattle.patterns.specs.Verdict.{Verdict}
+use Rattle.patterns.specs.Verdict.{Accepted}
 use Rattle.patterns.specs.Patterns.{commands, Pattern, unknown, cut, whole, pattern_of}
 use Rattle.patterns.specs.Verdicts.{verdict_from, verdict_of}
 use Rattle.patterns.specs.Accepted.{Clean, last_kind, AtFault, TooFew, Told}

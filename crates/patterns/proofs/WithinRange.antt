@@ -1,7 +1,5 @@
 -- A place lies within its stream.
 -- Assumes nothing.
-use mathlib.Core.Path.{◌≡◌}
-use mathlib.Core.Bool.{Bool, true, false}
 use mathlib.Core.List.{List, [], ◌∷◌}
 use Prim.Native.Nat.{ℕ, zero, suc, ◌+◌, ◌*◌, ◌-◌, ◌≤◌}
 use native.Mathlib.Omega.{arith}
@@ -15,9 +13,9 @@ use Rattle.bits.proofs.BitRanges.{length_bits}
 use Rattle.bits.proofs.Truth.{both, choice}
 use Rattle.timing.specs.Table.{zeros_asked}
 use Rattle.clean_streams.specs.Commands.{Command, command_kind, width_of}
-use Rattle.patterns.specs.declared.Verdict.{Verdict}
+use Rattle.patterns.specs.Verdict.{Verdict}
 use Rattle.patterns.specs.Patterns.{Pattern, unknown, cut, whole, pattern_of}
-use Rattle.patterns.specs.Verdicts.{verdict_place, judged, verdict_from, verdict_of, accept_of}
+use Rattle.patterns.specs.Verdicts.{verdict_place, judged, verdict_from, accept_of}
 
 -- By the pattern at a place, where what is said of the rest lies behind it.
 judged_near : (last ahead place most : ℕ) (p : Pattern) (rest : Command → Verdict) → place ≤ most → ((c : Command) → verdict_place (rest c) ≤ most)

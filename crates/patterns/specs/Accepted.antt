@@ -4,8 +4,8 @@ use Rattle.std.specs.Prelude.{◌≡◌, List, [], ◌∷◌, ℕ, ◌<◌, T, g
 use Rattle.timing.specs.Table.{zeros_asked}
 use Rattle.clean_streams.specs.Commands.{Command, command_kind}
 use Rattle.clean_streams.specs.CleanStreams.{Item, stream_bits, timed}
-use Rattle.patterns.specs.declared.Verdict.{Verdict}
-use Rattle.patterns.specs.declared.Verdict.TheVariants.{Accepted, WrongRange, Unknown, Cut, TooClose}
+use Rattle.patterns.specs.Verdict.{Verdict}
+use Rattle.patterns.specs.Verdict.{Accepted, WrongRange, Unknown, Cut, TooClose}
 use Rattle.patterns.specs.Patterns.{Pattern, unknown, cut, whole, pattern_of}
 
 -- "streams of zeros and whole, exact LV1, BCR, ECR, CAL and SYNC commands that keep the timing table"

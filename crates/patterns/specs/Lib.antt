@@ -1,3 +1,5 @@
+pub mod Verdict
+pub mod Answers
 pub mod Patterns
 pub mod Verdicts
 pub mod Accepted

@@ -1,7 +1,6 @@
 -- Streams in bits with what is said of each: the number, and the place (document 02, F-8).
 -- Assumes nothing.
 use Rattle.std.specs.Prelude.{◌≡◌, List, [], ◌∷◌, ◌++◌, map, ℕ, replicate}
-use Rattle.patterns.specs.declared.Verdict.{Verdict}
 use Rattle.patterns.specs.Verdicts.{verdict_number, verdict_place, verdict_of}
 
 pub record VerdictRow : Type 0 where

@@ -5,8 +5,8 @@ use Rattle.bits.specs.Bits.{bits_of}
 use Rattle.bits.specs.Range.{range_fits}
 use Rattle.timing.specs.Table.{zeros_asked}
 use Rattle.clean_streams.specs.Commands.{Command, command_kind, width_of}
-use Rattle.patterns.specs.declared.Verdict.{Verdict}
-use Rattle.patterns.specs.declared.Verdict.TheVariants.{Accepted, WrongRange, Unknown, Cut, TooClose}
+use Rattle.patterns.specs.Verdict.{Verdict}
+use Rattle.patterns.specs.Verdict.{Accepted, WrongRange, Unknown, Cut, TooClose}
 use Rattle.patterns.specs.Patterns.{Pattern, unknown, cut, whole, pattern_of}
 
 -- "Errors: number 5 first ..; then, pattern by pattern, 13 .., 14 .., 15 ..".

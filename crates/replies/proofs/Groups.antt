@@ -1,6 +1,6 @@
 -- The data of a reply: what is received behind the header is the vote of each group of eight cycles, as many as are expected.
 -- Assumes nothing.
-use mathlib.Core.Bool.{true, false, cond}
+use mathlib.Core.Bool.{true, false}
 use mathlib.Core.List.{List, [], ◌∷◌, ◌++◌, append-nil}
 use mathlib.Core.Logic.{⊎_elim}
 use mathlib.Core.Path.{◌≡◌, ◌∙◌, refl, sym, ap}
@@ -18,11 +18,10 @@ use Rattle.groups.specs.Received.{held_with, bits_in, left_by}
 use Rattle.groups.proofs.GroupLists.{binary_take, binary_drop}
 use Rattle.groups.proofs.LeftBits.{bits_left, left_last}
 use Rattle.frames.specs.Tray.{stored_of, filled_of}
-use Rattle.replies.specs.declared.Reply.{Reply}
-use Rattle.replies.specs.declared.Reply.TheVariants.{Whole, CutShort}
+use Rattle.replies.specs.Said.{CutShort}
 use Rattle.replies.specs.declared.Reception.{Reception}
-use Rattle.replies.specs.Replies.{ReplyResult, reply_result, complete_of, data_result}
-use Rattle.replies.specs.Reception.{Received, received, is_whole, step_of, after_of, said_of}
+use Rattle.replies.specs.Replies.{ReplyResult, reply_result, data_result}
+use Rattle.replies.specs.Reception.{Received, received, after_of, said_of}
 use Rattle.replies.proofs.Kept.{none_more, whole_stays}
 
 -- What is said at the end, with the buffer then.

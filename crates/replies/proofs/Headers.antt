@@ -14,8 +14,8 @@ use Rattle.bits.proofs.BitRanges.{binary}
 use Rattle.bits.proofs.Shift.{shifted_fits}
 use Rattle.replies.specs.declared.Reception.{Reception}
 use Rattle.replies.specs.Replies.{header, begins, nowhere, behind, behind_header, result_by, read_of}
-use Rattle.replies.specs.Reception.{received, start, hunted_of, after_of}
-use Rattle.replies.proofs.Groups.{result_of, behind_at, data_read}
+use Rattle.replies.specs.Reception.{received, start, after_of}
+use Rattle.replies.proofs.Groups.{result_of, data_read}
 
 -- The last four bits of a window, the first received first.
 abbrev last_four : ℕ → List ℕ

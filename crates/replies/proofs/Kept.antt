@@ -1,9 +1,9 @@
 -- One bit more of a reception: what it does, and that it stays within what is expected.
 -- Assumes nothing.
-use mathlib.Core.Bool.{Bool, true, false, cond, not, ◌&&◌}
+use mathlib.Core.Bool.{Bool, true, false}
 use mathlib.Core.List.{List, [], ◌∷◌, ◌++◌}
 use mathlib.Core.Path.{◌≡◌, refl, ◌∙◌, sym, ap}
-use Prim.Native.Nat.{ℕ, ◌+◌, ◌*◌, ◌/◌, ◌%◌, ◌<◌, ◌≤◌}
+use Prim.Native.Nat.{ℕ, ◌/◌, ◌%◌, ◌≤◌}
 use native.Mathlib.Omega.{arith}
 use lib.Dec.{eqb}
 use lib.ListN.{length}
@@ -15,7 +15,7 @@ use Rattle.frames.specs.Tray.{stored_of}
 use Rattle.frames.proofs.TrayLaws.{stored_length}
 use Rattle.replies.specs.declared.Reception.{Reception}
 use Rattle.replies.specs.Replies.{most_bits}
-use Rattle.replies.specs.Reception.{Received, received, start, is_whole, hunted_of, onwards, counted_of, step_of, after_of, Fits}
+use Rattle.replies.specs.Reception.{Received, received, start, is_whole, onwards, counted_of, step_of, after_of, Fits}
 
 -- A cycle behind the header: a group's eighth, or another.
 module _ (s : Reception) (buffer : List ℕ) (bit : ℕ) where

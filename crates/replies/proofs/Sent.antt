@@ -14,7 +14,7 @@ use Rattle.bits.proofs.Truth.{clash, and_left, and_right}
 use Rattle.groups.specs.Vote.{ones_of, vote_of, votes_of}
 use Rattle.groups.proofs.GroupLists.{binary_take, binary_drop, votes_binary}
 use Rattle.frames.specs.Tray.{filled_of}
-use Rattle.replies.specs.declared.Reply.TheVariants.{Whole}
+use Rattle.replies.specs.Said.{Whole}
 use Rattle.replies.specs.Replies.{header, begins, Behind, nowhere, behind, behind_header, complete_of, reply_result, result_by, read_of}
 use Rattle.replies.specs.Sent.{NoneBefore, FoundAt, inverted_in, Sent}
 

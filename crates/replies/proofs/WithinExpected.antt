@@ -1,8 +1,6 @@
 -- The complete bits are at most those that are expected.
 -- Assumes nothing.
-use mathlib.Core.Bool.{Bool, true, false}
 use mathlib.Core.List.{List}
-use mathlib.Core.Path.{◌≡◌}
 use Prim.Native.Nat.{ℕ, ◌*◌, ◌/◌, ◌≤◌}
 use native.Mathlib.Omega.{arith}
 use lib.Dec.{leb, eqb}
@@ -11,7 +9,7 @@ use borrow.Author.Tests.{leb-true, leb-false}
 use Rattle.bits.specs.Bits.{bits_of}
 use Rattle.bits.specs.Range.{range_fits}
 use Rattle.bits.proofs.Truth.{both, choice}
-use Rattle.replies.specs.declared.Reply.{Reply}
+use Rattle.replies.specs.Said.{Reply}
 use Rattle.replies.specs.Replies.{Behind, nowhere, behind, behind_header, complete_of, ReplyResult, result_by, most_bits, expected_fits, reply_of, reply_bits}
 
 complete_most : (expected : ℕ) (cycles : List ℕ) → complete_of expected cycles ≤ expected

@@ -1,8 +1,8 @@
 -- Calls in numbers, with what is said and the buffer afterwards (document 02, F-12).
 -- Assumes nothing.
 use Rattle.std.specs.Prelude.{◌≡◌, List, [], ◌∷◌, map, ℕ}
-use Rattle.replies.specs.declared.Reply.{Reply}
-use Rattle.replies.specs.declared.Reply.TheVariants.{Whole, NoHeader, CutShort, WrongExpected, WrongBuffer, WrongRange}
+use Rattle.replies.specs.Said.{Reply}
+use Rattle.replies.specs.Said.{Whole, NoHeader, CutShort, WrongExpected, WrongBuffer, WrongRange}
 use Rattle.replies.specs.Replies.{ReplyResult, reply_result, reply_of}
 
 pub record ReplyRow : Type 0 where

@@ -1,3 +1,5 @@
+pub mod Said
+pub mod Answers
 pub mod Replies
 pub mod Sent
 pub mod Reception

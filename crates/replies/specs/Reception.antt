@@ -5,8 +5,8 @@ use Rattle.bits.specs.Bits.{shifted}
 use Rattle.groups.specs.Vote.{vote_of}
 use Rattle.groups.specs.Received.{held_with, bits_in}
 use Rattle.frames.specs.Tray.{stored_of}
-use Rattle.replies.specs.declared.Reply.{Reply}
-use Rattle.replies.specs.declared.Reply.TheVariants.{Whole, NoHeader, CutShort}
+use Rattle.replies.specs.Said.{Reply}
+use Rattle.replies.specs.Said.{Whole, NoHeader, CutShort}
 use Rattle.replies.specs.declared.Reception.{Reception}
 use Rattle.replies.specs.Replies.{most_bits}
 

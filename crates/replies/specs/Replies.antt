@@ -5,8 +5,8 @@ use Rattle.bits.specs.Bits.{bits_of}
 use Rattle.bits.specs.Range.{range_fits}
 use Rattle.groups.specs.Vote.{votes_of}
 use Rattle.frames.specs.Tray.{filled_of}
-use Rattle.replies.specs.declared.Reply.{Reply}
-use Rattle.replies.specs.declared.Reply.TheVariants.{Whole, NoHeader, CutShort, WrongExpected, WrongBuffer, WrongRange}
+use Rattle.replies.specs.Said.{Reply}
+use Rattle.replies.specs.Said.{Whole, NoHeader, CutShort, WrongExpected, WrongBuffer, WrongRange}
 
 -- "the header 11101, one cycle a bit".
 abbrev pub header : List ℕ

@@ -5,16 +5,22 @@ ghost use Rattle.std.specs.Prelude.{◌≡◌, true, ◌<◌, ◌≤◌, length}
 ghost use Rattle.bits.specs.Bits.{bits_of};
 ghost use Rattle.bits.specs.Range.{range_fits};
 ghost use Rattle.replies.specs.Replies.{most_bits, reply_number, reply_verdict, reply_bits, reply_result, reply_of};
+ghost use Rattle.replies.specs.Answers.{said, refused, answered};
 ghost use Rattle.replies.specs.Reception.{received, start, is_whole, hunted_of, onwards, counted_of, step_of, after_of, said_of, Fits};
 
 use bits::Cursor;
 
-// What is said of a reply, or the refusal of a call.
-#[derive(Clone, Copy)]
+// What is said of a reply.
+#[derive(Clone, Copy, Debug, PartialEq, Eq)]
 pub enum Reply {
     Whole,
     NoHeader,
     CutShort { bits: u32 },
+}
+
+// The refusal of a call.
+#[derive(Clone, Copy, Debug, PartialEq, Eq)]
+pub enum ReplyError {
     WrongExpected,
     WrongBuffer,
     WrongRange,
@@ -25,51 +31,44 @@ pub const MOST_BITS: u64 = 8191;
 
 const HEADER: u8 = 0b11101;
 
-impl Reply {
-    // The refusal number, 0 for none.
+impl ReplyError {
+    // The refusal number.
     pub fn number(self) -> u8
-        ensures { result ≡ reply_number self }
+        ensures { result ≡ reply_number (refused self) }
     {
         match self {
-            Reply::Whole => 0,
-            Reply::NoHeader => 0,
-            Reply::CutShort { bits } => 0,
-            Reply::WrongExpected => 18,
-            Reply::WrongBuffer => 19,
-            Reply::WrongRange => 5,
+            ReplyError::WrongExpected => 18,
+            ReplyError::WrongBuffer => 19,
+            ReplyError::WrongRange => 5,
         }
     }
+}
 
-    // Which of the three answers, 0 at a refusal too.
+impl Reply {
+    // Which of the three answers.
     pub fn verdict(self) -> u8
-        ensures { result ≡ reply_verdict self }
+        ensures { result ≡ reply_verdict (said self) }
     {
         match self {
             Reply::Whole => 0,
             Reply::NoHeader => 1,
-            Reply::CutShort { bits } => 2,
-            Reply::WrongExpected => 0,
-            Reply::WrongBuffer => 0,
-            Reply::WrongRange => 0,
+            Reply::CutShort { .. } => 2,
         }
     }
 
     // The complete bits of a reply of which so many are expected.
     pub fn bits(self, expected: u64) -> u64
-        ensures { result ≡ reply_bits expected self }
+        ensures { result ≡ reply_bits expected (said self) }
     {
         match self {
             Reply::Whole => expected,
             Reply::NoHeader => 0,
             Reply::CutShort { bits } => bits as u64,
-            Reply::WrongExpected => 0,
-            Reply::WrongBuffer => 0,
-            Reply::WrongRange => 0,
         }
     }
 }
 
-// A reply under way.
+// A reply under way. The definitions (`hunted_of`, `counted_of`, `said_of`) name its fields, so its two phases are no enum.
 #[derive(Clone, Copy)]
 pub struct Reception {
     // The cycles of all data bits that are expected.
@@ -101,7 +100,7 @@ impl Reception {
     pub fn is_whole(self) -> bool
         ensures { result ≡ is_whole self }
     {
-        self.found & (self.cycles == self.total)
+        self.found && self.cycles == self.total
     }
 
     // One bit more while the header has not come.
@@ -111,11 +110,11 @@ impl Reception {
     {
         let window = windows::window_with(self.window, bit);
         Reception {
-            total: self.total,
-            window: window,
+            window,
             found: window == HEADER,
             group: 0,
             cycles: 0,
+            ..self
         }
     }
 
@@ -125,11 +124,10 @@ impl Reception {
         ensures { result ≡ onwards self group }
     {
         Reception {
-            total: self.total,
-            window: self.window,
             found: true,
-            group: group,
+            group,
             cycles: self.cycles + 1,
+            ..self
         }
     }
 
@@ -164,19 +162,21 @@ impl Reception {
         ensures fits { Fits result }
     {
         let mut at = Cursor::at(first);
-        let mut left = count;
         let mut state = self;
-        while (0 < left) & !state.is_whole() {
+        // The cursor goes on beside it: a place made a byte and a bit anew would cost a shift and a mask for each bit.
+        for _ in 0..count {
+            if state.is_whole() {
+                return state;
+            }
             state = state.step(at.read(input), buffer);
             at = at.next();
-            left = left - 1;
         }
         state
     }
 
     // What is said if the line ends here.
     pub fn reply(self) -> Reply
-        ensures { result ≡ said_of self }
+        ensures { said result ≡ said_of self }
     {
         if !self.found {
             return Reply::NoHeader;
@@ -197,19 +197,19 @@ pub fn read_reply(
     count: usize,
     expected: u64,
     buffer: &mut [u8],
-) -> Reply
-    ensures { reply_result result buffer.new ≡ reply_of input.now first count expected buffer.old }
+) -> Result<Reply, ReplyError>
+    ensures { reply_result (answered result) buffer.new ≡ reply_of input.now first count expected buffer.old }
 {
-    if (expected == 0) | (MOST_BITS < expected) {
-        return Reply::WrongExpected;
+    if !(1..=MOST_BITS).contains(&expected) {
+        return Err(ReplyError::WrongExpected);
     }
     let bits = expected as u32;
-    if buffer.len() < ((bits + 7) / 8) as usize {
-        return Reply::WrongBuffer;
+    if buffer.len() < bits.div_ceil(8) as usize {
+        return Err(ReplyError::WrongBuffer);
     }
     if !bits::range_fits(input, first, count) {
-        return Reply::WrongRange;
+        return Err(ReplyError::WrongRange);
     }
     let state = Reception::start(bits).receive(input, first, count, buffer);
-    state.reply()
+    Ok(state.reply())
 }

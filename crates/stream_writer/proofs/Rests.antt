@@ -1,7 +1,7 @@
 -- What is left to be written, taken apart: its first bit or byte, and the rest.
 -- Assumes nothing.
-use mathlib.Core.List.{List, ◌∷◌, ◌++◌}
-use mathlib.Core.Path.{◌≡◌, ◌∙◌, refl, ap}
+use mathlib.Core.List.{List, [], ◌∷◌, ◌++◌}
+use mathlib.Core.Path.{◌≡◌, ◌∙◌, refl, sym, ap}
 use Prim.Native.Nat.{ℕ, zero, suc, ◌+◌, ◌*◌, ◌-◌, ◌/◌, ◌%◌, ◌^◌, ◌<◌, ◌≤◌}
 use native.Mathlib.Nat.{zero-add, suc-add}
 use native.Mathlib.Omega.{arith}
@@ -17,17 +17,15 @@ pub room_left : {w v : Writer} {out bits now rest : List ℕ} → Written w out 
     → place_of v + length rest ≤ 8 * length now
 room_left a h = omega (arith, a.place, a.long)
 
-pub zeros_byte : (left : ℕ) → 0 < left → zeros (8 * left) ≡ number_bits 8 0 ++ zeros (8 * (left - 1))
-zeros_byte left h =
-    let e : 8 * left ≡ suc (suc (suc (suc (suc (suc (suc (suc (8 * (left - 1))))))))) = omega arith in
-    rw e
-
-pub zeros_bit : (left : ℕ) → 0 < left → zeros left ≡ 0 ∷ zeros (left - 1)
-zeros_bit left h = let e : left ≡ suc (left - 1) = omega arith in ap zeros e
-
 pub zeros_split : (n m : ℕ) → zeros (n + m) ≡ zeros n ++ zeros m
 zeros_split zero m = ap zeros (zero-add m)
 zeros_split (suc n) m = ap zeros (suc-add n m) ∙ ap (λ l. 0 ∷ l) (zeros_split n m)
+
+pub zeros_byte : (n : ℕ) → zeros (8 * n) ++ number_bits 8 0 ≡ zeros (8 * (n + 1))
+zeros_byte n = let e : 8 * n + 8 ≡ 8 * (n + 1) = omega arith in sym (zeros_split (8 * n) 8) ∙ ap zeros e
+
+pub zeros_bit : (n : ℕ) → zeros n ++ (0 ∷ []) ≡ zeros (n + 1)
+zeros_bit n = sym (zeros_split n 1)
 
 pub number_bit : (left value : ℕ) → 0 < left → number_bits left value ≡ value / 2 ^ (left - 1) % 2 ∷ number_bits (left - 1) value
 number_bit left value h = let e : left ≡ suc (left - 1) = omega arith in ap (λ n. number_bits n value) e

@@ -38,8 +38,8 @@ impl Writer {
         let at = self.at;
         if self.filled < 7 {
             return Writer {
-                at: at,
-                held: held,
+                at,
+                held,
                 filled: self.filled + 1,
             };
         }
@@ -67,15 +67,14 @@ impl Writer {
     }
 
     // So many bytes of zeros more.
+    // One loop for bytes and single bits would go over a closure, whose clauses are longer than this loop and the next.
     fn put_zero_bytes(self, out: &mut [u8], count: usize) -> Writer
         requires { Fits self × (place_of self + 8 * count ≤ 8 * length out.old) }
         ensures { Wrote self out.old (zeros (8 * count)) result out.new }
     {
         let mut writer = self;
-        let mut left = count;
-        while 0 < left {
+        for _ in 0..count {
             writer = writer.put_byte(out, 0);
-            left -= 1;
         }
         writer
     }
@@ -86,10 +85,8 @@ impl Writer {
         ensures { Wrote self out.old (zeros count) result out.new }
     {
         let mut writer = self;
-        let mut left = count;
-        while 0 < left {
+        for _ in 0..count {
             writer = writer.put_bit(out, 0);
-            left -= 1;
         }
         writer
     }
@@ -109,10 +106,8 @@ impl Writer {
         ensures { Wrote self out.old (number_bits width value) result out.new }
     {
         let mut writer = self;
-        let mut left = width;
-        while 0 < left {
-            left -= 1;
-            writer = writer.put_bit(out, ((value >> left as u64) % 2) as u8);
+        for place in (0..width).rev() {
+            writer = writer.put_bit(out, ((value >> place as u64) % 2) as u8);
         }
         writer
     }
@@ -123,10 +118,8 @@ impl Writer {
         ensures { Wrote self out.old (bits_of bytes.now 0 (8 * count)) result out.new }
     {
         let mut writer = self;
-        let mut i: usize = 0;
-        while i < count {
-            writer = writer.put_byte(out, bytes[i]);
-            i += 1;
+        for byte in &bytes[..count] {
+            writer = writer.put_byte(out, *byte);
         }
         writer
     }
@@ -137,12 +130,8 @@ impl Writer {
         ensures { Wrote self out.old (repeated 8 (bits_of bytes.now 0 count)) result out.new }
     {
         let mut writer = self;
-        let mut at = Cursor::at(0);
-        let mut left = count;
-        while 0 < left {
-            writer = writer.put_byte(out, at.read(bytes) * 255);
-            at = at.next();
-            left -= 1;
+        for place in 0..count {
+            writer = writer.put_byte(out, Cursor::at(place).read(bytes) * 255);
         }
         writer
     }

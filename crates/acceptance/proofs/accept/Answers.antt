@@ -8,7 +8,7 @@ use native.Mathlib.Omega.{arith}
 use lib.ListN.{length}
 use Rattle.bits.specs.Bits.{bits_of}
 use Rattle.bits.specs.Range.{range_fits}
-use Rattle.patterns.specs.declared.Verdict.TheVariants.{WrongRange}
+use Rattle.patterns.specs.Verdict.{WrongRange}
 use Rattle.patterns.specs.Verdicts.{verdict_of, accept_of}
 use Rattle.acceptance.specs.declared.Progress.{Progress}
 use Rattle.acceptance.specs.Progress.{Fits, verdict_on}

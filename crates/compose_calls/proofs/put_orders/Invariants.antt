@@ -1,12 +1,11 @@
 -- `put_orders` writes one order after another.
 -- Assumes nothing.
-use Prim.Native.Nat.{◌-◌}
-use lib.ListN.{length}
+use mathlib.Core.Path.{◌≡◌}
+use Rattle.std.specs.Slice.Iter.{chunks_size, chunks_rest}
 use Rattle.compose_calls.proofs.PutLoop.{Putting}
 use Rattle.compose_calls.proofs.put_orders.Given as goal
 
-abbrev pub invariant-loop-at : goal.invariant-loop-at
-invariant-loop-at l = Putting l.words l.frames l.initial.writer l.initial.out l.writer l.out l.at
-
-abbrev pub decreases-loop-at : goal.decreases-loop-at
-decreases-loop-at l = length l.words - l.at
+abbrev pub invariant-loop-order_words : goal.invariant-loop-order_words
+invariant-loop-order_words l =
+    (chunks_size l.order_words-iterator ≡ 6)
+    × Putting l.words l.frames l.initial.writer l.initial.out l.writer l.out (chunks_rest l.order_words-iterator)

@@ -4,5 +4,5 @@ use mathlib.Core.Path.{sym, ◌∙◌}
 use Rattle.image_fields.proofs.RoundTrip.{fits_length}
 use Rattle.host_opening.proofs.sound_image.Goals as goal
 
-pub read-decoder-requires : goal.read-decoder-requires
-read-decoder-requires c = fits_length c.args.image.now (sym c.fits.ensures ∙ c.if-not-fits.false)
+pub read-requires : goal.read-requires
+read-requires c = fits_length c.args.image.now (sym c.fits.ensures ∙ c.if-fits.true)

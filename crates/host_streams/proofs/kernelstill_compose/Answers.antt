@@ -11,6 +11,6 @@ pub returns : goal.returns
 unfolding compose_words_of
 returns c =
     let a = c.args in
-    (λ i. compose_words (c.compose_word.ensures i) c.compose-answer.new.out)
+    (λ i. compose_words (c.compose_word.ensures i) c.compose.new.out)
     ∙ ap words_of
-    (c.compose-answer.ensures ∙ ap (λ (p : Plan). compose_of p (orders_in a.frames.now a.orders.now) a.output.now) c.plan_of-plan.ensures)
+    (c.compose.ensures ∙ ap (λ (p : Plan). compose_of p (orders_in a.frames.now a.orders.now) a.output.now) c.plan_of-plan.ensures)

@@ -1,12 +1,14 @@
 -- `Progress::check` goes through a range bit by bit: a turn, and the end.
 -- Assumes nothing.
-use Rattle.acceptance.proofs.CheckLoop.{goes_on, again, stops}
+use native.Mathlib.Omega.{arith}
+use Rattle.acceptance.proofs.CheckLoop.{again, over, refused}
 use Rattle.acceptance.proofs.Progress.check.Goals as goal
 
-pub loop-left-preserved : goal.loop-left-preserved
-loop-left-preserved c =
-    let g = goes_on c.loop-left.left c.loop-left.progress.fault c.loop-left-test.true in
-    again c.loop-left.invariant _ _ _ c.read.ensures c.step-progress.ensures c.next-at.ensures g.0
+pub loop-preserved : goal.loop-preserved
+loop-preserved c = again c.loop.invariant _ _ _ c.read.ensures c.step-progress.ensures c.next-at.ensures c.loop-test.true
+
+pub returns-then-progress-ne0 : goal.returns-then-progress-ne0
+returns-then-progress-ne0 c = refused c.loop.invariant (omega arith) c.if-progress-ne0.true
 
 pub returns : goal.returns
-returns c = stops c.loop-left.invariant c.loop-left-test.false
+returns c = over c.loop.invariant (omega arith)

@@ -1,11 +1,11 @@
 -- `Progress::step` takes one bit more, by what the pattern is with it.
 -- Assumes nothing.
 use mathlib.Core.List.{[], ◌∷◌}
-use mathlib.Core.Path.{◌≡◌, sym, subst}
+use mathlib.Core.Path.{◌≡◌, sym, ap, subst}
 use Prim.Native.Nat.{ℕ, ◌+◌, ◌*◌, ◌/◌, ◌<◌}
 use native.Mathlib.Omega.{arith}
 use Rattle.acceptance.specs.declared.Progress.{Progress}
-use Rattle.acceptance.specs.Progress.{UnderWay, After, Fits}
+use Rattle.acceptance.specs.Progress.{UnderWay, After, Fits, progress}
 use Rattle.acceptance.proofs.PatternNumbers.{bit_more}
 use Rattle.acceptance.proofs.Steps.{zero_after, begun_after, unknown_after, whole_after}
 use Rattle.acceptance.proofs.Progress.step.Goals as goal
@@ -25,11 +25,14 @@ some p bit n = omega (arith, n)
 
 pub returns-then-pattern-eq0 : goal.returns-then-pattern-eq0
 returns-then-pattern-eq0 c =
+    let p = c.args.self in
     let e = c.if-pattern-eq0.true in
-    zero_after c.args.self c.requires.2 c.requires.3 c.args.bit (omega (arith, e)) (omega (arith, e))
+    let none : 0 ≡ p.pattern = omega (arith, e) in
+    subst (After p (c.args.bit ∷ [])) (λ i. progress (p.place + 1) (p.zeros + 1) p.last (none i) (sym c.requires.2 i))
+    (zero_after p c.requires.2 c.requires.3 c.args.bit (omega (arith, e)) (omega (arith, e)))
 
-pub read_pattern-reading-requires : goal.read_pattern-reading-requires
-read_pattern-reading-requires c =
+pub read_pattern-requires : goal.read_pattern-requires
+read_pattern-requires c =
     let p = c.args.self in
     let b = c.args.bit in
     (some p b c.if-pattern-eq0.false, narrow p b c.requires.0 c.requires.3, subst UnderWay (sym (half p b c.requires.0)) c.requires.3.pattern)
@@ -38,8 +41,9 @@ pub returns-in-Begun : goal.returns-in-Begun
 returns-in-Begun c =
     let p = c.args.self in
     let n = some p c.args.bit c.if-pattern-eq0.false in
-    begun_after p c.requires.2 c.requires.3 (longer p c.args.bit) c.args.bit (bit_more _ _ c.requires.3.narrow c.requires.0 n)
-    c.in-Begun.ensures.0 c.in-Begun.ensures.1
+    subst (After p (c.args.bit ∷ [])) (ap (progress p.place p.zeros p.last (longer p c.args.bit)) (sym c.requires.2))
+    (begun_after p c.requires.2 c.requires.3 (longer p c.args.bit) c.args.bit (bit_more _ _ c.requires.3.narrow c.requires.0 n)
+    c.in-Begun.ensures.0 c.in-Begun.ensures.1)
 
 pub returns-in-Whole : goal.returns-in-Whole
 returns-in-Whole c =

@@ -4,9 +4,6 @@ use Rattle.replies.specs.Reception.{received}
 use Rattle.replies.proofs.ReceiveLoop.{Invariant}
 use Rattle.replies.proofs.Reception.receive.Given as goal
 
-abbrev pub invariant-loop-left : goal.invariant-loop-left
-invariant-loop-left l =
-    Invariant l.input l.first l.count (received l.initial.state l.initial.buffer) l.at l.left (received l.state l.buffer)
-
-abbrev pub decreases-loop-left : goal.decreases-loop-left
-decreases-loop-left l = l.left
+abbrev pub invariant-loop : goal.invariant-loop
+invariant-loop l =
+    Invariant l.input l.first l.count (received l.initial.state l.initial.buffer) l.at l.counter (received l.state l.buffer)

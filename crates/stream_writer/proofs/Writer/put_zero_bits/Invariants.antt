@@ -1,11 +1,8 @@
 -- `Writer::put_zero_bits` writes one at each turn.
 -- Assumes nothing.
 use Rattle.orders.specs.Streams.{zeros}
-use Rattle.stream_writer.specs.Writer.{Written}
+use Rattle.stream_writer.specs.Writer.{Wrote}
 use Rattle.stream_writer.proofs.Writer.put_zero_bits.Given as goal
 
-abbrev pub invariant-loop-left : goal.invariant-loop-left
-invariant-loop-left l = Written l.initial.writer l.initial.out (zeros l.count) l.writer l.out (zeros l.left)
-
-abbrev pub decreases-loop-left : goal.decreases-loop-left
-decreases-loop-left l = l.left
+abbrev pub invariant-loop : goal.invariant-loop
+invariant-loop l = Wrote l.initial.writer l.initial.out (zeros l.counter) l.writer l.out

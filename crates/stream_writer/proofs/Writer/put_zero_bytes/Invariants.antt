@@ -2,11 +2,8 @@
 -- Assumes nothing.
 use Prim.Native.Nat.{◌*◌}
 use Rattle.orders.specs.Streams.{zeros}
-use Rattle.stream_writer.specs.Writer.{Written}
+use Rattle.stream_writer.specs.Writer.{Wrote}
 use Rattle.stream_writer.proofs.Writer.put_zero_bytes.Given as goal
 
-abbrev pub invariant-loop-left : goal.invariant-loop-left
-invariant-loop-left l = Written l.initial.writer l.initial.out (zeros (8 * l.count)) l.writer l.out (zeros (8 * l.left))
-
-abbrev pub decreases-loop-left : goal.decreases-loop-left
-decreases-loop-left l = l.left
+abbrev pub invariant-loop : goal.invariant-loop
+invariant-loop l = Wrote l.initial.writer l.initial.out (zeros (8 * l.counter)) l.writer l.out
