@@ -33,6 +33,7 @@ pub fn run(
     let mut done = Performed::nothing(decoder, free);
     let mut cursor = Cursor::at(first);
     let mut taken: usize = 0;
+    // A turn takes a stretch of many bits, so that no `for` counts them.
     while taken < count {
         if list.len() - done.at < Decoder::LIST_UNIT {
             return Taken::ended(decoder, recogniser, done, taken, free, Ending::ListFull);

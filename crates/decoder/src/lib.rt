@@ -53,13 +53,7 @@ pub struct Opened {
 fn inside_slow(phase: Phase) -> bool
     ensures { result ≡ inside_slow phase }
 {
-    match phase {
-        Phase::Hunt => false,
-        Phase::Body => false,
-        Phase::Field3 => true,
-        Phase::Field4 => true,
-        Phase::Field5 => true,
-    }
+    matches!(phase, Phase::Field3 | Phase::Field4 | Phase::Field5)
 }
 
 impl Decoder {
@@ -77,7 +71,7 @@ impl Decoder {
         ensures { result ≡ opened_at plan cycle }
     {
         Decoder {
-            plan: plan,
+            plan,
             next: cycle,
             recogniser: Recogniser::start(Phase::Hunt, 0, 0, 0),
             model: Model::cleared(false, cycle),
@@ -113,27 +107,15 @@ impl Decoder {
     pub fn sound(self) -> bool
         ensures { result ≡ sound_of self }
     {
-        let plan = self.plan;
         let model = self.model;
-        let recogniser = self.recogniser;
-        let counters = model.counters;
-        let pointers = model.pointers;
-        let writes = pointers.writes;
-        let reads = pointers.reads;
-        let opens = plan.fits();
-        let clock = self.next <= Decoder::CLOCK_LIMIT;
-        let base = counters.base <= self.next;
-        let before = self.earlier.is_below(self.next);
-        let writes_fit = registers::pointers_fit(writes);
-        let reads_fit = registers::pointers_fit(reads);
-        let missing = model.missing_zero(plan);
-        let phase = recogniser.phase;
-        let slow = inside_slow(phase);
-        let stopped = !(slow & model.running);
-        let cnt = model.cnt(plan);
-        let fits = fit_recognisers::fit(recogniser, cnt);
-        opens
-            & (clock
-                & (base & (before & (writes_fit & (reads_fit & (missing & (stopped & fits)))))))
+        self.plan.fits()
+            && self.next <= Decoder::CLOCK_LIMIT
+            && model.counters.base <= self.next
+            && self.earlier.is_below(self.next)
+            && registers::pointers_fit(model.pointers.writes)
+            && registers::pointers_fit(model.pointers.reads)
+            && model.missing_zero(self.plan)
+            && !(inside_slow(self.recogniser.phase) && model.running)
+            && fit_recognisers::fit(self.recogniser, model.cnt(self.plan))
     }
 }

@@ -28,7 +28,8 @@ pub fn put_scalars(image: &mut [u64], numbers: [u64; REGISTERS])
     }
 }
 
-// Sixteen numbers from a place on, one a word.
+// Sixteen numbers from a place on, one a word. A function for each width: as one over a trait, in place of these and those that read, the call for C took
+// 1.1 of the time on dense commands, and 1.18 on receiver frames.
 pub fn put_u16(image: &mut [u64], at: usize, numbers: [u16; 16])
     requires { at + 16 ≤ length image.old }
     ensures { image.new ≡ sets image.old at numbers }

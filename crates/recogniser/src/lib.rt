@@ -18,6 +18,7 @@ pub enum Phase {
 }
 
 // What one cycle does to the frame: nothing, or a bit at its place. The bit is as wide as the place, so that an event stays in registers.
+// With Options here and for `records::Cycle`, and shorter forms along the path, front-end frames took 1.17 of the time, dense commands 1.07.
 #[derive(Clone, Copy)]
 pub enum FrameBit {
     None,

@@ -42,7 +42,7 @@ impl Record {
     }
 }
 
-// What one cycle answers: nothing, or a record.
+// What one cycle answers: nothing, or a record. An Option was slower (`recogniser::FrameBit`).
 #[derive(Clone, Copy)]
 pub enum Cycle {
     Silent,

@@ -1,1 +1,1 @@
-pub mod TestLoop
+pub mod Every

@@ -70,12 +70,7 @@ pub fn stored(plan: Plan, address: u8, value: u16) -> u16
 pub fn pointers_fit(pointers: [u8; 16]) -> bool
     ensures { result ≡ pointers_fit pointers }
 {
-    for i in 0..16 {
-        if 128 <= pointers[i] {
-            return false;
-        }
-    }
-    true
+    pointers.iter().all(|pointer| *pointer < 128)
 }
 
 impl Warnings {
@@ -96,11 +91,8 @@ impl Model {
         ensures { result ≡ cleared running base }
     {
         Model {
-            running: running,
-            counters: Counters {
-                l1id: 0,
-                base: base,
-            },
+            running,
+            counters: Counters { l1id: 0, base },
             warnings: Warnings {
                 wlv1: false,
                 wfst: false,
@@ -136,14 +128,7 @@ impl Model {
     pub fn missing_zero(self, plan: Plan) -> bool
         ensures { result ≡ missing_zero plan self }
     {
-        for i in 0..16 {
-            let there = plan.exists_at(i);
-            let held = self.register(i);
-            if !(there | (held == 0)) {
-                return false;
-            }
-        }
-        true
+        (0..16).all(|address| plan.exists_at(address) || self.register(address) == 0)
     }
 
     // A register as it reads: CSR with the warnings in it.

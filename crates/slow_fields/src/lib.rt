@@ -27,7 +27,8 @@ pub fn is_frame(command: u8) -> bool
     false
 }
 
-// The cycles of Field 5, by the command and the CNT register.
+// The cycles of Field 5, by the command and the CNT register. Tests in a row: with or-patterns here and in `windows`,
+// among other forms of the path, front-end frames took 1.2 of the time.
 pub fn length(command: u8, cnt: u16) -> u32
     ensures { result ≡ length_of command cnt }
 {

@@ -29,6 +29,7 @@ pub fn nibble_with(nibble: u8, bit: u8) -> u8
     ((nibble << 1) | bit) & 15
 }
 
+// An arm for each, of which the compiler makes one look-up; of an or-pattern it made several tests (`stretches` has the time).
 fn is_lv1(window: u8) -> bool
     ensures { result ≡ is_lv1 window }
 {
