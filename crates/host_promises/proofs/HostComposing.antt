@@ -12,7 +12,7 @@ use Rattle.plans.specs.declared.Plan.{Plan}
 use Rattle.decoder.specs.declared.Decoder.{Decoder}
 use Rattle.calls.specs.Run.{state_after, words_after}
 use Rattle.calls.specs.Turn.{System, system_of, turn_of}
-use Rattle.orders.specs.declared.Composed.{Composed}
+use Rattle.orders.specs.Composed.{Composed}
 use Rattle.orders.specs.Streams.{frame_of, stream_of}
 use Rattle.host_plans.specs.Plans.{plan_of}
 use Rattle.host_streams.specs.Compose.{compose_word, compose_words_of}

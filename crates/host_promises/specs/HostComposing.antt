@@ -6,7 +6,7 @@ use Rattle.bits.specs.Bits.{bits_of}
 use Rattle.frames.specs.Tray.{part_of, PartHolds}
 use Rattle.decoder.specs.Opening.{opened_at}
 use Rattle.image_fields.specs.Image.{state_of}
-use Rattle.orders.specs.declared.Composed.{Composed}
+use Rattle.orders.specs.Composed.{Composed}
 use Rattle.orders.specs.Fields.{Ordered, is_frame_kind, orders_in}
 use Rattle.orders.specs.Streams.{frame_of, stream_of}
 use Rattle.orders.specs.Composing.{compose_of}

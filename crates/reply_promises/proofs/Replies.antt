@@ -5,7 +5,7 @@ use mathlib.Core.List.{List}
 use Prim.Native.Nat.{ℕ}
 use lib.ListN.{length}
 use Rattle.frames.specs.Tray.{filled_of}
-use Rattle.replies.specs.declared.Reply.TheVariants.{Whole}
+use Rattle.replies.specs.Said.{Whole}
 use Rattle.replies.specs.Replies.{ReplyResult, reply_result, read_of}
 use Rattle.replies.proofs.Sent.{sent_binary, sent_read}
 use Rattle.hex_streams.specs.Streams.{hex_stream_of}

@@ -16,7 +16,7 @@ use Rattle.bits.proofs.Truth.{both}
 use Rattle.bits.proofs.BitRanges.{binary}
 use Rattle.plans.specs.declared.Plan.{Plan}
 use Rattle.plans.specs.Plan.{plan_fits}
-use Rattle.orders.specs.declared.Composed.{Composed}
+use Rattle.orders.specs.Composed.{Composed}
 use Rattle.orders.specs.Fields.{Ordered}
 use Rattle.orders.specs.Streams.{stream_of, packed}
 use Rattle.orders.specs.Composing.{start, refusal_from, room_fits, ComposeResult, compose_result, composed, compose_of}

@@ -21,7 +21,7 @@ use Rattle.calls.proofs.RunFaithful.{words_append}
 use Rattle.calls.proofs.FrameTurns.{system}
 use Rattle.calls.proofs.TurnsKept.{kept}
 use Rattle.orders.specs.declared.Context.{Context}
-use Rattle.orders.specs.declared.Composed.{Composed}
+use Rattle.orders.specs.Composed.{Composed}
 use Rattle.orders.specs.Fields.{Ordered, order_fits}
 use Rattle.orders.specs.Streams.{order_bits, stream_of}
 use Rattle.orders.specs.Composing.{start, context_after, zeros_fit, order_number, composed, refusal_from}

@@ -3,7 +3,7 @@
 use Rattle.std.specs.Prelude.{List, [], ◌∷◌, ◌≡◌, ◌<◌}
 use Rattle.records.specs.Records.{kind_slow}
 use Rattle.plans.specs.declared.Plan.{Plan}
-use Rattle.patterns.specs.declared.Verdict.TheVariants.{Accepted}
+use Rattle.patterns.specs.Verdict.{Accepted}
 use Rattle.patterns.specs.Verdicts.{verdict_of}
 use Rattle.orders.specs.Fields.{Ordered}
 use Rattle.orders.specs.Streams.{stream_of}

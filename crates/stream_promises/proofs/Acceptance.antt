@@ -10,8 +10,8 @@ use lib.ListN.{length}
 use Rattle.limits.specs.Limits.{input_limit}
 use Rattle.bits.specs.Bits.{bits_of}
 use Rattle.bits.specs.Range.{range_fits}
-use Rattle.patterns.specs.declared.Verdict.{Verdict}
-use Rattle.patterns.specs.declared.Verdict.TheVariants.{Accepted, WrongRange}
+use Rattle.patterns.specs.Verdict.{Verdict}
+use Rattle.patterns.specs.Verdict.{Accepted, WrongRange}
 use Rattle.patterns.specs.Verdicts.{verdict_number, verdict_of, accept_of}
 use Rattle.patterns.specs.Accepted.{Told}
 use Rattle.patterns.proofs.Verdicts.{told, clean_accepted}

@@ -18,7 +18,7 @@ use Rattle.plans.specs.declared.Plan.{Plan}
 use Rattle.plans.specs.Plan.{plan_fits}
 use Rattle.orders.specs.declared.Order.{Order}
 use Rattle.orders.specs.declared.Context.{Context}
-use Rattle.orders.specs.declared.Composed.{Composed}
+use Rattle.orders.specs.Composed.{Composed}
 use Rattle.orders.specs.Fields.{Ordered, is_frame_kind, order_fits}
 use Rattle.orders.specs.Streams.{order_bits, stream_of, packed}
 use Rattle.orders.specs.Composing.{start, composed, context_after, zeros_fit, order_number, refusal_from, room_fits, ComposeResult, compose_result, compose_of}

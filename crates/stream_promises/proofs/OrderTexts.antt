@@ -16,7 +16,7 @@ use Rattle.plans.specs.Plan.{plan_fits, default_plan}
 use Rattle.timing.specs.Table.{zeros_asked}
 use Rattle.orders.specs.declared.Order.{Order}
 use Rattle.orders.specs.declared.Context.{Context}
-use Rattle.orders.specs.declared.Composed.{Composed}
+use Rattle.orders.specs.Composed.{Composed}
 use Rattle.orders.specs.Fields.{Ordered, frame_count}
 use Rattle.orders.specs.Streams.{stream_of, packed}
 use Rattle.orders.specs.Composing.{start, composed, context_after, order_number, refusal_from, room_fits, ComposeResult, compose_result, compose_of}
@@ -25,8 +25,8 @@ use Rattle.orders.proofs.OrderByOrder.{refusal_later}
 use Rattle.line_meanings.specs.Lines.{lines_of}
 use Rattle.order_lines.specs.Lines.{LineMeaning, line_meaning}
 use Rattle.gathered_lines.specs.Gathering.{LineText, line_texts}
-use Rattle.order_refusals.specs.declared.Refusal.{Refusal}
-use Rattle.order_refusals.specs.Refusals.{refusal, no_refusal, other_bits, long_line, few_zeros, order_refusal, meaning_refusal, line_refusal, meaning_context}
+use Rattle.order_refusals.specs.Refusals.{Refused, refusal, no_refusal, other_bits, long_line}
+use Rattle.order_refusals.specs.Refusals.{few_zeros, order_refusal, meaning_refusal, line_refusal, meaning_context}
 use Rattle.order_refusals.specs.Refusals.{ordered, next_line_number, refusal_in, orders_in}
 use Rattle.compositions.specs.Compositions as texts
 use Rattle.compositions.specs.Compositions.{output_limit, refused_with, too_long}
@@ -90,7 +90,7 @@ module _ (c : Context) (m : ℕ) (x : LineMeaning) (xs : List Ordered) (later : 
       ∙ subst (λ (d : Context). (refusal_from default_plan d (m + 1) xs).number ≡ 0) (ap (λ b. cond b c (context_after default_plan c x.order)) e) (later (m + 1))
 
 -- All lines.
-first_by : (r s : Refusal) (none : Bool) → eqb r.number 0 ≡ none → (cond none s r).number ≡ 0 → (r.number ≡ 0) × (s.number ≡ 0)
+first_by : (r s : Refused) (none : Bool) → eqb r.number 0 ≡ none → (cond none s r).number ≡ 0 → (r.number ≡ 0) × (s.number ≡ 0)
 first_by r s true e h = (eqb-true r.number 0 e, h)
 first_by r s false e h = absurd (eqb-false r.number 0 e h)
 
@@ -114,7 +114,7 @@ module _ (characters output : List ℕ) (whole : length output ≡ output_limit)
   abbrev bits : List ℕ
   bits = stream_of xs
 
-  abbrev first : Refusal
+  abbrev first : Refused
   first = refusal_in start 0 (line_texts (lines_of characters))
 
   -- no line is refused, and there is room

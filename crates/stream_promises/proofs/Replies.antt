@@ -21,8 +21,8 @@ use Rattle.frames.specs.Tray.{filled_of}
 use Rattle.frames.proofs.FrameFill.{filled_read, filled_length, filled_beyond}
 use Rattle.orders.specs.Streams.{repeated}
 use Rattle.orders.proofs.Packing.{bits_same}
-use Rattle.replies.specs.declared.Reply.{Reply}
-use Rattle.replies.specs.declared.Reply.TheVariants.{Whole, CutShort}
+use Rattle.replies.specs.Said.{Reply}
+use Rattle.replies.specs.Said.{Whole, CutShort}
 use Rattle.replies.specs.Replies.{header, Behind, nowhere, behind, behind_header, complete_of, most_bits, expected_fits, ReplyResult, reply_result, reply_number}
 use Rattle.replies.specs.Replies.{result_by, read_of, reply_of}
 use Rattle.replies.specs.Sent.{inverted_in, FoundAt, Sent}

@@ -8,7 +8,7 @@ use Rattle.decoder.specs.declared.Decoder.{Decoder}
 use Rattle.decoder.specs.Sound.{sound_of}
 use Rattle.calls.specs.Take.{Call}
 use Rattle.calls.specs.Calls.{all_bits, all_words}
-use Rattle.patterns.specs.declared.Verdict.TheVariants.{Accepted, WrongRange}
+use Rattle.patterns.specs.Verdict.{Accepted, WrongRange}
 use Rattle.patterns.specs.Verdicts.{verdict_of, accept_of}
 use Rattle.patterns.specs.Accepted.{Clean, Told}
 use Rattle.patterns.specs.VerdictTable.{VerdictExamples}

@@ -9,13 +9,13 @@ use Rattle.records.specs.Records.{record_words}
 use Rattle.plans.specs.declared.Plan.{Plan}
 use Rattle.plans.specs.Plan.{default_plan}
 use Rattle.timing.specs.Table.{among_kinds, zeros_asked}
-use Rattle.patterns.specs.declared.Verdict.TheVariants.{Accepted}
+use Rattle.patterns.specs.Verdict.{Accepted}
 use Rattle.patterns.specs.Verdicts.{accept_of}
 use Rattle.calls.specs.Turn.{System}
 use Rattle.calls.specs.Calls.{Part, carried_bits, carried_words, carried_system}
 use Rattle.orders.specs.declared.Order.{Order}
 use Rattle.orders.specs.declared.Context.{Context}
-use Rattle.orders.specs.declared.Composed.{Composed}
+use Rattle.orders.specs.Composed.{Composed}
 use Rattle.orders.specs.Fields.{Ordered, is_frame_kind}
 use Rattle.orders.specs.Streams.{frame_of, stream_of}
 use Rattle.orders.specs.Composing.{start, context_after, ComposeResult, compose_of}

@@ -4,7 +4,7 @@ use Rattle.std.specs.Prelude.{◌≡◌, cond, ◌||◌, List, [], ◌∷◌, �
 use Rattle.bits.specs.Bits.{bits_of}
 use Rattle.groups.specs.Vote.{votes_of}
 use Rattle.orders.specs.Streams.{repeated}
-use Rattle.replies.specs.declared.Reply.TheVariants.{Whole, NoHeader, CutShort}
+use Rattle.replies.specs.Said.{Whole, NoHeader, CutShort}
 use Rattle.replies.specs.Replies.{header, nowhere, behind, behind_header, complete_of, ReplyResult, reply_result, reply_number, reply_of}
 use Rattle.replies.specs.Sent.{FoundAt, Sent}
 use Rattle.replies.specs.Examples.{ReplyExamples}

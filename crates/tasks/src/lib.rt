@@ -21,11 +21,7 @@ pub fn input_place(task: Task) -> usize
     ensures { result ≡ input_place task }
 {
     match task {
-        Task::Station => 1,
-        Task::Reading => 1,
-        Task::Model => 1,
-        Task::Accept => 1,
-        Task::Compose => 1,
-        Task::Reply { bits } => 2,
+        Task::Reply { .. } => 2,
+        _ => 1,
     }
 }

@@ -13,7 +13,7 @@ const CRATES: [&str; 4] = ["acceptance", "bits", "call_loop", "stretches"];
 /// The taking call, which hands its input to its loop.
 const CALL: &str = "taking";
 
-/// Walks a frame's lent bits by the cursor as it writes a stream; no call that
+/// Reads a frame's lent bits under cursors as it writes a stream; no call that
 /// takes an input goes through it.
 const WRITER: &str = "stream_writer";
 
@@ -158,7 +158,8 @@ fn a_call_finds_its_first_place_once() {
     let replies = code(&source(REPLIES));
     assert_eq!(calls(&replies), 1);
     for text in [&texts[0], &texts[2], &replies] {
-        let (ahead, _) = text.split_once("while ").expect("the call's loop");
+        let loops = ["for ", "while "].iter().filter_map(|word| text.find(word));
+        let ahead = &text[..loops.min().expect("the call's loop")];
         assert!(ahead.contains("Cursor::at(first)"));
     }
 }
