@@ -2,7 +2,7 @@
 #![tactic(auto)]
 
 ghost use Rattle.std.specs.Prelude.{◌≡◌, true};
-ghost use Rattle.statuses.specs.Status.{IsStatus, number_of, wrong_words};
+ghost use Rattle.statuses.specs.Status.{IsStatus, number_of, told, wrong_words};
 ghost use Rattle.tasks.specs.Tasks.{task_fits};
 
 use posix::{Input, RunError, Speaker};
@@ -81,7 +81,9 @@ const NO_TEXT: i32 = 84;
 const LONGEST_WORD: usize = 4095;
 
 // The status of what has ended. Where the system ended a run, that is told here.
-fn ended(speaker: Speaker<'_>, run: Result<Status, RunError>) -> Status {
+fn ended(speaker: Speaker<'_>, run: Result<Status, RunError>) -> Status
+    ensures { number_of result ≡ told run }
+{
     match run {
         Ok(status) => status,
         Err(error) => {

@@ -64,13 +64,7 @@ module _ (plan : Plan) (xs : List Ordered) (out : List ℕ) where
       simp (e, ne_eqb refusal.number 0 n)
 
   -- none is
-  module _ (e : plan_fits plan ≡ true) (bits : ℕ) (counted : composed 0 0 bits ≡ checked_of plan xs) where
-    none : (checked_of plan xs).number ≡ 0
-    none = ap (λ (c : Composed). c.number) (sym counted)
-
-    space : room_fits (checked_of plan xs).bits (length out) ≡ room_fits bits (length out)
-    space = ap (λ (c : Composed). room_fits c.bits (length out)) (sym counted)
-
+  module _ (e : plan_fits plan ≡ true) (none : (checked_of plan xs).number ≡ 0) where
     not_refused : refusal.number ≡ 0
     not_refused = sym checked_number ∙ none
 
@@ -95,14 +89,14 @@ module _ (plan : Plan) (xs : List Ordered) (out : List ℕ) where
         ap (λ k. room_fits k bytes) over ∙ sym none)
         (cases (leb n clock_limit))
 
-    pub too_long : room_fits bits (length out) ≡ false → compose_result (composed 11 0 0) out ≡ compose_of plan xs out
+    pub too_long : room_fits (checked_of plan xs).bits (length out) ≡ false → compose_result (composed 11 0 0) out ≡ compose_of plan xs out
     too_long r =
-        let f = sym (room_capped (length (stream_of xs)) (length out)) ∙ ap (λ (c : Composed). room_fits c.bits (length out)) (sym checked_bits) ∙ space ∙ r in
+        let f = sym (room_capped (length (stream_of xs)) (length out)) ∙ ap (λ (c : Composed). room_fits c.bits (length out)) (sym checked_bits) ∙ r in
         sym (written ∙ simp f)
 
-    module _ (r : room_fits bits (length out) ≡ true) where
+    module _ (r : room_fits (checked_of plan xs).bits (length out) ≡ true) where
       fits : room_fits (length (stream_of xs)) (length out) ≡ true
-      fits = sym (room_capped (length (stream_of xs)) (length out)) ∙ ap (λ (c : Composed). room_fits c.bits (length out)) (sym checked_bits) ∙ space ∙ r
+      fits = sym (room_capped (length (stream_of xs)) (length out)) ∙ ap (λ (c : Composed). room_fits c.bits (length out)) (sym checked_bits) ∙ r
 
       within : (length (stream_of xs) ≤ clock_limit) × (length (stream_of xs) ≤ 8 * length out)
       within =
@@ -114,9 +108,9 @@ module _ (plan : Plan) (xs : List Ordered) (out : List ℕ) where
 
       -- all bits are written, and the last byte is filled up
       pub whole : (v : Writer) (now : List ℕ) → Wrote writer.start out (stream_of xs) v now
-          → compose_result (composed 0 0 bits) (sets now v.at (packed_from v.held v.filled [])) ≡ compose_of plan xs out
+          → compose_result (checked_of plan xs) (sets now v.at (packed_from v.held v.filled [])) ≡ compose_of plan xs out
       whole v now w =
           let count : capped (length (stream_of xs)) ≡ length (stream_of xs) = simp (le-leb (length (stream_of xs)) clock_limit within.0) in
           let bytes : sets now v.at (packed_from v.held v.filled []) ≡ sets out 0 (packed (stream_of xs)) =
           w.same [] ∙ ap (λ (l : List ℕ). sets out 0 (packed l)) (append-nil (stream_of xs)) in
-          (λ i. compose_result ((counted ∙ checked_bits ∙ ap (composed 0 0) count) i) (bytes i)) ∙ sym (written ∙ simp fits)
+          (λ i. compose_result ((checked_bits ∙ ap (composed 0 0) count) i) (bytes i)) ∙ sym (written ∙ simp fits)

@@ -1,18 +1,19 @@
 -- Orders in words: the first of them and the rest, and CNT from one to the next.
 -- Assumes nothing.
-use mathlib.Core.Bool.{true, ◌&&◌}
+use mathlib.Core.Bool.{true, false, ◌&&◌}
 use mathlib.Core.List.{List, [], ◌∷◌, ◌++◌, append-nil}
+use mathlib.Core.Logic.{⊎_elim}
 use mathlib.Core.Path.{◌≡◌, ◌∙◌, sym, ap}
-use Prim.Native.Nat.{ℕ, suc, min, ◌+◌, ◌/◌, ◌^◌, ◌<◌}
+use Prim.Native.Nat.{ℕ, suc, min, ◌+◌, ◌/◌, ◌^◌, ◌<◌, ◌≤◌}
 use native.Mathlib.Omega.{arith}
-use lib.Dec.{eqb}
+use lib.Dec.{eqb, ltb}
 use lib.ListN.{length, take, drop, length-append, length-drop, length-take, drop_of_length-le}
 use lib.Seq.{take_all, drop-append_seam, take-append_seam}
-use borrow.Author.Tests.{le-ltb, eqb-true}
+use borrow.Author.Tests.{le-ltb, ltb-false, eqb-true}
 use Rattle.std.proofs.Common.{get_or-take, inl, inr}
 use Rattle.std.proofs.lemmas.Bool.{cases_lt}
 use Rattle.std.proofs.lemmas.List.{nil_from_length}
-use Rattle.bits.proofs.Truth.{both, choice, cond_case}
+use Rattle.bits.proofs.Truth.{both, cases, choice, clash, cond_case}
 use Rattle.plans.specs.declared.Plan.{Plan}
 use Rattle.orders.specs.declared.Order.{Order}
 use Rattle.orders.specs.declared.Context.{Context}
@@ -66,6 +67,13 @@ first_words words =
             get_or-take 6 words 5 0 (omega arith),
           )
     ]
+
+-- An order that is fit has all its words.
+pub whole_order : (words : List ℕ) (cnt bytes : ℕ) → order_fits cnt (order_in words) bytes ≡ true → 6 ≤ length words
+unfolding order_in order_fits
+whole_order words cnt bytes e =
+    ⊎_elim (λ (t : ltb (length words) 6 ≡ true). let none : order_fits cnt (order_in words) bytes ≡ false = rw t in clash e none)
+    (λ (f : ltb (length words) 6 ≡ false). ltb-false (length words) 6 f) (cases (ltb (length words) 6))
 
 module _ (frames words : List ℕ) where
   first_order : 0 < length words → orders_in frames words ≡ ordered_with frames (order_in words) ∷ orders_in frames (drop 6 words)

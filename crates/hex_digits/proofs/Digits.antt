@@ -1,7 +1,7 @@
 -- Numbers in digits: how many there are, and the lowest apart from the others; and the invariant of the loop that puts them, the lowest first.
 -- Assumes nothing.
 use mathlib.Core.List.{List, [], ◌∷◌, ◌++◌}
-use mathlib.Core.Path.{◌≡◌, refl, ap, ◌∙◌}
+use mathlib.Core.Path.{◌≡◌, refl, ap, subst, ◌∙◌}
 use Prim.Native.Nat.{ℕ, zero, suc, ◌+◌, ◌-◌, ◌/◌, ◌%◌, ◌≤◌, ◌<◌}
 use native.Mathlib.Nat.{div-one, pow-succ', div-div-eq-div-mul}
 use native.Mathlib.Omega.{arith}
@@ -51,3 +51,11 @@ module _ {out₀ : List ℕ} {at number width : ℕ} {out : List ℕ} {place quo
   pub all_digits_put : place ≤ at → out ≡ sets out₀ at (characters_of number width)
   unfolding characters_of
   all_digits_put h = let k : place - at ≡ 0 = omega arith in rw k at g.bytes
+
+-- The same by the count of the digits that are left.
+pub next_left_put : {out₀ : List ℕ} {at number width : ℕ} {out : List ℕ} {left quotient : ℕ} → LowDigitsPut out₀ at number width out (at + left) quotient → 0 < left
+    → LowDigitsPut out₀ at number width (set out (at + (left - 1)) (character_of (quotient % 16))) (at + (left - 1)) (quotient / 16)
+next_left_put {out₀} {at} {number} {width} {out} {left} {quotient} g more =
+    let e : at + left - 1 ≡ at + (left - 1) = omega arith in
+    subst (λ (place : ℕ). LowDigitsPut out₀ at number width (set out place (character_of (quotient % 16))) place (quotient / 16)) e
+    (next_digit_put g (omega arith))

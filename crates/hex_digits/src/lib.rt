@@ -22,8 +22,9 @@ pub fn put_digits(out: &mut [u8], at: usize, number: u64, width: usize)
     ensures { out.new ≡ sets out.old at (characters_of number width) }
 {
     let mut quotient = number;
-    for place in (at..at + width).rev() {
-        out[place] = character((quotient % 16) as u8);
+    // By the digits that are left: their count is known where the width is, and then the loop is laid out digit by digit.
+    for left in (0..width).rev() {
+        out[at + left] = character((quotient % 16) as u8);
         quotient /= 16;
     }
 }

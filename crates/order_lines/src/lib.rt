@@ -76,5 +76,9 @@ pub fn read_line(line: &[u8], bytes: &mut [u8]) -> Result<Option<LineOrder>, Lin
     ensures { ReadAs (line_meaning line.now) bytes.new result }
 {
     let end = text_words::place_of(line, b'#');
-    read_text(&line[..end], bytes)
+    let text = text_words::from_first_word(&line[..end]);
+    if text.is_empty() {
+        return Ok(None);
+    }
+    read_text(text, bytes)
 }

@@ -1,2 +1,3 @@
 pub mod Lengths
 mod OrderReasons
+mod Sentences

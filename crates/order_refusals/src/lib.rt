@@ -99,9 +99,9 @@ impl Refusal {
         ensures { block out.new result ≡ put_all out.old 0 (message_of (refused self)) }
     {
         match self {
-            Refusal::Line { line, reason } => order_messages::put_order(out, 0, reason, line),
+            Refusal::Line { line, reason } => order_messages::put_reason(out, 0, reason, line),
             Refusal::LongStream => {
-                output::put_bytes(out, 0, b"the stream is longer than 1048576 bytes\n")
+                order_messages::put_order(out, 0, order_messages::LONG_STREAM, 0, 0, 0)
             }
         }
     }

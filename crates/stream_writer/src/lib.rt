@@ -129,9 +129,12 @@ impl Writer {
         requires { Fits self × (count ≤ 65536) × (count ≤ 8 * length bytes.now) × (place_of self + 8 * count ≤ 8 * length out.old) }
         ensures { Wrote self out.old (repeated 8 (bits_of bytes.now 0 count)) result out.new }
     {
+        let mut at = Cursor::at(0);
         let mut writer = self;
-        for place in 0..count {
-            writer = writer.put_byte(out, Cursor::at(place).read(bytes) * 255);
+        // The cursor goes on beside it: a place made a byte and a bit anew would cost a shift and a mask for each bit.
+        for _ in 0..count {
+            writer = writer.put_byte(out, at.read(bytes) * 255);
+            at = at.next();
         }
         writer
     }

@@ -7,16 +7,16 @@ use Prim.Native.Nat.{ℕ, zero, suc, ◌+◌, ◌-◌, ◌≤◌}
 use native.Mathlib.Omega.{arith}
 use lib.Dec.{eqb, ltb}
 use lib.Pointwise.{pointwise}
-use lib.ListN.{length, get_or, take, drop, length-append, length-drop}
+use lib.ListN.{length, get_or, take, drop, length-append, length-drop, drop_of_length-le}
 use lib.Seq.{take_all}
 use borrow.Author.Tests.{ne_eqb, ltb-false}
-use Rattle.std.proofs.Common.{Option, Some, None, append_assoc, append-nil}
+use Rattle.std.proofs.Common.{Option, Some, None, is_some, append_assoc, append-nil}
 use Rattle.std.proofs.lemmas.List.Recursion.{is_position_or_len}
 use Rattle.std.proofs.lemmas.Option.{unwrap_or-slice_get}
 use Rattle.std.specs.List.{filter, position_or_len, slice_get, slice_split, onto_first}
 use Rattle.std.specs.Option.{unwrap_or, option_map}
 use denote.Ref.{Bor}
-use Rattle.bits.proofs.Truth.{choice}
+use Rattle.bits.proofs.Truth.{choice, clash}
 use Rattle.text_words.specs.Words.{up_to, is_blank, ended_word, words_from, words_in, same_word}
 
 -- ---- up to a character
@@ -90,6 +90,45 @@ parts_from word (c ∷ cs) = by (is_blank c) (parts_from [] cs) (parts_from (wor
 
 pub words_split : (text : List ℕ) → words_in text ≡ filter some (slice_split is_blank text)
 words_split text = parts_from [] text ∙ onto_none (slice_split is_blank text)
+
+-- ---- the blanks ahead
+
+abbrev pub not_blank : ℕ → Bool
+not_blank c = not (is_blank c)
+
+blanks_off : (text : List ℕ) → words_in (drop (position_or_len not_blank text) text) ≡ words_in text
+unfolding words_from
+blanks_off [] = refl
+blanks_off (c ∷ cs) = by (is_blank c) refl (blanks_off cs)
+  where
+    by : (b : Bool) → is_blank c ≡ b → words_in (drop (position_or_len not_blank cs) cs) ≡ words_in cs
+        → words_in (drop (cond (not (not b)) (1 + position_or_len not_blank cs) 0) (c ∷ cs)) ≡ words_in (c ∷ cs)
+    by true s e =
+        let next : 1 + position_or_len not_blank cs ≡ suc (position_or_len not_blank cs) = omega arith in
+        let blank : words_in (c ∷ cs) ≡ words_in cs = rw s in
+        ap (λ (n : ℕ). words_in (drop n (c ∷ cs))) next ∙ e ∙ sym blank
+    by false s e = refl
+
+place_some : (b : Bool) (k at : ℕ) → Some at ≡ cond b (Some k) None → at ≡ k
+place_some true k at e = ap (λ (o : Option ℕ). unwrap_or o 0) e
+place_some false k at e = clash (sym (ap is_some e)) refl
+
+place_none : (b : Bool) (k : ℕ) → None ≡ cond b (Some k) None → b ≡ false
+place_none true k e = clash (ap is_some e) refl
+place_none false k e = refl
+
+-- by a search for the first character of a word
+module _ (text : List ℕ) (r : Option ℕ)
+    (e : r ≡ cond (ltb (position_or_len not_blank text) (length text)) (Some (position_or_len not_blank text)) None) where
+  pub words_from_place : (at : ℕ) → r ≡ Some at → words_in (drop at text) ≡ words_in text
+  words_from_place at s =
+      ap (λ (n : ℕ). words_in (drop n text)) (place_some (ltb (position_or_len not_blank text) (length text)) (position_or_len not_blank text) at (sym s ∙ e))
+      ∙ blanks_off text
+
+  pub no_place : r ≡ None → words_in [] ≡ words_in text
+  no_place n =
+      let far = ltb-false (position_or_len not_blank text) (length text) (place_none (ltb (position_or_len not_blank text) (length text)) _ (sym n ∙ e)) in
+      ap words_in (sym (drop_of_length-le text {i = position_or_len not_blank text} far)) ∙ blanks_off text
 
 -- by a search for the part at its place
 pub word_told : (text : List ℕ) (n : ℕ) (r : Option (Bor (List ℕ))) (none : Bor (List ℕ))

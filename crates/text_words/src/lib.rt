@@ -1,7 +1,7 @@
 // The words of a text, and the place of a character in it.
 #![tactic(auto)]
 
-ghost use Rattle.std.specs.Prelude.{◌≡◌, [], length, get_or};
+ghost use Rattle.std.specs.Prelude.{◌≡◌, ◌≤◌, [], length, get_or};
 ghost use Rattle.text_words.specs.Words.{up_to, is_blank, words_in};
 
 // The most characters of a line.
@@ -20,6 +20,17 @@ fn is_blank(character: u8) -> bool
     ensures { result ≡ is_blank character }
 {
     matches!(character, b' ' | b'\t' | b'\r')
+}
+
+// A text from its first word on: the blanks ahead of it, which may be many, are gone through once.
+pub fn from_first_word(text: &[u8]) -> &[u8]
+    ensures words { words_in result.now ≡ words_in text.now }
+    ensures short { length result.now ≤ length text.now }
+{
+    match text.iter().position(|c| !is_blank(*c)) {
+        Some(at) => &text[at..],
+        None => &[],
+    }
 }
 
 // The word of a text that so many words stand ahead of; nothing where there is none.

@@ -3,9 +3,10 @@
 use Rattle.std.proofs.Common.{rules, Err}
 use mathlib.Core.Path.{◌≡◌, ◌∙◌, sym, ap}
 use native.Mathlib.Omega.{arith}
+use lib.ListN.{length}
 use Rattle.orders.specs.Composed.{Composed}
 use Rattle.orders.specs.Fields.{orders_in}
-use Rattle.orders.specs.Composing.{composed, compose_result}
+use Rattle.orders.specs.Composing.{room_fits, compose_result}
 use Rattle.compose_calls.specs.Answers.{answered}
 use Rattle.compose_calls.proofs.Composed.{error_some, wrong_plan, refused, all_fit, too_long, room, whole}
 use Rattle.compose_calls.proofs.compose.Goals as goal
@@ -26,31 +27,37 @@ returns-in_err-bits c =
 pub returns-then-not-room_fits : goal.returns-then-not-room_fits
 returns-then-not-room_fits c =
     let a = c.args in
-    too_long a.plan (orders_in a.frames.now a.words.now) a.out.now (sym c.fits.ensures ∙ c.if-not-fits.false) _ c.in_ok-bits.ensures
-    (sym c.room_fits.ensures ∙ c.if-not-room_fits.true)
+    let checked = sym c.in_ok-bits.ensures in
+    too_long a.plan (orders_in a.frames.now a.words.now) a.out.now (sym c.fits.ensures ∙ c.if-not-fits.false) (ap (λ (r : Composed). r.number) checked)
+    (ap (λ (r : Composed). room_fits r.bits (length a.out.now)) checked ∙ sym c.room_fits.ensures ∙ c.if-not-room_fits.true)
 
 pub put_orders-writer-requires : goal.put_orders-writer-requires
 put_orders-writer-requires c =
     let a = c.args in
     let xs = orders_in a.frames.now a.words.now in
+    let checked = sym c.in_ok-bits.ensures in
     let fit = sym c.fits.ensures ∙ c.if-not-fits.false in
-    let space = sym c.room_fits.ensures ∙ c.if-not-room_fits.false in
-    (all_fit a.plan xs a.out.now fit _ c.in_ok-bits.ensures, room a.plan xs a.out.now fit _ c.in_ok-bits.ensures space)
+    let none = ap (λ (r : Composed). r.number) checked in
+    let space = ap (λ (r : Composed). room_fits r.bits (length a.out.now)) checked ∙ sym c.room_fits.ensures ∙ c.if-not-room_fits.false in
+    (all_fit a.plan xs a.out.now fit none, room a.plan xs a.out.now fit none space)
 
 pub finish-requires : goal.finish-requires
 finish-requires c =
     let a = c.args in
     let xs = orders_in a.frames.now a.words.now in
+    let checked = sym c.in_ok-bits.ensures in
     let fit = sym c.fits.ensures ∙ c.if-not-fits.false in
-    let space = sym c.room_fits.ensures ∙ c.if-not-room_fits.false in
+    let none = ap (λ (r : Composed). r.number) checked in
+    let space = ap (λ (r : Composed). room_fits r.bits (length a.out.now)) checked ∙ sym c.room_fits.ensures ∙ c.if-not-room_fits.false in
     let w = c.put_orders-writer.ensures in
-    (w.fits, omega (arith, w.place, w.long, room a.plan xs a.out.now fit _ c.in_ok-bits.ensures space))
+    (w.fits, omega (arith, w.place, w.long, room a.plan xs a.out.now fit none space))
 
 pub returns : goal.returns
 returns c =
     let a = c.args in
     let xs = orders_in a.frames.now a.words.now in
+    let checked = sym c.in_ok-bits.ensures in
     let fit = sym c.fits.ensures ∙ c.if-not-fits.false in
-    let space = sym c.room_fits.ensures ∙ c.if-not-room_fits.false in
-    ap (compose_result (composed 0 0 c.in_ok-bits.bits)) c.finish.ensures
-    ∙ whole a.plan xs a.out.now fit _ c.in_ok-bits.ensures space _ _ c.put_orders-writer.ensures
+    let none = ap (λ (r : Composed). r.number) checked in
+    let space = ap (λ (r : Composed). room_fits r.bits (length a.out.now)) checked ∙ sym c.room_fits.ensures ∙ c.if-not-room_fits.false in
+    (λ i. compose_result (c.in_ok-bits.ensures i) (c.finish.ensures i)) ∙ whole a.plan xs a.out.now fit none space _ _ c.put_orders-writer.ensures

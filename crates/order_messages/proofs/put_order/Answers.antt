@@ -1,43 +1,30 @@
--- `put_order` meets its contract: the line's number, and why it is refused.
+-- `put_order` meets its contract: that the stream is too long, or the sentence of the reason that has the number.
 -- Assumes nothing.
-use mathlib.Core.List.{List, ◌++◌}
-use mathlib.Core.Path.{◌≡◌, ◌∙◌, refl}
-use Prim.Native.Nat.{ℕ}
-use native.Mathlib.Omega.{arith}
-use lib.ListN.{length-append}
-use Rattle.output.specs.Ascii.{ascii}
-use Rattle.output.proofs.Pieces.{put_append, put_room}
-use Rattle.decimal_digits.specs.Decimal.{labelled}
-use Rattle.order_messages.specs.declared.Reason.{Reason}
-use Rattle.order_messages.specs.declared.Reason.TheVariants.{UnknownName, OtherCount, WrongField, OtherBits, LongLine, FewZeros}
-use Rattle.order_messages.specs.OrderSentences.{reason_text, sentence_of, order_sentence}
+use mathlib.Core.List.{List}
+use mathlib.Core.Path.{◌≡◌}
+use Prim.Native.Nat.{ℕ, ◌+◌, ◌≤◌}
+use lib.ListN.{length}
+use Rattle.order_messages.proofs.OrderReasons.{long_stream}
+use Rattle.order_messages.proofs.Sentences.{by_number}
 use Rattle.order_messages.proofs.put_order.Goals as goal
 
-abbrev ahead : ℕ → List ℕ
-ahead line = labelled (ascii "line ") line (ascii ": ")
+-- There is room for it.
+room : (out : List ℕ) (at : ℕ) {whole : List ℕ} (text : List ℕ) → at + length whole ≤ length out → whole ≡ text → at + length text ≤ length out
+room out at text h e = rw e at h
 
-whole : (reason : Reason) (line : ℕ) → sentence_of reason line ≡ ahead line ++ reason_text reason
-unfolding order_sentence
-whole UnknownName line = refl
-whole OtherCount line = refl
-whole WrongField line = refl
-whole (OtherBits asked given) line = refl
-whole LongLine line = refl
-whole (FewZeros asked given) line = refl
+pub put_bytes-requires : goal.put_bytes-requires
+put_bytes-requires c = room _ _ _ c.requires (long_stream _ c.args.asked c.args.given c.args.line c.if-reason-eq-LONG_STREAM.true)
 
-pub put_labelled-next-requires : goal.put_labelled-next-requires
-put_labelled-next-requires c =
+pub returns-then-reason-eq-LONG_STREAM : goal.returns-then-reason-eq-LONG_STREAM
+returns-then-reason-eq-LONG_STREAM c =
+    rw (long_stream _ c.args.asked c.args.given c.args.line c.if-reason-eq-LONG_STREAM.true) c.put_bytes.ensures
+
+pub put_reason-requires : goal.put_reason-requires
+put_reason-requires c =
     let a = c.args in
-    let r = rw (whole a.reason a.line) at c.requires in
-    omega (arith, r, length-append (ahead a.line) (reason_text a.reason))
-
-pub put_order_reason-requires : goal.put_order_reason-requires
-put_order_reason-requires c =
-    let a = c.args in
-    put_room _ (ahead a.line) (reason_text a.reason) _ _ _ c.put_labelled-next.ensures (rw (whole a.reason a.line) at c.requires)
+    rw (← by_number _ a.reason a.asked a.given a.line c.numbered.ensures c.if-reason-eq-LONG_STREAM.false) at c.requires
 
 pub returns : goal.returns
 returns c =
     let a = c.args in
-    rw (whole a.reason a.line)
-    (c.put_order_reason.ensures ∙ put_append _ (ahead a.line) (reason_text a.reason) _ _ _ c.put_labelled-next.ensures)
+    rw (← by_number _ a.reason a.asked a.given a.line c.numbered.ensures c.if-reason-eq-LONG_STREAM.false) c.put_reason.ensures
