@@ -11,11 +11,12 @@ use crate::tally::Check;
 use reader::Program;
 use std::ffi::OsStr;
 use std::fs::{self, File, OpenOptions};
-use std::io::{self, Read};
+use std::io::{self, PipeWriter, Read, Write};
 use std::os::unix::ffi::OsStrExt;
 use std::path::{Path, PathBuf};
 use std::process::{Command, Stdio};
-use std::time::Instant;
+use std::thread;
+use std::time::{Duration, Instant};
 
 const FULL: &str = "/dev/full";
 
@@ -113,6 +114,16 @@ fn limited_file(program: Program, situation: &Situation, scratch: &Scratch) -> P
 /// the command's own pipe.
 type Ends = (Stdio, Option<Box<dyn Read + Send>>);
 
+/// A pipe whose reader is gone ahead of the program. What is started beside
+/// it holds the reader too, until it runs its own program.
+fn unread() -> io::Result<PipeWriter> {
+    let (_, mut writer) = io::pipe()?;
+    while writer.write(&[0]).is_ok() {
+        thread::sleep(Duration::from_millis(1));
+    }
+    Ok(writer)
+}
+
 fn output(output: Output, limited: &Path) -> io::Result<Ends> {
     Ok(match output {
         Output::Kept | Output::Closed | Output::Disk(_) => (Stdio::piped(), None),
@@ -121,8 +132,7 @@ fn output(output: Output, limited: &Path) -> io::Result<Ends> {
             None,
         ),
         Output::Limited(_) => (Stdio::from(File::create(limited)?), None),
-        // A reader of no bytes is gone ahead of the program.
-        Output::Leaves { after: 0, .. } => (Stdio::from(io::pipe()?.1), None),
+        Output::Leaves { after: 0, .. } => (Stdio::from(unread()?), None),
         Output::Leaves { after, .. } => {
             let (reader, writer) = io::pipe()?;
             (
