@@ -3,21 +3,30 @@
 use mathlib.Core.Bool.{Bool, true, false, cond, not, ◌&&◌}
 use mathlib.Core.List.{List, [], ◌∷◌, ◌++◌}
 use mathlib.Core.Path.{◌≡◌, ◌∙◌, refl, sym, ap}
-use Prim.Native.Nat.{ℕ, zero, suc, ◌+◌, ◌-◌, ◌≤◌}
+use Prim.Native.Nat.{ℕ, zero, suc, ◌+◌, ◌-◌, ◌<◌, ◌≤◌}
 use native.Mathlib.Omega.{arith}
 use lib.Dec.{eqb, ltb}
 use lib.Pointwise.{pointwise}
 use lib.ListN.{length, get_or, take, drop, length-append, length-drop, drop_of_length-le}
 use lib.Seq.{take_all}
-use borrow.Author.Tests.{ne_eqb, ltb-false}
+use borrow.Author.Tests.{ltb-false}
 use Rattle.std.proofs.Common.{Option, Some, None, is_some, append_assoc, append-nil}
 use Rattle.std.proofs.lemmas.List.Recursion.{is_position_or_len}
-use Rattle.std.proofs.lemmas.Option.{unwrap_or-slice_get}
-use Rattle.std.specs.List.{filter, position_or_len, slice_get, slice_split, onto_first}
-use Rattle.std.specs.Option.{unwrap_or, option_map}
-use denote.Ref.{Bor}
+use Rattle.std.proofs.lemmas.List.Sums.{prefix_len-le-length}
+use Rattle.std.specs.List.{position_or_len}
+use Rattle.std.specs.Option.{unwrap_or}
 use Rattle.bits.proofs.Truth.{choice, clash}
 use Rattle.text_words.specs.Words.{up_to, is_blank, ended_word, words_from, words_in, same_word}
+
+-- A place that was searched for, all of the text where there is none.
+pub position_told : (p : ℕ → Bool) (text : List ℕ) (r : Option ℕ)
+    → r ≡ cond (ltb (position_or_len p text) (length text)) (Some (position_or_len p text)) None
+    → unwrap_or r (length text) ≡ position_or_len p text
+position_told p text r e =
+    let within = prefix_len-le-length (λ c. not (p c)) text in
+    rw e
+    (choice (λ (o : Option ℕ). unwrap_or o (length text) ≡ position_or_len p text) (ltb (position_or_len p text) (length text))
+    (λ _. refl) (λ l. let h = ltb-false (position_or_len p text) (length text) l in omega (arith, h, within)))
 
 -- ---- up to a character
 
@@ -48,48 +57,9 @@ module _ (character : ℕ) where
   pub place_told : (text : List ℕ) (r : Option ℕ)
       → r ≡ cond (ltb (position_or_len is_it text) (length text)) (Some (position_or_len is_it text)) None
       → unwrap_or r (length text) ≡ length (up_to character text)
-  place_told text r e =
-      let f = first_place text in
-      rw e
-      (choice (λ (o : Option ℕ). unwrap_or o (length text) ≡ length (up_to character text)) (ltb (position_or_len is_it text) (length text))
-      (λ _. sym f) (λ l. let h = ltb-false (position_or_len is_it text) (length text) l in omega (arith, h, f, up_to_within text)))
+  place_told text r e = position_told is_it text r e ∙ sym (first_place text)
 
 -- ---- the words
-
-abbrev pub some : List ℕ → Bool
-some word = not (eqb (length word) 0)
-
--- The parts of a text, the first behind the characters of a word that has begun.
-abbrev onto : List ℕ → List (List ℕ) → List (List ℕ)
-onto word [] = word ∷ []
-onto word (p ∷ ps) = (word ++ p) ∷ ps
-
-onto_none : (ps : List (List ℕ)) → filter some (onto [] ps) ≡ filter some ps
-onto_none [] = refl
-onto_none (p ∷ ps) = refl
-
-onto_more : (word : List ℕ) (c : ℕ) (ps : List (List ℕ)) → onto word (onto_first c ps) ≡ onto (word ++ (c ∷ [])) ps
-onto_more word c [] = refl
-onto_more word c (p ∷ ps) = rw append_assoc
-
-ended : (word : List ℕ) (ps : List (List ℕ)) → ended_word word (filter some ps) ≡ filter some (word ∷ ps)
-ended [] ps = refl
-ended (c ∷ cs) ps = rw (ne_eqb (length (c ∷ cs)) 0 (omega arith))
-
-parts_from : (word text : List ℕ) → words_from word text ≡ filter some (onto word (slice_split is_blank text))
-unfolding words_from
-parts_from word [] = ended word [] ∙ rw append-nil
-parts_from word (c ∷ cs) = by (is_blank c) (parts_from [] cs) (parts_from (word ++ (c ∷ [])) cs)
-  where
-    by : (b : Bool) → words_from [] cs ≡ filter some (onto [] (slice_split is_blank cs))
-        → words_from (word ++ (c ∷ [])) cs ≡ filter some (onto (word ++ (c ∷ [])) (slice_split is_blank cs))
-        → cond b (ended_word word (words_from [] cs)) (words_from (word ++ (c ∷ [])) cs)
-        ≡ filter some (onto word (cond b ([] ∷ slice_split is_blank cs) (onto_first c (slice_split is_blank cs))))
-    by true e f = rw (e, onto_none, append-nil) (ended word (slice_split is_blank cs))
-    by false e f = rw onto_more f
-
-pub words_split : (text : List ℕ) → words_in text ≡ filter some (slice_split is_blank text)
-words_split text = parts_from [] text ∙ onto_none (slice_split is_blank text)
 
 -- ---- the blanks ahead
 
@@ -130,25 +100,79 @@ module _ (text : List ℕ) (r : Option ℕ)
       let far = ltb-false (position_or_len not_blank text) (length text) (place_none (ltb (position_or_len not_blank text) (length text)) _ (sym n ∙ e)) in
       ap words_in (sym (drop_of_length-le text {i = position_or_len not_blank text} far)) ∙ blanks_off text
 
--- by a search for the part at its place
-pub word_told : (text : List ℕ) (n : ℕ) (r : Option (Bor (List ℕ))) (none : Bor (List ℕ))
-    → option_map (λ (w : Bor (List ℕ)). w.now) r ≡ slice_get (filter some (slice_split is_blank text)) n → none.now ≡ []
-    → (unwrap_or r none).now ≡ get_or (words_in text) n []
-word_told text n r none e d =
-    by r none d ∙ ap (λ (o : Option (List ℕ)). unwrap_or o []) e ∙ unwrap_or-slice_get (filter some (slice_split is_blank text)) n []
-    ∙ ap (λ (l : List (List ℕ)). get_or l n []) (sym (words_split text))
-  where
-    by : (r : Option (Bor (List ℕ))) (none : Bor (List ℕ)) → none.now ≡ []
-        → (unwrap_or r none).now ≡ unwrap_or (option_map (λ (w : Bor (List ℕ)). w.now) r) []
-    by (Some w) none d = refl
-    by None none d = d
-
 -- The characters between two places.
 abbrev pub part : List ℕ → ℕ → ℕ → List ℕ
 part text start end = take (end - start) (drop start text)
 
 pub part_rest : (text : List ℕ) (start : ℕ) → part text start (length text) ≡ drop start text
 part_rest text start = take_all (length text - start) (drop start text) (omega (arith, length-drop start text))
+
+-- ---- the first word, and what stands behind it
+
+abbrev word_length : List ℕ → ℕ
+word_length text = position_or_len is_blank text
+
+-- The next place is one more.
+next_place : (n : ℕ) → 1 + n ≡ suc n
+next_place n = omega arith
+
+word_off : (word text : List ℕ) → words_from word text ≡ ended_word (word ++ take (word_length text) text) (words_in (drop (word_length text) text))
+unfolding words_from
+word_off word [] = ap (λ (w : List ℕ). ended_word w []) (sym (append-nil word))
+word_off word (c ∷ cs) = by (is_blank c) refl (word_off (word ++ (c ∷ [])) cs)
+  where
+    by : (b : Bool) → is_blank c ≡ b
+        → words_from (word ++ (c ∷ [])) cs ≡ ended_word ((word ++ (c ∷ [])) ++ take (word_length cs) cs) (words_in (drop (word_length cs) cs))
+        → cond b (ended_word word (words_in cs)) (words_from (word ++ (c ∷ [])) cs)
+        ≡ ended_word (word ++ take (cond (not b) (1 + word_length cs) 0) (c ∷ cs)) (words_in (drop (cond (not b) (1 + word_length cs) 0) (c ∷ cs)))
+    by true s e = rw (append-nil, s) refl
+    by false s e = e ∙ rw (next_place (word_length cs), append_assoc) refl
+
+-- A text that begins with a word is that word, and what stands behind it.
+module _ (c : ℕ) (cs : List ℕ) (begins : is_blank c ≡ false) where
+  long : word_length (c ∷ cs) ≡ suc (word_length cs)
+  long = rw begins (next_place (word_length cs))
+
+  first_word : words_in (c ∷ cs) ≡ take (word_length (c ∷ cs)) (c ∷ cs) ∷ words_in (drop (word_length (c ∷ cs)) (c ∷ cs))
+  first_word = word_off [] (c ∷ cs) ∙ rw long refl
+
+-- Of a text that begins with a word, or is empty, and of what stands behind that word.
+module _ (text : List ℕ) (begins : is_blank (get_or text 0 0) ≡ false) (at : ℕ) (place : at ≡ word_length text) where
+  pub word_here : take at text ≡ get_or (words_in text) 0 []
+  unfolding words_from
+  word_here = ap (λ (n : ℕ). take n text) place ∙ by text begins
+    where
+      by : (text : List ℕ) → is_blank (get_or text 0 0) ≡ false → take (word_length text) text ≡ get_or (words_in text) 0 []
+      by [] begins = refl
+      by (c ∷ cs) begins = rw (first_word c cs begins) refl
+
+  module _ (behind : List ℕ) (told : words_in behind ≡ words_in (part text at (length text))) where
+    dropped : words_in behind ≡ words_in (drop (word_length text) text)
+    dropped = told ∙ ap words_in (part_rest text at) ∙ ap (λ (n : ℕ). words_in (drop n text)) place
+
+    pub words_behind : (n : ℕ) → get_or (words_in behind) n [] ≡ get_or (words_in text) (suc n) []
+    unfolding words_from
+    words_behind n = ap (λ (l : List (List ℕ)). get_or l n []) dropped ∙ by text begins
+      where
+        by : (text : List ℕ) → is_blank (get_or text 0 0) ≡ false
+            → get_or (words_in (drop (word_length text) text)) n [] ≡ get_or (words_in text) (suc n) []
+        by [] begins = refl
+        by (c ∷ cs) begins = rw (first_word c cs begins) refl
+
+    pub count_behind : 0 < length text → suc (length (words_in behind)) ≡ length (words_in text)
+    count_behind some = ap (λ (l : List (List ℕ)). suc (length l)) dropped ∙ by text begins some
+      where
+        by : (text : List ℕ) → is_blank (get_or text 0 0) ≡ false → 0 < length text
+            → suc (length (words_in (drop (word_length text) text))) ≡ length (words_in text)
+        by [] begins some = omega (arith, some)
+        by (c ∷ cs) begins some = rw (first_word c cs begins) refl
+
+  pub word_some : 0 < length text → 0 < at
+  word_some some = rw place (by text begins some)
+    where
+      by : (text : List ℕ) → is_blank (get_or text 0 0) ≡ false → 0 < length text → 0 < word_length text
+      by [] begins some = omega (arith, some)
+      by (c ∷ cs) begins some = omega (arith, long c cs begins)
 
 -- No word is longer than its text.
 ended_short : (word : List ℕ) (words : List (List ℕ)) (n most : ℕ) → length word ≤ most → ((k : ℕ) → length (get_or words k []) ≤ most)

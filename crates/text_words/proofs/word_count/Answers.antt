@@ -1,21 +1,32 @@
--- `word_count` meets its contract: the count of the parts between blanks that have a character.
+-- `word_count` meets its contract: at each turn one word fewer is left, and one more counted.
 -- Assumes nothing.
-use mathlib.Core.Path.{◌∙◌, sym, ap}
+use mathlib.Core.List.{List}
+use mathlib.Core.Path.{◌≡◌, ◌∙◌, sym, ap}
+use Prim.Native.Nat.{ℕ, ◌<◌}
+use native.Mathlib.Omega.{arith}
 use lib.ListN.{length}
-use borrow.Author.Tests.{tests}
-use Rattle.std.proofs.Common.{rules}
-use Rattle.std.proofs.lemmas.Iterator.Consumers.{YieldsList-at, YieldsList-from_filter, count_from_yields_List}
-use Rattle.std.proofs.lemmas.Iterator.Splits.{YieldsList-from_slice_split}
-use Rattle.text_words.specs.Words.{is_blank}
-use Rattle.text_words.proofs.Words.{some, words_split}
+use Rattle.std.proofs.lemmas.Bool.{eqb-false, eqb-true}
+use Rattle.std.proofs.lemmas.List.{nil_from_length}
+use Rattle.text_words.specs.Words.{words_from, words_in}
+use Rattle.text_words.proofs.Words.{count_behind, word_some}
 use Rattle.text_words.proofs.word_count.Goals as goal
 
+pub loop-rest-preserved : goal.loop-rest-preserved
+loop-rest-preserved c =
+    let rest = c.loop-rest.rest.now in
+    let word = c.word_length in
+    let next = c.from_first_word-rest-in-loop-rest in
+    let begins = c.loop-rest.invariant.0 in
+    let left : 0 < length rest = omega (arith, eqb-false (length rest) 0 (sym c.is_empty.ensures ∙ c.loop-rest-test.true)) in (
+      next.ensures.first,
+      omega (arith, next.ensures.short, c.loop-rest.invariant.1, word_some rest begins word.result word.ensures.place left),
+      omega (arith, c.loop-rest.invariant.2, count_behind rest begins word.result word.ensures.place next.result.now next.ensures.words left),
+    )
+
 pub returns : goal.returns
+unfolding words_from
 returns c =
-    count_from_yields_List c.filter.result _ c.count.ensures.ran
-    (YieldsList-from_filter _ some
-    (YieldsList-at c.filter.ensures.source
-    (YieldsList-from_slice_split _ is_blank c.args.text.now c.split.ensures.rest c.split.ensures.done c.split.ensures.closure
-    (λ x b q k. search (rules, tests))))
-    c.filter.ensures.closure (λ x b q k. search (rules, tests)))
-    ∙ sym (ap length (words_split c.args.text.now))
+    let rest = c.loop-rest.rest.now in
+    let empty = nil_from_length rest (eqb-true (length rest) 0 (sym c.is_empty.ensures ∙ c.loop-rest-test.false)) in
+    let none : length (words_in rest) ≡ 0 = ap (λ (l : List ℕ). length (words_in l)) empty in
+    omega (arith, c.loop-rest.invariant.2, none)
