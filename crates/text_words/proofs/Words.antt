@@ -59,9 +59,7 @@ module _ (character : ℕ) where
       → unwrap_or r (length text) ≡ length (up_to character text)
   place_told text r e = position_told is_it text r e ∙ sym (first_place text)
 
--- ---- the words
-
--- ---- the blanks ahead
+-- ---- the blanks ahead of the words
 
 abbrev pub not_blank : ℕ → Bool
 not_blank c = not (is_blank c)
