@@ -16,7 +16,7 @@ use Rattle.std.proofs.lemmas.List.Sums.{prefix_len-le-length}
 use Rattle.std.specs.List.{position_or_len}
 use Rattle.std.specs.Option.{unwrap_or}
 use Rattle.bits.proofs.Truth.{choice, clash}
-use Rattle.text_words.specs.Words.{up_to, is_blank, ended_word, words_from, words_in, same_word}
+use Rattle.text_words.specs.Words.{up_to, is_blank, ended_word, words_from, words_in, from_word, same_word}
 
 -- A place that was searched for, all of the text where there is none.
 pub position_told : (p : ℕ → Bool) (text : List ℕ) (r : Option ℕ)
@@ -64,17 +64,29 @@ module _ (character : ℕ) where
 abbrev pub not_blank : ℕ → Bool
 not_blank c = not (is_blank c)
 
-blanks_off : (text : List ℕ) → words_in (drop (position_or_len not_blank text) text) ≡ words_in text
-unfolding words_from
+-- The next place is one more.
+next_place : (n : ℕ) → 1 + n ≡ suc n
+next_place n = omega arith
+
+blanks_off : (text : List ℕ) → drop (position_or_len not_blank text) text ≡ from_word text
+unfolding from_word
 blanks_off [] = refl
-blanks_off (c ∷ cs) = by (is_blank c) refl (blanks_off cs)
+blanks_off (c ∷ cs) = by (is_blank c) (blanks_off cs)
   where
-    by : (b : Bool) → is_blank c ≡ b → words_in (drop (position_or_len not_blank cs) cs) ≡ words_in cs
-        → words_in (drop (cond (not (not b)) (1 + position_or_len not_blank cs) 0) (c ∷ cs)) ≡ words_in (c ∷ cs)
+    by : (b : Bool) → drop (position_or_len not_blank cs) cs ≡ from_word cs
+        → drop (cond (not (not b)) (1 + position_or_len not_blank cs) 0) (c ∷ cs) ≡ cond b (from_word cs) (c ∷ cs)
+    by true e = ap (λ (n : ℕ). drop n (c ∷ cs)) (next_place (position_or_len not_blank cs)) ∙ e
+    by false e = refl
+
+pub same_words : (text : List ℕ) → words_in (from_word text) ≡ words_in text
+unfolding words_from from_word
+same_words [] = refl
+same_words (c ∷ cs) = by (is_blank c) refl (same_words cs)
+  where
+    by : (b : Bool) → is_blank c ≡ b → words_in (from_word cs) ≡ words_in cs → words_in (cond b (from_word cs) (c ∷ cs)) ≡ words_in (c ∷ cs)
     by true s e =
-        let next : 1 + position_or_len not_blank cs ≡ suc (position_or_len not_blank cs) = omega arith in
         let blank : words_in (c ∷ cs) ≡ words_in cs = rw s in
-        ap (λ (n : ℕ). words_in (drop n (c ∷ cs))) next ∙ e ∙ sym blank
+        e ∙ sym blank
     by false s e = refl
 
 place_some : (b : Bool) (k at : ℕ) → Some at ≡ cond b (Some k) None → at ≡ k
@@ -86,17 +98,18 @@ place_none true k e = clash (ap is_some e) refl
 place_none false k e = refl
 
 -- by a search for the first character of a word
-module _ (text : List ℕ) (r : Option ℕ)
-    (e : r ≡ cond (ltb (position_or_len not_blank text) (length text)) (Some (position_or_len not_blank text)) None) where
-  pub words_from_place : (at : ℕ) → r ≡ Some at → words_in (drop at text) ≡ words_in text
-  words_from_place at s =
-      ap (λ (n : ℕ). words_in (drop n text)) (place_some (ltb (position_or_len not_blank text) (length text)) (position_or_len not_blank text) at (sym s ∙ e))
-      ∙ blanks_off text
+module _ (text : List ℕ) (r : Option ℕ) where
+  abbrev first_at : ℕ
+  first_at = position_or_len not_blank text
 
-  pub no_place : r ≡ None → words_in [] ≡ words_in text
-  no_place n =
-      let far = ltb-false (position_or_len not_blank text) (length text) (place_none (ltb (position_or_len not_blank text) (length text)) _ (sym n ∙ e)) in
-      ap words_in (sym (drop_of_length-le text {i = position_or_len not_blank text} far)) ∙ blanks_off text
+  module _ (e : r ≡ cond (ltb first_at (length text)) (Some first_at) None) where
+    pub from_place : (at : ℕ) → r ≡ Some at → drop at text ≡ from_word text
+    from_place at s = ap (λ (n : ℕ). drop n text) (place_some (ltb first_at (length text)) first_at at (sym s ∙ e)) ∙ blanks_off text
+
+    pub from_no_place : r ≡ None → [] ≡ from_word text
+    from_no_place n =
+        let far = ltb-false first_at (length text) (place_none (ltb first_at (length text)) _ (sym n ∙ e)) in
+        sym (drop_of_length-le text {i = first_at} far) ∙ blanks_off text
 
 -- The characters between two places.
 abbrev pub part : List ℕ → ℕ → ℕ → List ℕ
@@ -109,10 +122,6 @@ part_rest text start = take_all (length text - start) (drop start text) (omega (
 
 abbrev word_length : List ℕ → ℕ
 word_length text = position_or_len is_blank text
-
--- The next place is one more.
-next_place : (n : ℕ) → 1 + n ≡ suc n
-next_place n = omega arith
 
 word_off : (word text : List ℕ) → words_from word text ≡ ended_word (word ++ take (word_length text) text) (words_in (drop (word_length text) text))
 unfolding words_from

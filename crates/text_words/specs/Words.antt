@@ -32,6 +32,11 @@ words_from word (c ∷ cs) = cond (is_blank c) (ended_word word (words_from [] c
 abbrev pub words_in : List ℕ → List (List ℕ)
 words_in text = words_from [] text
 
+-- A text from its first word on, without the blanks ahead of it.
+unfoldable pub from_word : List ℕ → List ℕ
+from_word [] = []
+from_word (c ∷ cs) = cond (is_blank c) (from_word cs) (c ∷ cs)
+
 -- Of a whole line.
 abbrev pub words_of : List ℕ → List (List ℕ)
 words_of line = words_in (uncommented line)

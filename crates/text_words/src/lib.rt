@@ -3,7 +3,7 @@
 
 ghost use Rattle.std.specs.Prelude.{◌≡◌, ◌≤◌, false, [], length, get_or};
 ghost use Rattle.std.specs.List.{position_or_len};
-ghost use Rattle.text_words.specs.Words.{up_to, is_blank, words_in};
+ghost use Rattle.text_words.specs.Words.{up_to, is_blank, words_in, from_word};
 
 // The most characters of a line.
 pub const LINE_LIMIT: usize = 32768;
@@ -25,6 +25,7 @@ fn is_blank(character: u8) -> bool
 
 // A text from its first word on: the blanks ahead of it, which may be many, are gone through once.
 pub fn from_first_word(text: &[u8]) -> &[u8]
+    ensures answer { result.now ≡ from_word text.now }
     ensures words { words_in result.now ≡ words_in text.now }
     ensures first { is_blank (get_or result.now 0 0) ≡ false }
     ensures short { length result.now ≤ length text.now }
